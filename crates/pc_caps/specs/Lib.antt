@@ -1,0 +1,4 @@
+pub mod formers
+pub mod Gets
+pub mod Order
+pub mod Tables

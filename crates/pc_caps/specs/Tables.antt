@@ -1,0 +1,146 @@
+-- The tables on capabilities and forms: storing as in the paper of 2015, the rest this project's profile.
+use Rattle.std.specs.Prelude.{Bool, true, false, ◌&&◌, Option, Some, None}
+use Rattle.pc_caps.specs.Order.{is_below}
+use Rattle.pc_caps.specs.declared.capability.Cap.{Cap}
+use Rattle.pc_caps.specs.declared.capability.Cap.TheVariants as cap
+use Rattle.pc_caps.specs.declared.capability.Form.{Form}
+use Rattle.pc_caps.specs.declared.capability.Form.TheVariants as form
+
+-- The form of what a place of this capability holds, as it is read.
+abbrev pub plain : Cap → Form
+plain cap.Iso = form.Iso
+plain cap.Trn = form.Trn
+plain cap.Ref = form.Ref
+plain cap.Val = form.Val
+plain cap.Box = form.Box
+plain cap.Tag = form.Tag
+
+-- The form that a value must be below to be stored: `iso^` and `trn^` for the two capabilities that allow no alias.
+abbrev pub unalias : Cap → Form
+unalias cap.Iso = form.IsoE
+unalias cap.Trn = form.TrnE
+unalias k = plain k
+
+-- The capability of an alias of a value of this form.
+abbrev pub stored : Form → Cap
+stored form.IsoE = cap.Iso
+stored form.TrnE = cap.Trn
+stored form.Iso = cap.Tag
+stored form.Trn = cap.Box
+stored form.Ref = cap.Ref
+stored form.Val = cap.Val
+stored form.Box = cap.Box
+stored form.Tag = cap.Tag
+
+-- A value of this form may be stored at this capability.
+abbrev pub fits : Form → Cap → Bool
+fits f k = is_below f (unalias k)
+
+-- A row of a table: one entry for each capability, in the order iso, trn, ref, val, box, tag.
+abbrev pub at : {T : Type 0} → T → T → T → T → T → T → Cap → T
+at iso trn ref val box tag cap.Iso = iso
+at iso trn ref val box tag cap.Trn = trn
+at iso trn ref val box tag cap.Ref = ref
+at iso trn ref val box tag cap.Val = val
+at iso trn ref val box tag cap.Box = box
+at iso trn ref val box tag cap.Tag = tag
+
+-- A row of forms, and a row that has none.
+abbrev pub seen : Form → Form → Form → Form → Form → Form → Cap → Option Form
+seen iso trn ref val box tag k = Some (at iso trn ref val box tag k)
+
+abbrev pub nothing : Cap → Option Form
+nothing k = None
+
+-- The rows that two origins share.
+abbrev pub view_iso : Cap → Option Form
+view_iso = seen form.Iso form.Tag form.Tag form.Val form.Tag form.Tag
+
+abbrev pub view_trn : Cap → Option Form
+view_trn = seen form.Iso form.Box form.Box form.Val form.Box form.Tag
+
+-- The form of a field that is read, by the origin and the field's capability.
+abbrev pub view : Form → Cap → Option Form
+view form.IsoE = view_iso
+view form.Iso = view_iso
+view form.TrnE = view_trn
+view form.Trn = view_trn
+view form.Ref = seen form.Iso form.Trn form.Ref form.Val form.Box form.Tag
+view form.Val = seen form.Val form.Val form.Val form.Val form.Val form.Tag
+view form.Box = seen form.Tag form.Box form.Box form.Val form.Box form.Tag
+view form.Tag = nothing
+
+abbrev pub taken_iso : Cap → Option Form
+taken_iso = seen form.IsoE form.Tag form.Tag form.Val form.Tag form.Tag
+
+abbrev pub taken_trn : Cap → Option Form
+taken_trn = seen form.IsoE form.Box form.Box form.Val form.Box form.Tag
+
+-- The form of the old value of an assigned field.
+abbrev pub taken : Form → Cap → Option Form
+taken form.IsoE = taken_iso
+taken form.Iso = taken_iso
+taken form.TrnE = taken_trn
+taken form.Trn = taken_trn
+taken form.Ref = seen form.IsoE form.TrnE form.Ref form.Val form.Box form.Tag
+taken form.Val = nothing
+taken form.Box = nothing
+taken form.Tag = nothing
+
+-- A capability is tag.
+abbrev pub is_tag : Cap → Bool
+is_tag cap.Tag = true
+is_tag k = false
+
+-- The values that may be written into an iso origin, by the field's capability.
+abbrev pub enters_iso : Form → Cap → Bool
+enters_iso form.IsoE k = true
+enters_iso form.Val k = true
+enters_iso form.Tag k = true
+enters_iso form.Iso k = is_tag k
+enters_iso f k = false
+
+-- Into a trn origin besides, what nobody else writes.
+abbrev pub enters_trn : Form → Cap → Bool
+enters_trn form.TrnE k = true
+enters_trn f k = enters_iso f k
+
+-- An origin takes values of this form into a field of this capability. What is only read or compared takes none.
+abbrev pub enters : Form → Form → Cap → Bool
+enters form.IsoE = enters_iso
+enters form.Iso = enters_iso
+enters form.TrnE = enters_trn
+enters form.Trn = enters_trn
+enters form.Ref = λ f k. true
+enters origin = λ f k. false
+
+-- A value of this form may be written into a field of this capability of the origin.
+abbrev pub may_write : Form → Form → Cap → Bool
+may_write origin value field = fits value field && enters origin value field
+
+-- The form of a recover's value, by its body's: nothing else reaches what was made inside, but what may only be read or
+-- compared stays so.
+abbrev pub lift : Form → Form
+lift form.IsoE = form.IsoE
+lift form.TrnE = form.IsoE
+lift form.Ref = form.IsoE
+lift form.Trn = form.Val
+lift form.Box = form.Val
+lift form.Val = form.Val
+lift form.Iso = form.Tag
+lift form.Tag = form.Tag
+
+-- What a place of this capability holds may be sent to another actor.
+abbrev pub sendable : Cap → Bool
+sendable cap.Iso = true
+sendable cap.Val = true
+sendable cap.Tag = true
+sendable k = false
+
+-- A value of this form may be sent to another actor.
+abbrev pub sendable_form : Form → Bool
+sendable_form form.IsoE = true
+sendable_form form.Iso = true
+sendable_form form.Val = true
+sendable_form form.Tag = true
+sendable_form f = false

@@ -1,0 +1,81 @@
+//! The six capabilities and their eight forms.
+ghost use Rattle.std.specs.Prelude.{◌≡◌};
+ghost use Rattle.pc_caps.specs.Tables as table;
+
+/// A reference capability: what a reference of it denies to all other references to the same object
+/// ("Deny Capabilities for Safe, Fast Actors", 2015; the Pony tutorial).
+#[derive(Clone, Copy, Debug, PartialEq, Eq)]
+pub enum Cap {
+    /// Isolated: no other reference reads or writes.
+    Iso,
+    /// Transition: no other actor reads or writes, and nobody else writes.
+    Trn,
+    /// Reference: no other actor reads or writes.
+    Ref,
+    /// Value: nobody writes.
+    Val,
+    /// Box: no other actor writes.
+    Box,
+    /// Tag: nothing is denied; such a reference is compared and sent to, never read or written.
+    Tag,
+}
+
+/// The form of a value: a capability, or one of the two of a value that no place holds.
+#[derive(Clone, Copy, Debug, PartialEq, Eq)]
+pub enum Form {
+    /// `iso^`: an isolated value that no place holds.
+    IsoE,
+    /// `trn^`: a transition value that no place holds.
+    TrnE,
+    Iso,
+    Trn,
+    Ref,
+    Val,
+    Box,
+    Tag,
+}
+
+/// The form that a value must be below to be stored at `k` (aliasing, in the paper of 2015).
+pub fn unalias(k: Cap) -> Form
+    ensures { result ≡ table.unalias k }
+{
+    match k {
+        Cap::Iso => Form::IsoE,
+        Cap::Trn => Form::TrnE,
+        Cap::Ref => Form::Ref,
+        Cap::Val => Form::Val,
+        Cap::Box => Form::Box,
+        Cap::Tag => Form::Tag,
+    }
+}
+
+/// The capability at which a value of this form is stored where none is written: the capability of an alias of it
+/// (the paper of 2015).
+pub fn stored(f: Form) -> Cap
+    ensures { result ≡ table.stored f }
+{
+    match f {
+        Form::IsoE => Cap::Iso,
+        Form::TrnE => Cap::Trn,
+        Form::Iso => Cap::Tag,
+        Form::Trn => Cap::Box,
+        Form::Ref => Cap::Ref,
+        Form::Val => Cap::Val,
+        Form::Box => Cap::Box,
+        Form::Tag => Cap::Tag,
+    }
+}
+
+/// Whether what a place of this capability holds may be sent to another actor (the Pony tutorial).
+pub fn sendable(k: Cap) -> bool
+    ensures { result ≡ table.sendable k }
+{
+    matches!(k, Cap::Iso | Cap::Val | Cap::Tag)
+}
+
+/// Whether a value of this form may be sent to another actor.
+pub fn sendable_form(f: Form) -> bool
+    ensures { result ≡ table.sendable_form f }
+{
+    matches!(f, Form::IsoE | Form::Iso | Form::Val | Form::Tag)
+}

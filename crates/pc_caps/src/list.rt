@@ -1,0 +1,151 @@
+//! Lists, as every layer keeps them.
+ghost use Rattle.std.specs.Prelude.{◌≡◌, [], ◌∷◌, ◌++◌, ◌<◌, Some, length, take, slice_get, slice_set, ◌↔◌, IsTrue, IfOk, MatchOption, OnOk, OnErr, OnSome};
+ghost use Rattle.std.specs.Option.{option_copied};
+
+use std::alloc::{AllocError, Global};
+use std::marker::Model;
+use std::mem;
+
+/// A list of values in order, which contracts see as a list. It may stand inside a recursive type.
+#[derive(Debug, Drop)]
+pub struct List<T> {
+    items: Vec<T>,
+}
+
+impl<T> Model for List<T> {
+    ghost use Rattle.std.specs.Prelude.{List as Sequence};
+    ghost use Rattle.std.specs.Coded.{coded_list};
+
+    ghost Value = { Sequence T };
+
+    ghost coded = { coded_list T.code };
+
+    ghost view = { λ list. list.items.items };
+}
+
+impl<T> List<T> {
+    /// The empty list. It takes no memory.
+    pub fn new(alloc: Global) -> List<T>
+        ensures { result ≡ [] }
+    {
+        List {
+            items: Vec::new(alloc),
+        }
+    }
+
+    /// The list of a vector's values.
+    pub fn from_vec(items: Vec<T>) -> List<T>
+        ensures { result ≡ items.items }
+    {
+        List { items }
+    }
+
+    /// The vector of the list's values.
+    pub fn into_vec(self) -> Vec<T>
+        ensures { result.items ≡ self }
+    {
+        let List { items } = self;
+        items
+    }
+
+    /// The values, in order.
+    pub fn as_slice(&self) -> &[T]
+        ensures { result.now ≡ self.now }
+    {
+        self.items.as_slice()
+    }
+
+    /// How many values there are.
+    pub fn len(&self) -> usize
+        ensures { result ≡ length self.now }
+    {
+        self.items.len()
+    }
+
+    /// Whether there is no value.
+    pub fn is_empty(&self) -> bool
+        ensures { IsTrue result ↔ (self.now ≡ []) }
+    {
+        self.items.is_empty()
+    }
+
+    /// The value at a place, counted from 0. `None` exactly where there is none.
+    pub fn get(&self, at: usize) -> Option<&T>
+        ensures value { option_copied result ≡ slice_get self.now at }
+        ensures within { OnSome result (at < length self.now) }
+    {
+        self.items.get(at)
+    }
+
+    /// Puts another value in a place, and answers the one before.
+    pub fn replace(&mut self, place: usize, value: T) -> T
+        requires { place < length self.old }
+        ensures new { self.new ≡ slice_set self.old place value }
+        ensures old { slice_get self.old place ≡ Some result }
+    {
+        replace_at(&mut self.items, place, value)
+    }
+
+    /// Takes the last value out. `None` exactly where the list is empty.
+    pub fn pop(&mut self) -> Option<T>
+        ensures { MatchOption result ((self.old ≡ []) × (self.new ≡ [])) (λ last. self.old ≡ self.new ++ last ∷ []) }
+    {
+        self.items.pop()
+    }
+}
+
+impl<T: Copy> List<T> {
+    /// A list of these values.
+    pub fn from_slice(alloc: Global, items: &[T]) -> Result<List<T>, AllocError>
+        ensures { IfOk result (λ list. list ≡ items.now) }
+    {
+        let items = Vec::from_slice(alloc, items)?;
+        Ok(List { items })
+    }
+}
+
+impl<T: Drop> List<T> {
+    /// Puts a value behind the last one. A refusal leaves the list as it was.
+    pub fn push(&mut self, item: T) -> Result<(), AllocError>
+        ensures ok { OnOk result (self.new ≡ self.old ++ item ∷ []) }
+        ensures err { OnErr result (self.new ≡ self.old) }
+    {
+        self.items.push(item)?;
+        Ok(())
+    }
+
+    /// Keeps the first `len` values.
+    pub fn truncate(&mut self, len: usize)
+        ensures { self.new ≡ take len self.old }
+    {
+        self.items.truncate(len);
+    }
+}
+
+impl<T: PartialEq> PartialEq for List<T> {
+    ghost use Rattle.std.specs.Cmp.Lexicographic.{pointwise, lists_per};
+
+    ghost eq = { λ x y. pointwise T.eq x y };
+
+    ghost laws = { lists_per T.laws };
+
+    fn eq(&self, other: &Self) -> bool {
+        self.items.as_slice() == other.items.as_slice()
+    }
+}
+
+impl<T: Clone> Clone for List<T> {
+    fn clone(&self) -> Result<Self, AllocError> {
+        let items = self.items.clone()?;
+        Ok(List { items })
+    }
+}
+
+// `replace` on the vector itself.
+fn replace_at<T>(items: &mut Vec<T>, place: usize, value: T) -> T
+    requires { place < length items.old.items }
+    ensures new { items.new.items ≡ slice_set items.old.items place value }
+    ensures old { slice_get items.old.items place ≡ Some result }
+{
+    mem::replace(&mut items[place], value)
+}

@@ -1,0 +1,75 @@
+//! Reading a field, writing it, and what a `recover` makes of its value: the tables of this project's profile.
+ghost use Rattle.std.specs.Prelude.{◌≡◌};
+ghost use Rattle.pc_caps.specs.Tables as table;
+
+use crate::capability::{Cap, Form};
+use crate::order::fits;
+
+/// The form of a field of capability `field` that is read at an origin of this form (viewpoint adaptation, in this
+/// project's profile). `None` exactly at the origin `tag`, which nothing is read from.
+pub fn view(origin: Form, field: Cap) -> Option<Form>
+    ensures { result ≡ table.view origin field }
+{
+    let seen = match (origin, field) {
+        (Form::Tag, _) => return None,
+        (_, Cap::Tag) => Form::Tag,
+        (Form::Val, _) | (_, Cap::Val) => Form::Val,
+        (Form::Box, Cap::Iso) => Form::Tag,
+        (_, Cap::Iso) => Form::Iso,
+        (Form::IsoE | Form::Iso, _) => Form::Tag,
+        (Form::Ref, Cap::Trn) => Form::Trn,
+        (Form::Ref, Cap::Ref) => Form::Ref,
+        (_, _) => Form::Box,
+    };
+    Some(seen)
+}
+
+/// The form of the old value of an assigned field of capability `field`, at an origin of this form (extracting
+/// viewpoint, in this project's profile). `None` exactly at the origins that are never written: `val`, `box`, `tag`.
+pub fn taken(origin: Form, field: Cap) -> Option<Form>
+    ensures { result ≡ table.taken origin field }
+{
+    match (origin, field) {
+        (Form::Val | Form::Box | Form::Tag, _) => None,
+        (_, Cap::Iso) => Some(Form::IsoE),
+        (_, Cap::Val) => Some(Form::Val),
+        (_, Cap::Tag) => Some(Form::Tag),
+        (Form::IsoE | Form::Iso, _) => Some(Form::Tag),
+        (Form::Ref, Cap::Trn) => Some(Form::TrnE),
+        (Form::Ref, Cap::Ref) => Some(Form::Ref),
+        (_, _) => Some(Form::Box),
+    }
+}
+
+/// Whether a value of form `value` may be written into a field of capability `field` of an origin of form `origin`
+/// (safe to write, in this project's profile): the value fits the field, and the origin takes values of its form.
+pub fn may_write(origin: Form, value: Form, field: Cap) -> bool
+    ensures { result ≡ table.may_write origin value field }
+{
+    fits(value, field) && is_taken(origin, value, field)
+}
+
+// Whether an origin takes values of this form into a field of this capability.
+fn is_taken(origin: Form, value: Form, field: Cap) -> bool
+    ensures { result ≡ table.enters origin value field }
+{
+    match (origin, value) {
+        (Form::Ref, _) => true,
+        (Form::Val | Form::Box | Form::Tag, _) => false,
+        (_, Form::IsoE | Form::Val | Form::Tag) => true,
+        (_, Form::Iso) => field == Cap::Tag,
+        (Form::TrnE | Form::Trn, Form::TrnE) => true,
+        (_, _) => false,
+    }
+}
+
+/// The form of a `recover`'s value, by the form of its body's (this project's profile).
+pub fn lift(f: Form) -> Form
+    ensures { result ≡ table.lift f }
+{
+    match f {
+        Form::IsoE | Form::TrnE | Form::Ref => Form::IsoE,
+        Form::Trn | Form::Box | Form::Val => Form::Val,
+        Form::Iso | Form::Tag => Form::Tag,
+    }
+}
