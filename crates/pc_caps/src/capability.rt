@@ -35,6 +35,20 @@ pub enum Form {
     Tag,
 }
 
+/// The form of what a place of this capability holds, as it is read.
+pub fn plain(k: Cap) -> Form
+    ensures { result ≡ table.plain k }
+{
+    match k {
+        Cap::Iso => Form::Iso,
+        Cap::Trn => Form::Trn,
+        Cap::Ref => Form::Ref,
+        Cap::Val => Form::Val,
+        Cap::Box => Form::Box,
+        Cap::Tag => Form::Tag,
+    }
+}
+
 /// The form that a value must be below to be stored at `k` (aliasing, in the paper of 2015).
 pub fn unalias(k: Cap) -> Form
     ensures { result ≡ table.unalias k }

@@ -8,7 +8,7 @@ mod order;
 mod place;
 mod span;
 
-pub use capability::{Cap, Form, sendable, sendable_form, stored, unalias};
+pub use capability::{Cap, Form, plain, sendable, sendable_form, stored, unalias};
 pub use list::List;
 pub use order::{below, fits};
 pub use place::{lift, may_write, taken, view};
