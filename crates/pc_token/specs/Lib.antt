@@ -1,0 +1,4 @@
+pub mod Words
+pub mod Signs
+pub mod Asking
+pub mod Laws
