@@ -1,0 +1,13 @@
+pub mod Runs
+pub mod CommentSteps
+pub mod CommentEnds
+pub mod DigitSteps
+pub mod NameReading
+pub mod NumberReading
+pub mod WordReading
+pub mod Longest
+pub mod PieceReading
+pub mod Reached
+pub mod OneCut
+pub mod OneFault
+pub mod Together

@@ -1,0 +1,123 @@
+-- No longer prefix is a token.
+use Rattle.std.proofs.Common.{◌≡◌, ℕ, ◌^◌, ◌<◌, ◌≤◌, Bool, true, false, not, cond, ◌&&◌, ◌||◌, ◌==◌, List, [], ◌∷◌, ◌++◌, length, Some, refl, sym, ap, ◌∙◌, subst, inl, inr, ◌⊎◌, arith, length-append}
+use Rattle.std.specs.Prelude.{nat_eq, nat_lt}
+use Rattle.std.proofs.lemmas.Bool.{and_parts, true≢false, not-true, ltb-true}
+use Rattle.std.proofs.lemmas.Bool.Decides.{nat_tests}
+use Rattle.std.specs.List.{starts_with}
+use Rattle.std.specs.Char.{is_ascii_lowercase, is_ascii_uppercase, is_ascii_digit}
+use Rattle.pc_token.specs.declared.signs.Sign.{Sign}
+use Rattle.pc_token.specs.declared.kinds.TokenKind.{TokenKind}
+use Rattle.pc_token.specs.declared.kinds.TokenKind.TheVariants as kinds
+use Rattle.pc_token.specs.Signs.{sign_at, sign_text}
+use Rattle.pc_lex.specs.Bytes.{is_letter, first_test}
+use Rattle.pc_lex.specs.Pieces.{NameText, Spells, NumberText}
+use Rattle.pc_lex.specs.Reading.{letter_len, under_len, name_len}
+use Rattle.pc_lex.proofs.Runs.{begins_own}
+use Rattle.pc_token.proofs.SignFacts.{each_sign, sign_max}
+use Rattle.pc_lex.proofs.WordReading.{spelled_word}
+use Rattle.pc_lex.proofs.NumberReading.{number_starts, number_some}
+use Rattle.pc_lex.proofs.NameReading.{name_max, letter_is}
+
+abbrev pub is_start : ℕ → Bool
+is_start b = is_letter b || b == 95
+
+pub small_letter : (b : ℕ) → is_ascii_lowercase b ≡ true → is_letter b ≡ true
+small_letter b e = rw e refl
+
+pub capital_letter : (b : ℕ) → is_ascii_uppercase b ≡ true → is_letter b ≡ true
+capital_letter b e = grind (arith, nat_tests)
+
+start_step : (b : ℕ) (bs : List ℕ) (t : Bool) → (b == 95) ≡ t → 0 < cond t (under_len (letter_len bs)) (letter_len (b ∷ bs)) → is_start b ≡ true
+start_step b bs true e some = grind (arith, nat_tests)
+start_step b bs false e some = rw (letter_is b bs some).0 refl
+
+pub name_starts : (text : List ℕ) → 0 < name_len text → first_test is_start text ≡ true
+unfolding name_len
+name_starts [] some = absurd (omega (arith, some))
+name_starts (b ∷ bs) some = start_step b bs (b == 95) refl some
+
+abbrev pub sign_test : Sign → Bool
+sign_test s = not (first_test is_start (sign_text s) || first_test is_ascii_digit (sign_text s)) && nat_lt 0 (length (sign_text s))
+
+pub or_none : (s t : Bool) → (s || t) ≡ false → (s ≡ false) × (t ≡ false)
+or_none true t e = absurd (true≢false e)
+or_none false t e = (refl, e)
+
+pub sign_some : (b : List ℕ) (s : Sign) → b ≡ sign_text s → ((first_test is_start b || first_test is_ascii_digit b) ≡ false) × (0 < length b)
+sign_some b s e =
+    let (x, y) = and_parts (not (first_test is_start (sign_text s) || first_test is_ascii_digit (sign_text s))) (nat_lt 0 (length (sign_text s))) (each_sign sign_test refl s) in
+    subst (λ l. ((first_test is_start l || first_test is_ascii_digit l) ≡ false) × (0 < length l)) (sym e) (not-true _ x, ltb-true 0 (length (sign_text s)) y)
+
+first_app : (p : ℕ → Bool) (more after : List ℕ) → 0 < length more → first_test p (more ++ after) ≡ first_test p more
+first_app p [] after some = absurd (omega (arith, some))
+first_app p (b ∷ bs) after some = refl
+
+start_no_digit : (b : ℕ) → is_start b ≡ true → is_ascii_digit b ≡ false
+start_no_digit b e = grind (arith, nat_tests)
+
+pub apart : (text : List ℕ) → first_test is_start text ≡ true → first_test is_ascii_digit text ≡ true → ⊥
+apart [] e d = true≢false (sym e)
+apart (b ∷ bs) e d = true≢false (sym d ∙ start_no_digit b e)
+
+-- a name is no longer than the name that is read
+named : (h : ℕ → Bool) (text more after : List ℕ) → ((b : ℕ) → h b ≡ true → is_letter b ≡ true) → text ≡ more ++ after → NameText h more → length more ≤ name_len text
+named h text more after letters e t = subst (λ l. length more ≤ name_len l) (sym e) (name_max h more after letters t)
+
+pub name_longest : (text : List ℕ) → 0 < name_len text → (other : TokenKind) (more after : List ℕ) → text ≡ more ++ after → Spells other more → length more ≤ name_len text
+name_longest text some (kinds.Name v) more after e h = named is_ascii_lowercase text more after small_letter e h.0
+name_longest text some (kinds.TypeName v) more after e h = named is_ascii_uppercase text more after capital_letter e h.0
+name_longest text some (kinds.Word w) more after e h = named is_ascii_lowercase text more after small_letter e (spelled_word w more h)
+name_longest text some (kinds.Number n) more after e h = absurd (apart text (name_starts text some) (ap (first_test is_ascii_digit) e ∙ number_starts more after n h.0))
+name_longest text some (kinds.Text v) more after e h = absurd h
+name_longest text some kinds.Doc more after e h = absurd h
+name_longest text some (kinds.Sign s) more after e h =
+    let (other, nonempty) = sign_some more s h in
+    absurd (true≢false (sym (name_starts text some) ∙ ap (first_test is_start) e ∙ first_app is_start more after nonempty ∙ (or_none _ _ other).0))
+name_longest text some kinds.End more after e h = absurd h
+
+-- where no name begins, a token is a sign
+pub sign_longest : (text : List ℕ) → first_test is_ascii_digit text ≡ false → name_len text ≡ 0 → (other : TokenKind) (more after : List ℕ) → text ≡ more ++ after → Spells other more
+    → (length more ≡ 0) ⊎ ((r : Sign × ℕ) × (sign_at text ≡ Some r) × (length more ≤ r.1))
+sign_longest text digit none (kinds.Name v) more after e h = inl (omega (arith, none, named is_ascii_lowercase text more after small_letter e h.0))
+sign_longest text digit none (kinds.TypeName v) more after e h = inl (omega (arith, none, named is_ascii_uppercase text more after capital_letter e h.0))
+sign_longest text digit none (kinds.Word w) more after e h = inl (omega (arith, none, named is_ascii_lowercase text more after small_letter e (spelled_word w more h)))
+sign_longest text digit none (kinds.Number n) more after e h = absurd (true≢false (sym (ap (first_test is_ascii_digit) e ∙ number_starts more after n h.0) ∙ digit))
+sign_longest text digit none (kinds.Text v) more after e h = absurd h
+sign_longest text digit none kinds.Doc more after e h = absurd h
+sign_longest text digit none (kinds.Sign s) more after e h =
+    let is : starts_with nat_eq text (sign_text s) ≡ true = subst (λ l. starts_with nat_eq text l ≡ true) h (ap (λ l. starts_with nat_eq l more) e ∙ begins_own more after) in
+    let most = sign_max text s is in
+    inr (most.0, most.1, omega (arith, most.2, ap length h))
+sign_longest text digit none kinds.End more after e h = absurd h
+
+name_some : (h : ℕ → Bool) (more : List ℕ) → NameText h more → 0 < length more
+name_some h more t = omega (arith, ap length t.parts, length-append t.under (t.head ∷ (t.tail ++ t.primes)))
+
+no_name : (h : ℕ → Bool) (text more after : List ℕ) → first_test is_ascii_digit text ≡ true → ((b : ℕ) → h b ≡ true → is_letter b ≡ true) → text ≡ more ++ after → NameText h more → ⊥
+no_name h text more after digit letters e t =
+    let some : 0 < name_len text = omega (arith, name_some h more t, named h text more after letters e t) in
+    apart text (name_starts text some) digit
+
+-- a token has bytes
+pub spelled_some : (kind : TokenKind) (b : List ℕ) → Spells kind b → 0 < length b
+spelled_some (kinds.Name v) b h = name_some is_ascii_lowercase b h.0
+spelled_some (kinds.TypeName v) b h = name_some is_ascii_uppercase b h.0
+spelled_some (kinds.Word w) b h = name_some is_ascii_lowercase b (spelled_word w b h)
+spelled_some (kinds.Number n) b h = number_some b n h.0
+spelled_some (kinds.Text v) b h = absurd h
+spelled_some kinds.Doc b h = absurd h
+spelled_some (kinds.Sign s) b h = (sign_some b s h).1
+spelled_some kinds.End b h = absurd h
+
+-- where a digit stands, a token is a number
+pub digit_only : (text : List ℕ) → first_test is_ascii_digit text ≡ true → (other : TokenKind) (more after : List ℕ) → text ≡ more ++ after → Spells other more → (v : ℕ) × (other ≡ kinds.Number v) × NumberText more v × (v < 2 ^ 64)
+digit_only text digit (kinds.Name v) more after e h = absurd (no_name is_ascii_lowercase text more after digit small_letter e h.0)
+digit_only text digit (kinds.TypeName v) more after e h = absurd (no_name is_ascii_uppercase text more after digit capital_letter e h.0)
+digit_only text digit (kinds.Word w) more after e h = absurd (no_name is_ascii_lowercase text more after digit small_letter e (spelled_word w more h))
+digit_only text digit (kinds.Number n) more after e h = (n, refl, h.0, h.1)
+digit_only text digit (kinds.Text v) more after e h = absurd h
+digit_only text digit kinds.Doc more after e h = absurd h
+digit_only text digit (kinds.Sign s) more after e h =
+    let (other, nonempty) = sign_some more s h in
+    absurd (true≢false (sym digit ∙ ap (first_test is_ascii_digit) e ∙ first_app is_ascii_digit more after nonempty ∙ (or_none _ _ other).1))
+digit_only text digit kinds.End more after e h = absurd h

@@ -1,0 +1,27 @@
+-- The laws on token lists and faults, and what reading one piece tells.
+use Rattle.std.specs.Prelude.{◌≡◌, ℕ, List, ◌⊎◌}
+use Rattle.pc_token.specs.declared.kinds.Token.{Token}
+use Rattle.pc_lex.specs.declared.fault.LexFault.{LexFault}
+use Rattle.pc_lex.specs.declared.fault.LexFault.TheVariants as fault
+use Rattle.pc_lex.specs.Pieces.{Tokens, FirstFault}
+use Rattle.pc_lex.specs.Answers.{TokenList}
+
+-- A text has at most one token list.
+abbrev pub OneList : Type 0
+OneList = (text : List ℕ) (one other : List Token) → Tokens text one → Tokens text other → one ≡ other
+
+-- A text has a token list within the limit, or a first fault.
+abbrev pub ListOrFault : Type 0
+ListOrFault = (text : List ℕ) → ((tokens : List Token) × TokenList text tokens) ⊎ ((f : LexFault) × FirstFault text f)
+
+-- It has not both.
+abbrev pub NotBoth : Type 0
+NotBoth = (text : List ℕ) (tokens : List Token) (f : LexFault) → TokenList text tokens → FirstFault text f → ⊥
+
+-- With a fault other than the number of tokens it has no token list, however long.
+abbrev pub NoList : Type 0
+NoList = (text : List ℕ) (tokens : List Token) (f : LexFault) → ((p : ℕ) → f ≡ fault.TooMany p → ⊥) → Tokens text tokens → FirstFault text f → ⊥
+
+-- A text has at most one first fault.
+abbrev pub OneFault : Type 0
+OneFault = (text : List ℕ) (one other : LexFault) → FirstFault text one → FirstFault text other → one ≡ other

@@ -1,0 +1,10 @@
+-- The limits of a text.
+use Rattle.std.specs.Prelude.{ℕ}
+
+-- how many bytes a text may have
+abbrev pub text_limit : ℕ
+text_limit = 1048576
+
+-- how many tokens a text may have, its end not counted
+abbrev pub token_limit : ℕ
+token_limit = 200000

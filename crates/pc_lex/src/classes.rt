@@ -1,0 +1,63 @@
+ghost use Rattle.std.specs.Prelude.{◌≡◌, ◌<◌, ◌≤◌, ◌+◌, drop, length, true};
+ghost use Rattle.std.specs.List.{prefix_len};
+ghost use Rattle.pc_lex.specs.Bytes as bytes;
+ghost use Rattle.pc_lex.specs.Bytes.{first_test};
+ghost use Rattle.pc_lex.specs.Reading as reading;
+
+/// A set of bytes.
+#[derive(Clone, Copy)]
+pub enum Class {
+    /// What may stand in a name behind its first letter: letters, digits and `_`.
+    Tail,
+    /// `'`
+    Prime,
+    /// Every byte that ends no line comment.
+    Line,
+}
+
+/// Whether a byte separates tokens.
+pub fn is_blank(b: u8) -> bool
+    ensures { result ≡ bytes.is_blank b }
+{
+    b == b' ' || b == b'\t' || b == b'\r' || b == b'\n'
+}
+
+/// Whether a byte is a letter of either case.
+pub fn is_letter(b: u8) -> bool
+    ensures { result ≡ bytes.is_letter b }
+{
+    b.is_ascii_lowercase() || b.is_ascii_uppercase()
+}
+
+/// Whether a byte is in a class.
+pub fn is_in(class: Class, b: u8) -> bool
+    ensures { result ≡ reading.class_test class b }
+{
+    match class {
+        Class::Tail => is_letter(b) || b.is_ascii_digit() || b == b'_',
+        Class::Prime => b == b'\'',
+        Class::Line => b != b'\n',
+    }
+}
+
+/// How many bytes at the front are in a class.
+pub fn run(class: Class, text: &[u8]) -> usize
+    ensures value { result ≡ prefix_len (reading.class_test class) text.now }
+    ensures within { result ≤ length text.now }
+{
+    let mut n = 0;
+    while n < text.len() && is_in(class, text[n]) {
+        n += 1;
+    }
+    n
+}
+
+/// Whether a byte follows that may not follow a number.
+pub fn is_joined(text: &[u8]) -> bool
+    ensures { result ≡ first_test bytes.is_joined text.now }
+{
+    match text {
+        [b, ..] => is_in(Class::Tail, *b) || is_in(Class::Prime, *b),
+        [] => false,
+    }
+}

@@ -1,0 +1,30 @@
+ghost use Rattle.std.specs.Prelude.{◌≡◌};
+
+use std::alloc::AllocError;
+
+/// Why a text has no token list, with the offset of a byte, counted from 0.
+#[derive(Clone, Copy, Debug, PartialEq, Eq)]
+pub enum LexFault {
+    /// The byte begins no blank, comment or token.
+    BadByte(u32),
+    /// The comment, text or doc that begins here does not end.
+    Unclosed(u32),
+    /// Digits begin here, but no number below 2^64 with what may follow a number.
+    BadNumber(u32),
+    /// The `\` here begins no escape of a text.
+    BadEscape(u32),
+    /// The token that begins here is one too many.
+    TooMany(u32),
+    /// Memory ran out.
+    Memory,
+}
+
+impl From<AllocError> for LexFault {
+    ghost use Rattle.pc_lex.specs.declared.fault.LexFault.TheVariants.{Memory};
+
+    ghost from_gives = { λ _ e. e ≡ Memory };
+
+    fn from(_: AllocError) -> LexFault {
+        LexFault::Memory
+    }
+}

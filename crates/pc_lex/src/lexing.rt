@@ -1,0 +1,113 @@
+ghost use Rattle.std.specs.Prelude.{◌≡◌, ◌<◌, ◌≤◌, ◌+◌, List as Sequence, length, Ok, Err, IfOk, IfErr};
+ghost use Rattle.pc_token.specs.declared.kinds.Token.{Token};
+ghost use Rattle.pc_lex.specs.declared.fault.LexFault.{LexFault};
+ghost use Rattle.pc_lex.specs.Limits.{text_limit, token_limit};
+ghost use Rattle.pc_lex.specs.Pieces as pieces;
+ghost use Rattle.pc_lex.specs.Pieces.{Tokens, FirstFault};
+ghost use Rattle.pc_lex.specs.Reading as reading;
+ghost use Rattle.pc_lex.specs.Reading.{Steps, Stuck};
+ghost use Rattle.pc_lex.specs.Answers.{TokenList, Refuses, Answers};
+
+use crate::fault::LexFault;
+use crate::pieces::{Found, Stop, piece_at};
+use pc_caps::{List, Span};
+use pc_token::{Token, TokenKind};
+use std::alloc::Global;
+
+/// How many tokens a text may have, its end not counted.
+const TOKEN_LIMIT: usize = 200_000;
+
+fn has_line_end(text: &[u8]) -> bool
+    ensures { result ≡ pieces.has_line_end text.now }
+{
+    text.contains(&b'\n')
+}
+
+fn fault_at(stop: Stop, place: u32) -> LexFault
+    ensures { result ≡ reading.fault_at stop place }
+{
+    match stop {
+        Stop::BadByte => LexFault::BadByte(place),
+        Stop::BadNumber => LexFault::BadNumber(place),
+        Stop::Unclosed => LexFault::Unclosed(place),
+        Stop::Memory => LexFault::Memory,
+    }
+}
+
+/// Reads one piece, and puts it at the end of the tokens if it is one. The answer is its end, and whether a token
+/// there would be first on its line.
+fn step(
+    alloc: Global,
+    text: &[u8],
+    at: usize,
+    first: bool,
+    tokens: &mut List<Token>,
+) -> Result<(usize, bool), LexFault>
+    requires within { at < length text.now }
+    requires short { length text.now ≤ text_limit }
+    ensures ok { IfOk result (λ r. Steps text.now at first tokens.old tokens.new r) }
+    ensures err { IfErr result (λ f. Stuck text.now at tokens.old f) }
+    ensures moves { IfOk result (λ r. r.0 ≤ length text.now) }
+{
+    let (found, n) = match piece_at(alloc, &text[at..]) {
+        Ok(piece) => piece,
+        Err(stop) => return Err(fault_at(stop, at as u32)),
+    };
+    match found {
+        Found::Gap => Ok((at + n, first || has_line_end(&text[at..at + n]))),
+        Found::Token(kind) => {
+            if tokens.len() >= TOKEN_LIMIT {
+                return Err(LexFault::TooMany(at as u32));
+            }
+            let span = Span {
+                start: at as u32,
+                end: (at + n) as u32,
+            };
+            tokens.push(Token { kind, first, span })?;
+            Ok((at + n, false))
+        }
+    }
+}
+
+/// Reads a text piece by piece to its end.
+fn read_all(alloc: Global, text: &[u8]) -> Result<List<Token>, LexFault>
+    requires { length text.now ≤ text_limit }
+    ensures ok { IfOk result (TokenList text.now) }
+    ensures err { IfErr result (Refuses text.now) }
+{
+    let mut tokens: List<Token> = List::new(alloc);
+    let mut at: usize = 0;
+    let mut first = true;
+    while at < text.len() {
+        (at, first) = step(alloc, text, at, first, &mut tokens)?;
+    }
+    let place = at as u32;
+    tokens.push(Token {
+        kind: TokenKind::End,
+        first,
+        span: Span {
+            start: place,
+            end: place,
+        },
+    })?;
+    Ok(tokens)
+}
+
+/// The tokens of a text of at most 1,048,576 bytes, with `End` last: at most 200,000 and `End`. Blanks and comments
+/// separate tokens, and at each place the longest token is taken.
+///
+/// The first fault of a text is that of the first place at which no blank, comment or token begins, or `TooMany` if
+/// the token behind 200,000 others begins before it.
+pub fn lex(alloc: Global, text: &[u8]) -> Result<List<Token>, LexFault>
+    requires { length text.now ≤ text_limit }
+    // The list is the text's.
+    ensures ok { IfOk result (TokenList text.now) }
+    // The fault is the first of the text, or memory ran out.
+    ensures err { IfErr result (Refuses text.now) }
+    // Where there is a list within the limit, it is the answer, unless memory ran out.
+    ensures listed { (tokens : Sequence Token) → TokenList text.now tokens → Answers result (Ok tokens) }
+    // Where there is a first fault, it is the answer, unless memory ran out.
+    ensures faulty { (fault : LexFault) → FirstFault text.now fault → Answers result (Err fault) }
+{
+    read_all(alloc, text)
+}

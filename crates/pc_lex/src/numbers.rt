@@ -1,0 +1,128 @@
+ghost use Rattle.std.specs.Prelude.{◌≡◌, ◌<◌, ◌≤◌, ◌+◌, ◌*◌, ◌==◌, ◌&&◌, length, drop, slice_index, true, IfOk};
+ghost use Rattle.std.specs.Char.{is_digit, digit_value};
+ghost use Rattle.pc_lex.specs.Bytes.{first_test};
+ghost use Rattle.pc_lex.specs.Reading.{BelowOrNone};
+ghost use Rattle.pc_lex.specs.Reading as reading;
+
+use crate::classes::is_joined;
+use crate::pieces::{Found, Stop};
+use pc_token::TokenKind;
+
+/// The digit that a byte is, letters of either case being 10 to 35, or 36.
+pub fn digit_value(b: u8) -> u8
+    ensures value { result ≡ digit_value b }
+    ensures within { result ≤ 36 }
+{
+    match b {
+        b'0'..=b'9' => b - b'0',
+        b'A'..=b'Z' => b - b'A' + 10,
+        b'a'..=b'z' => b - b'a' + 10,
+        _ => 36,
+    }
+}
+
+/// Whether a byte is a digit of a base.
+pub fn is_digit(b: u8, base: u8) -> bool
+    ensures { result ≡ is_digit b base }
+{
+    digit_value(b) < base
+}
+
+/// Whether a digit of a base stands at the front.
+fn starts_digit(text: &[u8], base: u8) -> bool
+    ensures value { result ≡ first_test (λ b. is_digit b base) text.now }
+    ensures within { result ≡ true → 0 < length text.now }
+{
+    match text {
+        [b, ..] => is_digit(*b, base),
+        [] => false,
+    }
+}
+
+/// Whether a `_` stands at a place, and a digit behind it.
+fn spaces(text: &[u8], at: usize, base: u8) -> bool
+    requires { at < length text.now }
+    ensures value { result ≡ (slice_index text.now at == 95 && first_test (λ b. is_digit b base) (drop (at + 1) text.now)) }
+    ensures within { result ≡ true → at + 1 < length text.now }
+{
+    text[at] == b'_' && starts_digit(&text[at + 1..], base)
+}
+
+/// How many bytes at the front are digits of a base, with at most one `_` between two of them.
+#[tactic(auto, using(crate::proofs::DigitSteps::len_step, crate::proofs::DigitSteps::len_space, crate::proofs::DigitSteps::len_ends, crate::proofs::DigitSteps::len_first, crate::proofs::DigitSteps::len_none))]
+fn digits_len(text: &[u8], base: u8) -> usize
+    ensures value { result ≡ reading.digits_len base text.now }
+    ensures within { result ≤ length text.now }
+{
+    if !starts_digit(text, base) {
+        return 0;
+    }
+    let mut at: usize = 1;
+    while at < text.len() {
+        if is_digit(text[at], base) {
+            at += 1;
+        } else if spaces(text, at, base) {
+            at += 2;
+        } else {
+            return at;
+        }
+    }
+    at
+}
+
+/// A number with one digit more, if it is below 2^64.
+fn with_digit(value: u64, base: u8, b: u8) -> Option<u64>
+    ensures { BelowOrNone result (value * base + digit_value b) }
+{
+    value
+        .checked_mul(base as u64)?
+        .checked_add(digit_value(b) as u64)
+}
+
+/// The number of digits and `_`, if it is below 2^64.
+#[tactic(auto, using(crate::proofs::DigitSteps::value_at, crate::proofs::DigitSteps::value_grows, crate::proofs::DigitSteps::value_all, crate::proofs::DigitSteps::not_under))]
+fn value_of(text: &[u8], base: u8) -> Option<u64>
+    requires { 0 < base }
+    ensures { BelowOrNone result (reading.value_of base 0 text.now) }
+{
+    let mut value: u64 = 0;
+    for b in text {
+        if *b != b'_' {
+            value = with_digit(value, base, *b)?;
+        }
+    }
+    Some(value)
+}
+
+/// The base of the number at the front, and the length of its mark.
+#[tactic(auto, unfolding(crate::specs::Reading::base_at))]
+fn base_at(text: &[u8]) -> (u8, usize)
+    ensures value { result ≡ reading.base_at text.now }
+    ensures within { result.1 ≤ length text.now }
+    ensures some { 0 < result.0 }
+{
+    if text.starts_with(b"0x") && starts_digit(&text[2..], 16) {
+        (16, 2)
+    } else if text.starts_with(b"0b") && starts_digit(&text[2..], 2) {
+        (2, 2)
+    } else {
+        (10, 0)
+    }
+}
+
+/// The number at the front, where a digit stands.
+#[tactic(auto, unfolding(crate::specs::Reading::number_at))]
+pub fn number_at(text: &[u8]) -> Result<(Found, usize), Stop>
+    ensures value { result ≡ reading.number_at text.now }
+    ensures within { IfOk result (λ r. r.1 ≤ length text.now) }
+{
+    let (base, skip) = base_at(text);
+    let n = digits_len(&text[skip..], base);
+    if is_joined(&text[skip + n..]) {
+        return Err(Stop::BadNumber);
+    }
+    match value_of(&text[skip..skip + n], base) {
+        Some(value) => Ok((Found::Token(TokenKind::Number(value)), skip + n)),
+        None => Err(Stop::BadNumber),
+    }
+}

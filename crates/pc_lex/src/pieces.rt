@@ -1,0 +1,68 @@
+ghost use Rattle.std.specs.Prelude.{◌≡◌, ◌<◌, ◌≤◌, length, IfOk};
+ghost use Rattle.pc_lex.specs.Reading as reading;
+ghost use Rattle.pc_lex.specs.Reading.{Gives};
+
+use crate::classes::{Class, is_blank, run};
+use crate::comments::block_len;
+use crate::names::{name_kind, name_len};
+use crate::numbers::number_at;
+use pc_token::{TokenKind, sign_at};
+use std::alloc::{AllocError, Global};
+
+/// What a text begins with: a blank or a comment, or a token.
+#[derive(Debug, Drop)]
+pub enum Found {
+    Gap,
+    Token(TokenKind),
+}
+
+/// Why a text begins with none of these.
+#[derive(Debug)]
+pub enum Stop {
+    BadByte,
+    Unclosed,
+    BadNumber,
+    Memory,
+}
+
+impl From<AllocError> for Stop {
+    ghost use Rattle.pc_lex.specs.declared.pieces.Stop.TheVariants.{Memory};
+
+    ghost from_gives = { λ _ e. e ≡ Memory };
+
+    fn from(_: AllocError) -> Stop {
+        Stop::Memory
+    }
+}
+
+/// The blank, comment or token with which a text begins, and its length.
+#[tactic(auto, unfolding(crate::specs::Reading::piece_at))]
+pub fn piece_at(alloc: Global, text: &[u8]) -> Result<(Found, usize), Stop>
+    requires { 0 < length text.now }
+    ensures gives { Gives result (reading.piece_at text.now) }
+    ensures within { IfOk result (λ r. r.1 ≤ length text.now) }
+{
+    if is_blank(text[0]) {
+        return Ok((Found::Gap, 1));
+    }
+    if text.starts_with(b"//") {
+        return Ok((Found::Gap, 2 + run(Class::Line, &text[2..])));
+    }
+    if text.starts_with(b"/*") {
+        return match block_len(&text[2..]) {
+            Some(n) => Ok((Found::Gap, 2 + n)),
+            None => Err(Stop::Unclosed),
+        };
+    }
+    if text[0].is_ascii_digit() {
+        return number_at(text);
+    }
+    let n = name_len(text);
+    if n > 0 {
+        return Ok((Found::Token(name_kind(alloc, &text[..n])?), n));
+    }
+    match sign_at(text) {
+        Some((sign, n)) => Ok((Found::Token(TokenKind::Sign(sign)), n)),
+        None => Err(Stop::BadByte),
+    }
+}
