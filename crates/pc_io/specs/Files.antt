@@ -1,0 +1,17 @@
+-- What a read of a file answers.
+use Rattle.std.specs.Prelude.{◌≡◌, ◌<◌, ◌≤◌, ◌+◌, ℕ, List, length, IfSome, Result, Ok, Err}
+use Rattle.std.specs.declared.option.Option.{Option}
+use Rattle.pc_io.specs.declared.files.FileFault.{FileFault}
+use Rattle.pc_io.specs.declared.files.FileFault.TheVariants.{TooLong, Memory, Failed}
+use Rattle.pc_io.specs.declared.bytes.Bytes.{Bytes}
+
+-- where the bytes are told and the faults of the name did not rise, the bytes are more than the limit
+abbrev pub TooLongOnly : ℕ → Option (List ℕ) → ℕ → ℕ → Type 0
+TooLongOnly limit bytes before now = now ≡ before → IfSome bytes (λ told. limit < length told)
+
+-- a read of these bytes took `taken` of them, and gives them all, or refuses more than the limit
+abbrev pub IsCopy : List ℕ → ℕ → ℕ → Result Bytes FileFault → Type 0
+IsCopy bytes limit taken (Ok copy) = (copy ≡ bytes) × (length bytes ≤ limit) × (taken ≡ length bytes)
+IsCopy bytes limit taken (Err TooLong) = (limit < length bytes) × (taken ≡ limit + 1)
+IsCopy bytes limit taken (Err Memory) = (length bytes ≤ limit) × (taken ≡ 0)
+IsCopy bytes limit taken (Err Failed) = ⊥

@@ -1,0 +1,10 @@
+pub mod Count
+pub mod Entries
+pub mod Failed
+pub mod Files
+pub mod HostFiles
+pub mod HostSink
+pub mod MemFiles
+pub mod MemSink
+pub mod NeverFiles
+pub mod Sink

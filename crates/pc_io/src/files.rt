@@ -1,0 +1,75 @@
+//! Files by their names: what is asked of whatever reads them.
+ghost use Rattle.std.specs.Prelude.{◌≡◌, ◌<◌, ◌≤◌, ◌+◌, List, ℕ, length, IfOk, IfSome, IsErrOf};
+ghost use Rattle.std.specs.declared.option.Option.{Option};
+ghost use Rattle.pc_io.specs.declared.files.FileFault.TheVariants.{Memory};
+ghost use Rattle.pc_io.specs.Files.{TooLongOnly};
+
+use crate::Bytes;
+use std::alloc::{AllocError, AllocFailed, Global};
+
+/// Why a file was not read.
+#[derive(Clone, Copy, Debug, PartialEq, Eq)]
+pub enum FileFault {
+    /// The file could not be read. A missing file is such a file.
+    Failed,
+    /// The file has more bytes than the limit.
+    TooLong,
+    /// Want of memory, which says nothing of the file.
+    Memory,
+}
+
+impl From<AllocError> for FileFault {
+    ghost from_gives = { λ _ fault. fault ≡ Memory };
+
+    fn from(_: AllocError) -> Self {
+        FileFault::Memory
+    }
+}
+
+impl<T: Drop> From<AllocFailed<T>> for FileFault {
+    ghost from_gives = { λ _ fault. fault ≡ Memory };
+
+    fn from(_: AllocFailed<T>) -> Self {
+        FileFault::Memory
+    }
+}
+
+/// Files that can be read by their names.
+///
+/// Contracts see three things. `bytes` is what each name holds, where that is told: of a real file nothing is told. `faults`
+/// counts for each name how often its reading failed, and never falls. `taken` is the number of bytes that the last `read`
+/// took from its file.
+pub trait Files {
+    /// The bytes of a name, where they are told.
+    ghost bytes: { Self → List ℕ → Option (List ℕ) };
+
+    /// How often the reading of a name has failed.
+    ghost faults: { Self → List ℕ → ℕ };
+
+    /// How many bytes the last `read` took from its file.
+    ghost taken: { Self → ℕ };
+
+    /// All bytes of the file, which are at most `limit`, in memory of `alloc`. No reading changes what a name holds.
+    ///
+    /// # Errors
+    /// - `Failed` only where the faults of this very name rose in this call.
+    /// - `TooLong` only after the first byte past the limit was taken, and no more is taken then. Where the bytes are told and
+    ///   the faults of the name did not rise, they are more than the limit.
+    /// - `Memory` at want of memory.
+    fn read(&mut self, alloc: Global, name: &str, limit: u32) -> Result<Bytes, FileFault>
+        // Whatever is answered.
+        ensures same { (n : List ℕ) → bytes self.new n ≡ bytes self.old n }
+        ensures later { (n : List ℕ) → faults self.old n ≤ faults self.new n }
+        ensures at_most { taken self.new ≤ limit + 1 }
+
+        // Ok has the whole file, and the file is within the limit.
+        ensures all { IfOk result (λ b. IfSome (bytes self.old name.now) (λ told. b ≡ told)) }
+        ensures within { IfOk result (λ b. length b ≤ limit) }
+        ensures whole { IfOk result (λ b. taken self.new ≡ length b) }
+
+        // Each refusal has its cause.
+        ensures failed { IsErrOf result FileFault.Failed → faults self.old name.now < faults self.new name.now }
+        ensures longer { IsErrOf result FileFault.TooLong → limit < taken self.new }
+        ensures told { IsErrOf result FileFault.TooLong → TooLongOnly limit (bytes self.old name.now)
+            (faults self.old name.now) (faults self.new name.now) };
+}

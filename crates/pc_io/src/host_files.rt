@@ -1,0 +1,205 @@
+//! Real files.
+ghost use Rattle.std.specs.Prelude.{◌≡◌, ◌≢◌, ◌<◌, ◌≤◌, ◌+◌, List, ℕ, length, None, Err, IfOk, IfSome, IsErrOf, IfErr, OnOk, vec_len, ◌^◌};
+ghost use Rattle.pc_io.specs.Failed.{times};
+ghost use Rattle.pc_io.specs.HostFiles.{no_readings, failed_after};
+
+use crate::failures::Failures;
+use crate::{Bytes, FileFault, Files};
+use std::alloc::Global;
+use std::io::{self, ErrorKind, Read};
+use std::marker::Model;
+use std::{fs, rt};
+
+/// Real files, by their paths. What they hold is not told: their readings are safe, keep to the limit and answer with
+/// their causes, and nothing is said of the bytes.
+#[derive(Drop)]
+pub struct HostFiles<'a, R: rt::Files> {
+    runtime: &'a R,
+    failures: Failures,
+    taken: usize,
+}
+
+impl<'a, R: rt::Files> Model for HostFiles<'a, R> {
+    ghost use Rattle.pc_io.specs.HostFiles.{Readings};
+
+    ghost Value = { Readings };
+
+    ghost view = { λ s. record { failed = s.failures.names.items; taken = s.taken } };
+}
+
+impl<'a, R: rt::Files> HostFiles<'a, R> {
+    /// The files that this runtime opens. Takes no memory.
+    pub fn new(alloc: Global, runtime: &'a R) -> HostFiles<'a, R>
+        ensures { result ≡ no_readings }
+    {
+        HostFiles {
+            runtime,
+            failures: Failures::new(alloc),
+            taken: 0,
+        }
+    }
+}
+
+impl<'a, R: rt::Files> Files for HostFiles<'a, R> {
+    ghost bytes = { λ s name. None };
+
+    ghost faults = { λ s name. times name s.failed };
+
+    ghost taken = { λ s. s.taken };
+
+    /// Opens the file and reads to its end, or until one byte more than the limit was taken. The memory for the name of a
+    /// failure is taken before.
+    #[tactic(auto, using(crate::proofs::Times::rises, crate::proofs::Times::keeps))]
+    fn read(&mut self, alloc: Global, name: &str, limit: u32) -> Result<Bytes, FileFault>
+        ensures later { (n : List ℕ) → times n self.old.failed ≤ times n self.new.failed }
+        ensures failed { IsErrOf result FileFault.Failed → times name.now self.old.failed < times name.now self.new.failed }
+        ensures names { self.new.failed ≡ failed_after self.old.failed name.now result }
+        ensures all { IfOk result (λ b. IfSome None (λ told. b ≡ told)) }
+        ensures within { IfOk result (λ b. length b ≤ limit) }
+        ensures whole { IfOk result (λ b. self.new.taken ≡ length b) }
+        ensures longer { IsErrOf result FileFault.TooLong → limit < self.new.taken }
+        ensures at_most { self.new.taken ≤ limit + 1 }
+    {
+        self.taken = 0;
+        let failure = self.failures.make_room(alloc, name)?;
+        let (taken, answer) = read_file(alloc, self.runtime, name, limit);
+        self.taken = taken;
+        if let Err(FileFault::Failed) = answer {
+            self.failures.add(failure);
+        }
+        answer
+    }
+}
+
+// How many bytes were taken from the file of this name, and what a read answers.
+fn read_file<R: rt::Files>(
+    alloc: Global,
+    runtime: &R,
+    name: &str,
+    limit: u32,
+) -> (usize, Result<Bytes, FileFault>)
+    ensures within { IfOk result.1 (λ b. length b ≤ limit) }
+    ensures whole { IfOk result.1 (λ b. result.0 ≡ length b) }
+    ensures longer { IsErrOf result.1 FileFault.TooLong → limit < result.0 }
+    ensures at_most { result.0 ≤ limit + 1 }
+{
+    let mut bytes = Vec::new(alloc);
+    let ended = match fs::open(runtime, name) {
+        Ok(mut file) => fill(&mut file, &mut bytes, limit as usize),
+        Err(error) => Err(fault_of(&error)),
+    };
+    let taken = bytes.len();
+    match ended {
+        Ok(()) => (taken, Ok(Bytes::from_vec(bytes))),
+        Err(fault) => (taken, Err(fault)),
+    }
+}
+
+// Appends what a reader gives, to its end: at most `limit` bytes, or one more where it gives more.
+fn fill<F: Read>(file: &mut F, bytes: &mut Vec<u8>, limit: usize) -> Result<(), FileFault>
+    requires empty { vec_len bytes.old ≡ 0 }
+    requires room { limit + 1 < 2 ^ 64 }
+    ensures ok { OnOk result (vec_len bytes.new ≤ limit) }
+    ensures longer { IsErrOf result FileFault.TooLong → limit < vec_len bytes.new }
+    ensures within { vec_len bytes.new ≤ limit + 1 }
+{
+    let mut chunk = [0u8; 4096];
+    for _ in 0..u64::MAX {
+        if bytes.len() > limit {
+            return Err(FileFault::TooLong);
+        }
+        let room = (limit + 1 - bytes.len()).min(chunk.len());
+        bytes.reserve(room)?;
+        match file.read(&mut chunk[..room]) {
+            Ok(0) => return Ok(()),
+            Ok(count) => bytes.extend_from_slice(&chunk[..count])?,
+            Err(error) => {
+                if error.kind() != ErrorKind::Interrupted {
+                    return Err(fault_of(&error));
+                }
+            }
+        }
+    }
+    Err(FileFault::Failed)
+}
+
+// Why a file could not be opened or read.
+fn fault_of(error: &io::Error) -> FileFault
+    ensures { result ≢ FileFault.TooLong }
+{
+    match error.kind() {
+        ErrorKind::OutOfMemory => FileFault::Memory,
+        _ => FileFault::Failed,
+    }
+}
+
+#[cfg(test)]
+mod tests {
+    use super::*;
+    use std::test::Fail;
+
+    // A reader that is interrupted at each second call, gives three bytes at most, and fails after so many.
+    #[derive(Drop)]
+    struct Slow {
+        room: usize,
+        is_interrupted: bool,
+    }
+
+    impl Read for Slow {
+        fn read(&mut self, buf: &mut [u8]) -> io::Result<usize> {
+            self.is_interrupted = !self.is_interrupted;
+            if self.is_interrupted {
+                return Err(io::Error::from(ErrorKind::Interrupted));
+            }
+            if self.room == 0 {
+                return Err(io::Error::from(ErrorKind::TimedOut));
+            }
+            let count = buf.len().min(3).min(self.room);
+            self.room -= count;
+            buf[..count].fill(b'x');
+            Ok(count)
+        }
+    }
+
+    #[test]
+    fn a_file_is_given_whole_or_refused_with_its_cause(rt: HostRuntime) -> Result<(), Fail> {
+        let alloc = rt.alloc();
+        fs::write(&rt, "four", "abcd")?;
+        fs::write(&rt, "none", "")?;
+        let mut files = HostFiles::new(alloc, &rt);
+        let rows = [
+            ("four", 4, Ok("abcd")),
+            ("four", 3, Err(FileFault::TooLong)),
+            ("none", 0, Ok("")),
+            ("gone", 9, Err(FileFault::Failed)),
+            // A folder is opened, but cannot be read.
+            (".", 9, Err(FileFault::Failed)),
+        ];
+        for (name, limit, wanted) in rows {
+            match (files.read(alloc, name, limit), wanted) {
+                (Ok(bytes), Ok(text)) => assert_eq!(rt;
+                    bytes.as_slice(),
+                    text.as_bytes(),
+                    "{name}"
+                ),
+                (Err(fault), Err(cause)) => assert_eq!(rt; fault, cause, "{name}"),
+                _ => assert!(rt; false, "{name} at {limit}"),
+            }
+        }
+
+        // A reader that fails in mid-stream, and one that has more than the limit before.
+        for (room, limit, wanted, length) in [
+            (5, 9, FileFault::Failed, 5),
+            (50, 9, FileFault::TooLong, 10),
+        ] {
+            let mut bytes = Vec::new(alloc);
+            let mut reader = Slow {
+                room,
+                is_interrupted: false,
+            };
+            assert_eq!(rt; fill(&mut reader, &mut bytes, limit), Err(wanted));
+            assert_eq!(rt; bytes.len(), length);
+        }
+        Ok(())
+    }
+}

@@ -1,0 +1,139 @@
+//! A sink over a writer.
+ghost use Rattle.std.specs.Prelude.{◌≡◌, ◌≤◌, [], Ok, Err, MatchBool, OnOk, OnErr, None};
+ghost use Rattle.std.specs.Io.KnownBytes.{Appends};
+ghost use Rattle.pc_io.specs.Count.{one_more};
+ghost use Rattle.pc_io.specs.Sink.{GrowsByPrefix};
+
+use crate::{Sink, SinkFault};
+use std::io::{ErrorKind, Write};
+use std::marker::Model;
+
+/// A sink over any writer of the standard library, which it is told as much of as the writer tells.
+#[derive(Drop)]
+pub struct HostSink<W: Write> {
+    inner: W,
+    faults: u64,
+}
+
+impl<W: Write> Model for HostSink<W> {
+    ghost use Rattle.pc_io.specs.HostSink.{Told};
+
+    ghost Value = { Told };
+
+    ghost view = { λ s. record { written = W.contents s.inner; faults = s.faults } };
+}
+
+impl<W: Write> HostSink<W> {
+    /// A sink that hands each piece to this writer. Takes no memory.
+    pub fn new(inner: W) -> HostSink<W>
+        ensures written { result.written ≡ W.contents inner }
+        ensures faults { result.faults ≡ 0 }
+    {
+        HostSink { inner, faults: 0 }
+    }
+}
+
+impl<W: Write> Sink for HostSink<W> {
+    ghost written = { λ s. s.written };
+
+    ghost faults = { λ s. s.faults };
+
+    /// Writes until the writer has taken the whole piece, also by many short writes. An interrupted write is tried again.
+    /// The call fails where the writer answers any other error, or takes nothing. It takes no memory of its own, so it never
+    /// answers `Memory`.
+    fn put(&mut self, piece: &[u8]) -> Result<(), SinkFault>
+        ensures later { self.old.faults ≤ self.new.faults }
+        ensures ok { OnOk result (Appends self.old.written self.new.written piece.now) }
+        ensures ok_faults { OnOk result (self.new.faults ≡ self.old.faults) }
+        ensures failed { OnErr result (result ≡ Err SinkFault.Failed) }
+        ensures failed_faults { OnErr result (self.new.faults ≡ one_more self.old.faults) }
+        ensures part { OnErr result (GrowsByPrefix self.old.written self.new.written piece.now) }
+        ensures empty { piece.now ≡ [] → (result ≡ Ok tt) × (self.new ≡ self.old) }
+    {
+        if piece.is_empty() || write_whole(&mut self.inner, piece) {
+            return Ok(());
+        }
+        self.faults = self.faults.saturating_add(1);
+        Err(SinkFault::Failed)
+    }
+}
+
+// Whether the writer took the piece whole.
+fn write_whole<W: Write>(writer: &mut W, piece: &[u8]) -> bool
+    ensures { MatchBool result (Appends (W.contents writer.old) (W.contents writer.new) piece.now)
+        (GrowsByPrefix (W.contents writer.old) (W.contents writer.new) piece.now) }
+{
+    let mut at = 0;
+    for _ in 0..u64::MAX {
+        if at >= piece.len() {
+            return true;
+        }
+        match writer.write(&piece[at..]) {
+            Ok(0) => return false,
+            Ok(count) => at += count,
+            Err(error) => {
+                if error.kind() != ErrorKind::Interrupted {
+                    return false;
+                }
+            }
+        }
+    }
+    false
+}
+
+#[cfg(test)]
+mod tests {
+    use super::*;
+    use std::io::{self, Write};
+    use std::test::Fail;
+
+    // A writer with little room, which takes two bytes at a time and is interrupted at each second call.
+    #[derive(Drop)]
+    struct Slow {
+        held: Vec<u8>,
+        room: usize,
+        is_interrupted: bool,
+    }
+
+    impl Write for Slow {
+        fn write(&mut self, buf: &[u8]) -> io::Result<usize> {
+            self.is_interrupted = !self.is_interrupted;
+            if self.is_interrupted {
+                return Err(io::Error::from(ErrorKind::Interrupted));
+            }
+            if self.room == 0 {
+                return Err(io::Error::from(ErrorKind::StorageFull));
+            }
+            let count = buf.len().min(2).min(self.room);
+            self.room -= count;
+            self.held.extend_from_slice(&buf[..count])?;
+            Ok(count)
+        }
+
+        fn flush(&mut self) -> io::Result<()> {
+            Ok(())
+        }
+    }
+
+    #[test]
+    fn short_writes_go_on_until_the_writer_fails(rt: HostRuntime) -> Result<(), Fail> {
+        let mut sink = HostSink::new(Slow {
+            held: Vec::new(rt.alloc()),
+            room: 8,
+            is_interrupted: false,
+        });
+        let pieces = [
+            ("abcde", true),
+            ("", true),
+            ("fghij", false),
+            ("k", false),
+            ("", true),
+        ];
+        for (piece, is_written) in pieces {
+            assert_eq!(rt; sink.put(piece.as_bytes()).is_ok(), is_written, "{piece}");
+        }
+        assert_eq!(rt; sink.inner.held.as_slice(), b"abcdefgh".as_slice());
+        assert_eq!(rt; sink.faults, 2);
+        Ok(())
+    }
+}

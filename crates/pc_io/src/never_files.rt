@@ -1,0 +1,71 @@
+//! Files in memory, whose reading never fails.
+ghost use Rattle.std.specs.Prelude.{◌≡◌, List, ℕ, Some, OnOk, OnErr, if◌then◌else◌};
+ghost use Rattle.std.specs.Str.{bytes_eq};
+ghost use Rattle.pc_io.specs.Entries.{held, held_or_empty};
+ghost use Rattle.pc_io.specs.NeverFiles.{empty_shelf};
+
+use crate::entries::{Entry, find_entry, put_entry};
+use crate::reading::copy_within;
+use crate::{Bytes, FileFault, Files};
+use std::alloc::{AllocError, Global};
+use std::marker::Model;
+
+/// Files in memory, whose reading never fails. A missing name reads as an empty file, so only want of memory and the
+/// limit are ever answered in place of bytes.
+#[derive(Debug, Drop)]
+pub struct NeverFiles {
+    alloc: Global,
+    entries: Vec<Entry>,
+    taken: usize,
+}
+
+impl Model for NeverFiles {
+    ghost use Rattle.pc_io.specs.NeverFiles.{Shelf};
+
+    ghost Value = { Shelf };
+
+    ghost view = { λ s. record { entries = s.entries.items; taken = s.taken } };
+}
+
+impl NeverFiles {
+    /// No files yet. Takes no memory.
+    pub fn new(alloc: Global) -> NeverFiles
+        ensures { result ≡ empty_shelf }
+    {
+        NeverFiles {
+            alloc,
+            entries: Vec::new(alloc),
+            taken: 0,
+        }
+    }
+
+    /// Adds a file. A file of that name that is there gets these bytes in place of its own.
+    ///
+    /// # Errors
+    /// `AllocError` where there is no memory for the file; then all is as before.
+    pub fn add(&mut self, name: &str, bytes: &[u8]) -> Result<(), AllocError>
+        ensures ok { OnOk result ((n : List ℕ) → held self.new.entries n
+            ≡ (if bytes_eq name.now n then Some bytes.now else held self.old.entries n)) }
+        ensures rest { self.new ≡ record self.old { entries = self.new.entries } }
+        ensures err { OnErr result (self.new ≡ self.old) }
+    {
+        put_entry(&mut self.entries, self.alloc, name, bytes)
+    }
+}
+
+impl Files for NeverFiles {
+    ghost bytes = { λ s name. held_or_empty s.entries name };
+
+    ghost faults = { λ s name. 0 };
+
+    ghost taken = { λ s. s.taken };
+
+    fn read(&mut self, alloc: Global, name: &str, limit: u32) -> Result<Bytes, FileFault> {
+        let (taken, answer) = match find_entry(&self.entries, name.as_bytes()) {
+            Some(entry) => copy_within(alloc, entry.bytes.as_slice(), limit),
+            None => copy_within(alloc, &[], limit),
+        };
+        self.taken = taken;
+        answer
+    }
+}
