@@ -54,7 +54,11 @@ impl<'a, R: rt::Files> Files for HostFiles<'a, R> {
         ensures later { (n : List ℕ) → times n self.old.failed ≤ times n self.new.failed }
         ensures failed { IsErrOf result FileFault.Failed → times name.now self.old.failed < times name.now self.new.failed }
         ensures names { self.new.failed ≡ failed_after self.old.failed name.now result }
+
+        // As at all files: here no bytes are told.
         ensures all { IfOk result (λ b. IfSome None (λ told. b ≡ told)) }
+
+        // How much was taken.
         ensures within { IfOk result (λ b. length b ≤ limit) }
         ensures whole { IfOk result (λ b. self.new.taken ≡ length b) }
         ensures longer { IsErrOf result FileFault.TooLong → limit < self.new.taken }

@@ -8,7 +8,7 @@ use crate::{Sink, SinkFault};
 use std::io::{ErrorKind, Write};
 use std::marker::Model;
 
-/// A sink over any writer of the standard library, which it is told as much of as the writer tells.
+/// A sink over any writer of the standard library. What it tells of the bytes that were written is what the writer tells.
 #[derive(Drop)]
 pub struct HostSink<W: Write> {
     inner: W,

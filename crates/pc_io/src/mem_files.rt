@@ -8,7 +8,7 @@ ghost use Rattle.pc_io.specs.MemFiles.{new_store, after_read, IsAnswerOf};
 
 use crate::entries::{Entry, find_entry, put_entry};
 use crate::failures::Failures;
-use crate::reading::copy_within;
+use crate::reading::read_bytes;
 use crate::{Bytes, FileFault, Files};
 use std::alloc::{AllocError, Global};
 use std::marker::Model;
@@ -98,7 +98,7 @@ impl Files for MemFiles {
             self.failures.add(failure);
             return Err(FileFault::Failed);
         };
-        let (taken, answer) = copy_within(alloc, entry.bytes.as_slice(), limit);
+        let (taken, answer) = read_bytes(alloc, entry.bytes.as_slice(), limit);
         self.taken = taken;
         answer
     }

@@ -5,7 +5,7 @@ ghost use Rattle.pc_io.specs.Entries.{held, held_or_empty};
 ghost use Rattle.pc_io.specs.NeverFiles.{empty_shelf};
 
 use crate::entries::{Entry, find_entry, put_entry};
-use crate::reading::copy_within;
+use crate::reading::read_bytes;
 use crate::{Bytes, FileFault, Files};
 use std::alloc::{AllocError, Global};
 use std::marker::Model;
@@ -62,8 +62,8 @@ impl Files for NeverFiles {
 
     fn read(&mut self, alloc: Global, name: &str, limit: u32) -> Result<Bytes, FileFault> {
         let (taken, answer) = match find_entry(&self.entries, name.as_bytes()) {
-            Some(entry) => copy_within(alloc, entry.bytes.as_slice(), limit),
-            None => copy_within(alloc, &[], limit),
+            Some(entry) => read_bytes(alloc, entry.bytes.as_slice(), limit),
+            None => read_bytes(alloc, &[], limit),
         };
         self.taken = taken;
         answer

@@ -5,7 +5,7 @@ use crate::{Bytes, FileFault};
 use std::alloc::Global;
 
 /// How many bytes a read takes from these, and what it answers.
-pub fn copy_within(alloc: Global, bytes: &[u8], limit: u32) -> (usize, Result<Bytes, FileFault>)
+pub fn read_bytes(alloc: Global, bytes: &[u8], limit: u32) -> (usize, Result<Bytes, FileFault>)
     ensures { IsCopy bytes.now limit result.0 result.1 }
 {
     let most = limit as usize;
