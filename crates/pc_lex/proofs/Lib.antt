@@ -11,3 +11,10 @@ pub mod Reached
 pub mod OneCut
 pub mod OneFault
 pub mod Together
+pub mod QuoteEnds
+pub mod TextValues
+pub mod DocEnding
+pub mod QuotedBytes
+pub mod TextCut
+pub mod PieceRight
+pub mod QuoteReading

@@ -15,8 +15,10 @@ use Rattle.pc_lex.specs.declared.pieces.Found.TheVariants as found
 use Rattle.pc_lex.specs.declared.pieces.Stop.{Stop}
 use Rattle.pc_lex.specs.declared.pieces.Stop.TheVariants as stop
 use Rattle.pc_lex.specs.Bytes.{first_test, is_blank, is_line, is_letter, begins_comment}
+use Rattle.pc_lex.specs.Texts.{is_quote, begins_doc, TextBytes}
+use Rattle.pc_lex.specs.TextReading.{unescape}
 use Rattle.pc_lex.specs.Pieces.{NameText, Spells, Piece, gap, token, bytes_of, Stands, IsToken, NoPiece, IsGap, AtLineEnd, Pieces, tokens_of, Tokens}
-use Rattle.pc_lex.specs.Reading.{is_type, name_kind, behind, value_of, digits_len, base_at, piece_at}
+use Rattle.pc_lex.specs.Reading.{is_type, name_kind, behind, value_of, digits_len, base_at, between, piece_at}
 use Rattle.pc_lex.proofs.Runs.{run_app}
 use Rattle.pc_lex.proofs.CommentSteps.{behind_all}
 use Rattle.pc_token.proofs.SignFacts.{each_sign, sign_own}
@@ -25,8 +27,12 @@ use Rattle.pc_lex.proofs.WordReading.{spelled_word}
 use Rattle.pc_lex.proofs.NameReading.{type_plain}
 use Rattle.pc_lex.proofs.CommentEnds.{closes_suffix, closes_behind}
 use Rattle.pc_lex.proofs.NumberReading.{Based, based, digits, total, number_max, total_within, number_starts}
-use Rattle.pc_lex.proofs.Longest.{small_letter, capital_letter, is_start, apart, sign_some, or_none, spelled_some}
-use Rattle.pc_lex.proofs.PieceReading.{piece_of, Right, piece_right}
+use Rattle.pc_lex.proofs.Longest.{small_letter, capital_letter, is_start, apart, sign_some, or_none, spelled_some, Quoted, text_quoted, doc_quoted, quoted_first, quote_none}
+use Rattle.pc_lex.proofs.PieceRight.{piece_of, Right}
+use Rattle.pc_lex.proofs.PieceReading.{piece_right}
+use Rattle.pc_lex.proofs.QuotedBytes.{whole, doc_begins}
+use Rattle.pc_lex.proofs.QuoteReading.{short_text}
+use Rattle.pc_lex.proofs.TextValues.{value_read}
 
 pub same_cut : (b r c s : List ℕ) → b ++ r ≡ c ++ s → length b ≡ length c → (b ≡ c) × (r ≡ s)
 same_cut b r c s e len = (
@@ -76,8 +82,30 @@ abbrev sign_kind : Option (Sign × ℕ) → TokenKind
 sign_kind None = kinds.End
 sign_kind (Some r) = kinds.Sign r.0
 
+abbrev text_kind : Result (List ℕ) ℕ → TokenKind
+text_kind (Ok v) = kinds.Text v
+text_kind (Err at) = kinds.End
+
+abbrev quote_kind : List ℕ → TokenKind
+quote_kind b = cond (begins_doc b) kinds.Doc (text_kind (unescape (between b (length b))))
+
 abbrev kind_at : List ℕ → TokenKind
-kind_at b = cond (first_test is_ascii_digit b) (number_kind b (base_at b)) (cond (first_test is_start b) (name_kind b) (sign_kind (sign_at b)))
+kind_at b = cond (first_test is_ascii_digit b) (number_kind b (base_at b)) (cond (first_test is_start b) (name_kind b) (cond (first_test is_quote b) (quote_kind b) (sign_kind (sign_at b))))
+
+own_first : (p : ℕ → Bool) (b : List ℕ) → Quoted b → first_test p b ≡ p 34
+own_first p b q = quoted_first p b b [] (sym (append-nil b)) q
+
+-- a text literal is no doc
+text_no_doc : (b v : List ℕ) (t : Bool) → begins_doc b ≡ t → TextBytes b v → begins_doc b ≡ false
+text_no_doc b v false d h = d
+text_no_doc b v true d h =
+    let two = short_text b b [] v d (sym (append-nil b)) h in
+    absurd (omega (arith, two, ap length (whole b d)))
+
+text_inner : (b v : List ℕ) (h : TextBytes b v) → between b (length b) ≡ h.0
+text_inner b v (body, e, w) =
+    let count : length b - 2 ≡ length body = omega (arith, ap length e, length-append body (34 ∷ [])) in
+    ap₂ (λ m l. take m (drop 1 l)) count e ∙ take_at body (34 ∷ []) (length body) refl
 
 start_letter : (b : ℕ) → is_letter b ≡ true → is_start b ≡ true
 start_letter b e = rw e refl
@@ -121,12 +149,21 @@ kind_is (kinds.Number n) b h =
     let base = based b digit in
     let v = number_is b base n (number_max b base b [] n (sym (append-nil b)) h.0) in
     rw digit (ap kinds.Number v ∙ ap (number_kind b) (sym base.is))
-kind_is (kinds.Text v) b h = absurd h
-kind_is kinds.Doc b h = absurd h
+kind_is (kinds.Text v) b h =
+    let quote = own_first is_quote b (text_quoted b v h) in
+    let (start, digit) = quote_none b quote in
+    let plain = text_no_doc b v (begins_doc b) refl h in
+    let value : unescape (between b (length b)) ≡ Ok v = ap unescape (text_inner b v h) ∙ value_read h.0 v h.2 in
+    rw (digit, start, quote, plain, value) refl
+kind_is kinds.Doc b h =
+    let quote = own_first is_quote b (doc_quoted b h) in
+    let (start, digit) = quote_none b quote in
+    let doc = doc_begins b b [] (sym (append-nil b)) h in
+    rw (digit, start, quote, doc) refl
 kind_is (kinds.Sign s) b h =
-    let (other, some) = sign_some b s h in
+    let (other, some, unquoted) = sign_some b s h in
     let (start, digit) = or_none (first_test is_start b) (first_test is_ascii_digit b) other in
-    rw (digit, start) (sign_kind_is b s h)
+    rw (digit, start, unquoted) (sign_kind_is b s h)
 kind_is kinds.End b h = absurd h
 
 pub kind_one : (x y : TokenKind) (b : List ℕ) → Spells x b → Spells y b → x ≡ y
@@ -149,8 +186,8 @@ spelled_blank (kinds.Name v) b h = start_blank b (name_first is_ascii_lowercase 
 spelled_blank (kinds.TypeName v) b h = start_blank b (name_first is_ascii_uppercase b capital_letter h.0)
 spelled_blank (kinds.Word w) b h = start_blank b (name_first is_ascii_lowercase b small_letter (spelled_word w b h))
 spelled_blank (kinds.Number n) b h = digit_blank b (subst (λ l. first_test is_ascii_digit l ≡ true) (append-nil b) (number_starts b [] n h.0))
-spelled_blank (kinds.Text v) b h = absurd h
-spelled_blank kinds.Doc b h = absurd h
+spelled_blank (kinds.Text v) b h = own_first is_blank b (text_quoted b v h)
+spelled_blank kinds.Doc b h = own_first is_blank b (doc_quoted b h)
 spelled_blank (kinds.Sign s) b h = subst (λ l. first_test is_blank l ≡ false) (sym h) (not-true _ (each_sign not_blank refl s))
 spelled_blank kinds.End b h = absurd h
 
@@ -185,6 +222,7 @@ token_read kind b r (Ok x) h e right = token_found kind b r x.0 x.1 h e right
 token_read kind b r (Err stop.BadByte) h e right = absurd (right.0 (token kind b) r refl h)
 token_read kind b r (Err stop.BadNumber) h e right = absurd (right.0 (token kind b) r refl h)
 token_read kind b r (Err stop.Unclosed) h e right = absurd (right.0 (token kind b) r refl h)
+token_read kind b r (Err (stop.BadEscape offset)) h e right = absurd (right.0 (token kind b) r refl h)
 token_read kind b r (Err stop.Memory) h e right = absurd right
 
 pub piece_read : (p : Piece) (r : List ℕ) → Stands p r → Read p r

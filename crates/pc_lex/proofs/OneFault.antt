@@ -1,12 +1,20 @@
 -- The first fault of a text is one.
-use Rattle.std.proofs.Common.{◌≡◌, ℕ, ◌≤◌, true, false, cond, List, [], ◌∷◌, ◌++◌, length, refl, sym, ap, ap₂, ◌∙◌, subst, inl, inr, ◌⊎◌, arith}
+use Rattle.std.proofs.Common.{◌≡◌, ℕ, ◌≤◌, true, false, cond, List, [], ◌∷◌, ◌++◌, length, refl, sym, ap, ap₂, ◌∙◌, subst, inl, inr, ◌⊎◌, arith, Result, Ok, Err, Option, Some, None, drop, ◌+◌, ◌-◌}
 use Rattle.std.proofs.lemmas.Bool.Decides.{nat_tests}
 use Rattle.std.specs.Char.{is_ascii_digit}
 use Rattle.pc_token.specs.declared.kinds.TokenKind.{TokenKind}
 use Rattle.pc_lex.specs.declared.fault.LexFault.{LexFault}
 use Rattle.pc_lex.specs.declared.fault.LexFault.TheVariants as fault
 use Rattle.pc_lex.specs.Bytes.{first_test, begins, open_mark}
-use Rattle.pc_lex.specs.Pieces.{Piece, gap, token, IsToken, NoPiece, Pieces, count, Faulty, FaultBehind, TokenBehind, FirstFault}
+use Rattle.pc_lex.specs.Texts.{is_quote, begins_doc, NeverEnds, BadEscapeIn}
+use Rattle.pc_lex.specs.TextReading.{text_behind, unescape}
+use Rattle.pc_lex.specs.Reading.{between}
+use Rattle.pc_lex.specs.Pieces.{Opens, Piece, gap, token, IsToken, NoPiece, Pieces, count, Faulty, FaultBehind, TokenBehind, FirstFault}
+use Rattle.pc_lex.proofs.Longest.{quote_none}
+use Rattle.pc_lex.proofs.QuoteEnds.{behind_covered}
+use Rattle.pc_lex.proofs.QuotedBytes.{no_doc, doc_quote, quote_cut}
+use Rattle.pc_lex.proofs.QuoteReading.{behind_is, inner}
+use Rattle.pc_lex.proofs.TextValues.{bad_read}
 use Rattle.pc_lex.proofs.OneCut.{piece_one, same_stop}
 
 pub gap_token : (g b : List ℕ) (kind : TokenKind) → gap g ≡ token kind b → ⊥
@@ -49,19 +57,65 @@ module _ (kind : TokenKind) (b rest : List ℕ) (is : IsToken kind b rest) where
       let least : count ps ≤ count qs = fewer q p qs ps (sym one.0) (omega (arith, same)) in
       many_one ps qs h.0 k2 c more h.3 (subst (λ l. Pieces l qs (c ++ more)) (sym one.1) i.3) other (omega (arith, less, least))
 
+-- the fault of a place, by how it is read
+abbrev escape_fault : ℕ → Result (List ℕ) ℕ → LexFault
+escape_fault at (Ok v) = fault.BadByte at
+escape_fault at (Err k) = fault.BadEscape (at + (1 + k))
+
+abbrev quote_fault : List ℕ → ℕ → Option (List ℕ) → LexFault
+quote_fault text at None = fault.Unclosed at
+quote_fault text at (Some rest) = escape_fault at (unescape (between text (length text - length rest)))
+
 abbrev fault_of : List ℕ → ℕ → LexFault
-fault_of text at = cond (begins text open_mark) (fault.Unclosed at) (cond (first_test is_ascii_digit text) (fault.BadNumber at) (fault.BadByte at))
+fault_of text at =
+    cond (begins text open_mark) (fault.Unclosed at)
+    (cond (first_test is_ascii_digit text) (fault.BadNumber at)
+    (cond (begins_doc text) (fault.Unclosed at)
+    (cond (first_test is_quote text) (quote_fault text at (text_behind (drop 1 text))) (fault.BadByte at))))
 
 digit_no_open : (text : List ℕ) → first_test is_ascii_digit text ≡ true → begins text open_mark ≡ false
 digit_no_open [] e = refl
 digit_no_open (b ∷ []) e = grind (arith, nat_tests)
 digit_no_open (b ∷ c ∷ bs) e = grind (arith, nat_tests)
 
+quote_no_open : (text : List ℕ) → first_test is_quote text ≡ true → begins text open_mark ≡ false
+quote_no_open text quote = ap (λ l. begins l open_mark) (quote_cut text quote)
+
+none_behind : (text : List ℕ) (o : Option (List ℕ)) → text_behind (drop 1 text) ≡ o → first_test is_quote text ≡ true → NeverEnds text → text_behind (drop 1 text) ≡ None
+none_behind text None e quote never = e
+none_behind text (Some rest) e quote never =
+    let (body, cut, covered) = behind_covered (drop 1 text) rest e in
+    absurd (never body rest (quote_cut text quote ∙ ap (λ l. 34 ∷ l) cut) covered)
+
+unclosed_is : (text : List ℕ) (at p : ℕ) → p ≡ at → Opens text → fault.Unclosed p ≡ fault_of text at
+unclosed_is text at p e (inl opens) = rw opens (ap fault.Unclosed e)
+unclosed_is text at p e (inr (inl doc)) =
+    let quote = doc_quote text doc in
+    let opens = quote_no_open text quote in
+    let (start, digit) = quote_none text quote in
+    rw (opens, digit, doc) (ap fault.Unclosed e)
+unclosed_is text at p e (inr (inr (plain, quote, never))) =
+    let opens = quote_no_open text quote in
+    let (start, digit) = quote_none text quote in
+    let none = none_behind text (text_behind (drop 1 text)) refl quote never in
+    rw (opens, digit, plain, quote, none) (ap fault.Unclosed e)
+
+escape_is : (text : List ℕ) (at p offset : ℕ) → p ≡ at + offset → begins_doc text ≡ false → BadEscapeIn text offset → fault.BadEscape p ≡ fault_of text at
+escape_is text at p offset e plain (body, rest, whole, covered, k, bad, far) =
+    let quote : first_test is_quote text ≡ true = ap (first_test is_quote) whole in
+    let opens = quote_no_open text quote in
+    let (start, digit) = quote_none text quote in
+    let found : quote_fault text at (text_behind (drop 1 text)) ≡ fault.BadEscape (at + (1 + k)) =
+    ap (quote_fault text at) (behind_is text body rest whole covered) ∙ ap (λ l. escape_fault at (unescape l)) (inner text body rest whole covered) ∙ ap (escape_fault at) (bad_read body k bad) in
+    rw (opens, digit, plain, quote) (ap fault.BadEscape (e ∙ ap (λ n. at + n) far) ∙ sym found)
+
 faulty_is : (text : List ℕ) (at : ℕ) (f : LexFault) → Faulty text at f → f ≡ fault_of text at
-faulty_is text at (fault.Unclosed p) h = rw h.2 (ap fault.Unclosed h.0)
+faulty_is text at (fault.Unclosed p) h = unclosed_is text at p h.0 h.2
 faulty_is text at (fault.BadNumber p) h = rw (digit_no_open text h.2, h.2) (ap fault.BadNumber h.0)
-faulty_is text at (fault.BadByte p) h = rw (h.3, h.4) (ap fault.BadByte h.0)
-faulty_is text at (fault.BadEscape p) h = absurd h
+faulty_is text at (fault.BadByte p) h =
+    let plain = no_doc text h.5 in
+    rw (h.3, h.4, plain, h.5) (ap fault.BadByte h.0)
+faulty_is text at (fault.BadEscape p) h = escape_is text at p h.0 h.1 h.3 h.4
 faulty_is text at (fault.TooMany p) h = absurd h
 faulty_is text at fault.Memory h = absurd h
 
@@ -69,7 +123,7 @@ pub none_of : (rest : List ℕ) (at : ℕ) (f : LexFault) → Faulty rest at f �
 none_of rest at (fault.Unclosed p) h = h.1
 none_of rest at (fault.BadNumber p) h = h.1
 none_of rest at (fault.BadByte p) h = h.1
-none_of rest at (fault.BadEscape p) h = absurd h
+none_of rest at (fault.BadEscape p) h = h.2
 none_of rest at (fault.TooMany p) h = absurd h
 none_of rest at fault.Memory h = absurd h
 

@@ -1,5 +1,5 @@
 -- What is read is a piece, and where none is read none stands.
-use Rattle.std.proofs.Common.{◌≡◌, ℕ, zero, suc, ◌+◌, ◌^◌, ◌<◌, ◌≤◌, Bool, true, false, cond, ◌||◌, List, [], ◌∷◌, ◌++◌, length, take, drop, Option, Some, None, Result, Ok, Err, refl, sym, ap, ◌∙◌, subst, inl, inr, ◌⊎◌, arith, length-append, take-append-drop, drop_at, length-take-le}
+use Rattle.std.proofs.Common.{◌≡◌, ℕ, zero, suc, ◌+◌, ◌^◌, ◌<◌, ◌≤◌, Bool, true, false, cond, ◌||◌, List, [], ◌∷◌, ◌++◌, length, take, drop, Option, Some, None, Ok, Err, refl, sym, ap, ◌∙◌, subst, inl, inr, ◌⊎◌, arith, length-append, drop_at}
 use Rattle.std.specs.Prelude.{nat_lt}
 use Rattle.std.proofs.lemmas.Bool.{true≢false, ltb-true, ltb-false}
 use Rattle.std.specs.List.{prefix_len}
@@ -10,13 +10,12 @@ use Rattle.pc_token.specs.declared.kinds.TokenKind.{TokenKind}
 use Rattle.pc_token.specs.declared.kinds.TokenKind.TheVariants as kinds
 use Rattle.pc_token.specs.Words.{word_of}
 use Rattle.pc_token.specs.Signs.{sign_at, sign_text}
-use Rattle.pc_lex.specs.declared.pieces.Found.{Found}
 use Rattle.pc_lex.specs.declared.pieces.Found.TheVariants as found
-use Rattle.pc_lex.specs.declared.pieces.Stop.{Stop}
 use Rattle.pc_lex.specs.declared.pieces.Stop.TheVariants as stop
 use Rattle.pc_lex.specs.Bytes.{first_test, is_joined, is_blank, is_line, begins, begins_comment, line_mark, open_mark}
-use Rattle.pc_lex.specs.Pieces.{EndsWell, NameText, Spells, Piece, gap, token, Stands, NoPiece, IsGap, Closes}
-use Rattle.pc_lex.specs.Reading.{value_of, digits_len, number_or, number_of, number_at, name_len, is_type, word_kind, name_kind, behind, block_at, sign_or, name_or_sign, piece_at}
+use Rattle.pc_lex.specs.Texts.{begins_doc, is_quote}
+use Rattle.pc_lex.specs.Pieces.{EndsWell, NameText, Spells, gap, token, NoPiece, IsGap}
+use Rattle.pc_lex.specs.Reading.{value_of, digits_len, number_or, number_of, number_at, name_len, is_type, word_kind, name_kind, behind, block_at, sign_or, name_or_sign, doc_at, text_at, piece_at}
 use Rattle.std.proofs.lemmas.List.Sums.{prefix_len-le-length}
 use Rattle.pc_lex.proofs.CommentSteps.{behind_all}
 use Rattle.pc_lex.proofs.Runs.{begins_cut}
@@ -25,19 +24,17 @@ use Rattle.pc_token.proofs.WordFacts.{word_sound, word_none}
 use Rattle.pc_lex.proofs.NumberReading.{Based, based, digits, total, number_max, goes_into, total_within, total_some, number_text}
 use Rattle.pc_lex.proofs.NameReading.{name_sound, name_within, head_test}
 use Rattle.pc_lex.proofs.CommentEnds.{line_gap, block_gap, closes_behind, none_some, behind_word}
-use Rattle.pc_lex.proofs.Longest.{digit_only, name_longest, sign_longest, spelled_some, sign_some}
+use Rattle.pc_lex.proofs.Longest.{digit_only, name_longest, sign_longest, spelled_some, sign_some, quote_none}
+use Rattle.pc_lex.proofs.PieceRight.{Right, token_right, first_blank, gap_no, never_gap}
+use Rattle.pc_lex.proofs.QuotedBytes.{no_doc, doc_quote}
+use Rattle.pc_lex.proofs.QuoteReading.{right_doc, right_text}
 
-abbrev pub piece_of : Found → List ℕ → Piece
-piece_of found.Gap b = gap b
-piece_of (found.Token kind) b = token kind b
+-- where no quote stands, no doc begins
+no_doc_kind : (text : List ℕ) (kind : TokenKind) → first_test is_quote text ≡ false → begins_doc text ≡ true → kind ≡ kinds.Doc
+no_doc_kind text kind quote d = absurd (true≢false (sym d ∙ no_doc text quote))
 
--- What is read is right: a piece and its length, or the fault.
-abbrev pub Right : List ℕ → Result (Found × ℕ) Stop → Type 0
-Right text (Ok r) = (0 < r.1) × (r.1 ≤ length text) × Stands (piece_of r.0 (take r.1 text)) (drop r.1 text)
-Right text (Err stop.BadByte) = NoPiece text × (begins text open_mark ≡ false) × (first_test is_ascii_digit text ≡ false)
-Right text (Err stop.BadNumber) = NoPiece text × (first_test is_ascii_digit text ≡ true)
-Right text (Err stop.Unclosed) = NoPiece text × (begins text open_mark ≡ true)
-Right text (Err stop.Memory) = ⊥
+digit_doc : (text : List ℕ) (kind : TokenKind) → first_test is_ascii_digit text ≡ true → begins_doc text ≡ true → kind ≡ kinds.Doc
+digit_doc text kind digit d = absurd (true≢false (sym digit ∙ (quote_none text (doc_quote text d)).1))
 
 -- the kind of a name is the one that it spells
 kind_step : (b : List ℕ) (t : Bool) (w : Option Word) → word_of b ≡ w → NameText (head_test t) b → Spells (cond t (kinds.TypeName b) (word_kind b w)) b
@@ -58,23 +55,6 @@ kind_spelled : (b : List ℕ) → NameText (head_test (is_type b)) b → Spells 
 unfolding name_kind
 kind_spelled b h = kind_step b (is_type b) (word_of b) refl h
 
-no_comment : (text : List ℕ) (n : ℕ) → begins text line_mark ≡ false → begins text open_mark ≡ false → begins_comment (take n text ++ drop n text) ≡ false
-no_comment text n line opens = subst (λ l. begins_comment l ≡ false) (sym (take-append-drop n text)) (rw (line, opens) refl)
-
--- a token of n bytes
-token_right : (text : List ℕ) (kind : TokenKind) (n : ℕ) → 0 < n → n ≤ length text → begins text line_mark ≡ false → begins text open_mark ≡ false → Spells kind (take n text)
-    → EndsWell kind (drop n text) → ((other : TokenKind) (more after : List ℕ) → text ≡ more ++ after → Spells other more → length more ≤ n) → Right text (Ok (found.Token kind, n))
-token_right text kind n some within line opens spelled ends longest = (
-  some,
-  within,
-  record {
-    spelled = spelled;
-    longest = λ other more after e h. omega (arith, longest other more after (sym (take-append-drop n text) ∙ e) h, length-take-le n text within);
-    no_comment = no_comment text n line opens;
-    ends = ends;
-  },
-)
-
 longest_sign : (text : List ℕ) (r : Sign × ℕ) → sign_at text ≡ Some r → (more : List ℕ) → (length more ≡ 0) ⊎ ((q : Sign × ℕ) × (sign_at text ≡ Some q) × (length more ≤ q.1)) → length more ≤ r.1
 longest_sign text r e more (inl none) = omega (arith, none)
 longest_sign text r e more (inr h) =
@@ -82,46 +62,31 @@ longest_sign text r e more (inr h) =
     let equal : r ≡ h.0 = cc in
     omega (arith, ap (λ x. x.1) equal, h.2)
 
-abbrev pub first_blank : List ℕ → Bool
-first_blank [] = false
-first_blank (b ∷ bs) = is_blank b
-
-gap_no : (text b rest : List ℕ) → first_blank text ≡ false → begins text line_mark ≡ false → text ≡ b ++ rest → IsGap b rest → (t : List ℕ) × (text ≡ 47 ∷ 42 ∷ t) × Closes t rest
-gap_no text b rest blank line e (inl (c, one, is)) =
-    let same : text ≡ c ∷ rest = e ∙ ap (λ l. l ++ rest) one in
-    absurd (true≢false (sym is ∙ sym (ap first_blank same) ∙ blank))
-gap_no text b rest blank line e (inr (inl (t, one, all, stops))) =
-    let same : text ≡ 47 ∷ 47 ∷ (t ++ rest) = e ∙ ap (λ l. l ++ rest) one in
-    absurd (true≢false (sym (ap (λ l. begins l line_mark) same) ∙ line))
-gap_no text b rest blank line e (inr (inr (t, same, closes))) = (t, e ∙ same, closes)
-
 no_token : (text : List ℕ) (other : TokenKind) (b rest : List ℕ) → sign_at text ≡ None → name_len text ≡ 0 → text ≡ b ++ rest → Spells other b
     → (length b ≡ 0) ⊎ ((q : Sign × ℕ) × (sign_at text ≡ Some q) × (length b ≤ q.1)) → ⊥
 no_token text other b rest e none same h (inl zero_len) = let some = spelled_some other b h in omega (arith, zero_len, some)
 no_token text other b rest e none same h (inr q) = none_some (sym e ∙ q.1)
 
-no_piece : (text : List ℕ) → sign_at text ≡ None → name_len text ≡ 0 → first_test is_ascii_digit text ≡ false → first_blank text ≡ false → begins text line_mark ≡ false → begins text open_mark ≡ false → NoPiece text
-no_piece text e none digit blank line opens (gap b) rest same h =
-    let c = gap_no text b rest blank line same h in
-    true≢false (sym (ap (λ l. begins l open_mark) c.1) ∙ opens)
-no_piece text e none digit blank line opens (token other b) rest same h = no_token text other b rest e none same h.spelled (sign_longest text digit none other b rest same h.spelled)
+no_piece : (text : List ℕ) → sign_at text ≡ None → name_len text ≡ 0 → first_test is_ascii_digit text ≡ false → first_test is_quote text ≡ false → first_blank text ≡ false → begins text line_mark ≡ false → begins text open_mark ≡ false → NoPiece text
+no_piece text e none digit quote blank line opens (gap b) rest same h = never_gap text b rest blank line opens same h
+no_piece text e none digit quote blank line opens (token other b) rest same h = no_token text other b rest e none same h.spelled (sign_longest text digit quote none other b rest same h.spelled)
 
-right_sign : (text : List ℕ) (o : Option (Sign × ℕ)) → sign_at text ≡ o → name_len text ≡ 0 → first_test is_ascii_digit text ≡ false → first_blank text ≡ false → begins text line_mark ≡ false → begins text open_mark ≡ false → Right text (sign_or o)
-right_sign text (Some r) e none digit blank line opens =
+right_sign : (text : List ℕ) (o : Option (Sign × ℕ)) → sign_at text ≡ o → name_len text ≡ 0 → first_test is_ascii_digit text ≡ false → first_test is_quote text ≡ false → first_blank text ≡ false → begins text line_mark ≡ false → begins text open_mark ≡ false → Right text (sign_or o)
+right_sign text (Some r) e none digit quote blank line opens =
     let (count, is) = sign_sound text r e in
     let b = sign_text r.0 in
     let cut : take r.1 text ≡ b = ap (λ n. take n text) (sym count) ∙ begins_cut text b is in
     let whole : text ≡ b ++ drop (length b) text = behind_word text b is in
     let some : 0 < length b = (sign_some b r.0 refl).1 in
-    token_right text (kinds.Sign r.0) r.1 (omega (arith, count, some)) (omega (arith, count, ap length whole, length-append b (drop (length b) text))) line opens cut tt
-    (λ other more after same h. longest_sign text r e more (sign_longest text digit none other more after same h))
-right_sign text None e none digit blank line opens = (no_piece text e none digit blank line opens, opens, digit)
+    token_right text (kinds.Sign r.0) r.1 (omega (arith, count, some)) (omega (arith, count, ap length whole, length-append b (drop (length b) text))) line opens (no_doc_kind text (kinds.Sign r.0) quote) cut tt
+    (λ other more after same h. longest_sign text r e more (sign_longest text digit quote none other more after same h))
+right_sign text None e none digit quote blank line opens = (no_piece text e none digit quote blank line opens, opens, digit, quote)
 
-right_name : (text : List ℕ) (n : ℕ) → name_len text ≡ n → first_test is_ascii_digit text ≡ false → first_blank text ≡ false → begins text line_mark ≡ false → begins text open_mark ≡ false → Right text (name_or_sign text n)
-right_name text zero e digit blank line opens = right_sign text (sign_at text) refl e digit blank line opens
-right_name text (suc n) e digit blank line opens =
+right_name : (text : List ℕ) (n : ℕ) → name_len text ≡ n → first_test is_ascii_digit text ≡ false → first_test is_quote text ≡ false → first_blank text ≡ false → begins text line_mark ≡ false → begins text open_mark ≡ false → Right text (name_or_sign text n)
+right_name text zero e digit quote blank line opens = right_sign text (sign_at text) refl e digit quote blank line opens
+right_name text (suc n) e digit quote blank line opens =
     let some : 0 < name_len text = omega (arith, e) in
-    token_right text (name_kind (take (suc n) text)) (suc n) (omega arith) (subst (λ m. m ≤ length text) e (name_within text)) line opens
+    token_right text (name_kind (take (suc n) text)) (suc n) (omega arith) (subst (λ m. m ≤ length text) e (name_within text)) line opens (no_doc_kind text (name_kind (take (suc n) text)) quote)
     (kind_spelled (take (suc n) text) (subst (λ m. NameText (head_test (is_type (take m text))) (take m text)) e (name_sound text some))) (kind_ends (take (suc n) text) (drop (suc n) text))
     (λ other more after same h. subst (λ m. length more ≤ m) e (name_longest text some other more after same h))
 
@@ -147,7 +112,7 @@ no_closing text opens none (token other b) rest same h =
     true≢false (sym (comment_if text opens) ∙ no)
 
 right_block : (text : List ℕ) (o : Option (List ℕ)) → behind 1 (drop 2 text) ≡ o → begins text open_mark ≡ true → Right text (block_at text o)
-right_block text None e opens = (no_closing text opens e, opens)
+right_block text None e opens = (no_closing text opens e, inl opens)
 right_block text (Some rest) e opens = let (within, some, is) = block_gap text rest opens e in (some, within, is)
 
 at_most : {m n : ℕ} {A : Type 0} → (m < n) ⊎ ((m ≡ n) × A) → m ≤ n
@@ -164,9 +129,7 @@ number_bad text b g rest v same ends small (inr big) (inr h) = let e = h.1 in om
 
 no_number : (text : List ℕ) (b : Based text) → first_test is_ascii_digit text ≡ true → first_blank text ≡ false → begins text line_mark ≡ false → begins text open_mark ≡ false
     → (first_test is_joined (drop (total text b) text) ≡ true) ⊎ (2 ^ 64 ≤ value_of b.base 0 (digits text b)) → NoPiece text
-no_number text b digit blank line opens bad (gap g) rest same h =
-    let c = gap_no text g rest blank line same h in
-    true≢false (sym (ap (λ l. begins l open_mark) c.1) ∙ opens)
+no_number text b digit blank line opens bad (gap g) rest same h = never_gap text g rest blank line opens same h
 no_number text b digit blank line opens bad (token other g) rest same h =
     let n = digit_only text digit other g rest same h.spelled in
     let ends : EndsWell (kinds.Number n.0) rest = subst (λ o. EndsWell o rest) n.1 h.ends in
@@ -175,7 +138,7 @@ no_number text b digit blank line opens bad (token other g) rest same h =
 right_fits : (text : List ℕ) (b : Based text) (t : Bool) → nat_lt (value_of b.base 0 (digits text b)) (2 ^ 64) ≡ t → first_test is_joined (drop (total text b) text) ≡ false → first_test is_ascii_digit text ≡ true → first_blank text ≡ false → begins text line_mark ≡ false → begins text open_mark ≡ false
     → Right text (cond t (Ok (found.Token (kinds.Number (value_of b.base 0 (digits text b))), total text b)) (Err stop.BadNumber))
 right_fits text b true e joined digit blank line opens =
-    token_right text (kinds.Number (value_of b.base 0 (digits text b))) (total text b) (total_some text b) (total_within text b) line opens (number_text text b, ltb-true _ _ e) joined
+    token_right text (kinds.Number (value_of b.base 0 (digits text b))) (total text b) (total_some text b) (total_within text b) line opens (digit_doc text (kinds.Number (value_of b.base 0 (digits text b))) digit) (number_text text b, ltb-true _ _ e) joined
     (λ other more after same h. let n = digit_only text digit other more after same h in at_most (number_max text b more after n.0 same n.2))
 right_fits text b false e joined digit blank line opens = (no_number text b digit blank line opens (inr (ltb-false _ _ e)), digit)
 
@@ -190,24 +153,35 @@ right_number text digit blank line opens =
     let b = based text digit in
     subst (λ x. Right text (number_of text x.0 x.1 (digits_len x.0 (drop x.1 text)))) (sym b.is) (right_joined text b (first_test is_joined (drop (total text b) text)) refl digit blank line opens)
 
-right_digit : (text : List ℕ) (t : Bool) → first_test is_ascii_digit text ≡ t → first_blank text ≡ false → begins text line_mark ≡ false → begins text open_mark ≡ false → Right text (cond t (number_at text) (name_or_sign text (name_len text)))
+right_quote : (text : List ℕ) (t : Bool) → first_test is_quote text ≡ t → begins_doc text ≡ false → first_test is_ascii_digit text ≡ false → first_blank text ≡ false → begins text line_mark ≡ false → begins text open_mark ≡ false
+    → Right text (cond t (text_at text) (name_or_sign text (name_len text)))
+right_quote text true e doc digit blank line opens = right_text text e doc blank line opens
+right_quote text false e doc digit blank line opens = right_name text (name_len text) refl digit e blank line opens
+
+right_doc_or : (text : List ℕ) (t : Bool) → begins_doc text ≡ t → first_test is_ascii_digit text ≡ false → first_blank text ≡ false → begins text line_mark ≡ false → begins text open_mark ≡ false
+    → Right text (cond t (doc_at text) (cond (first_test is_quote text) (text_at text) (name_or_sign text (name_len text))))
+right_doc_or text true e digit blank line opens = right_doc text e blank line opens
+right_doc_or text false e digit blank line opens = right_quote text (first_test is_quote text) refl e digit blank line opens
+
+right_digit : (text : List ℕ) (t : Bool) → first_test is_ascii_digit text ≡ t → first_blank text ≡ false → begins text line_mark ≡ false → begins text open_mark ≡ false
+    → Right text (cond t (number_at text) (cond (begins_doc text) (doc_at text) (cond (first_test is_quote text) (text_at text) (name_or_sign text (name_len text)))))
 right_digit text true e blank line opens = right_number text e blank line opens
-right_digit text false e blank line opens = right_name text (name_len text) refl e blank line opens
+right_digit text false e blank line opens = right_doc_or text (begins_doc text) refl e blank line opens
 
 right_open : (text : List ℕ) (t : Bool) → begins text open_mark ≡ t → first_blank text ≡ false → begins text line_mark ≡ false
-    → Right text (cond t (block_at text (behind 1 (drop 2 text))) (cond (first_test is_ascii_digit text) (number_at text) (name_or_sign text (name_len text))))
+    → Right text (cond t (block_at text (behind 1 (drop 2 text))) (cond (first_test is_ascii_digit text) (number_at text) (cond (begins_doc text) (doc_at text) (cond (first_test is_quote text) (text_at text) (name_or_sign text (name_len text))))))
 right_open text true e blank line = right_block text (behind 1 (drop 2 text)) refl e
 right_open text false e blank line = right_digit text (first_test is_ascii_digit text) refl blank line e
 
 right_line : (text : List ℕ) (t : Bool) → begins text line_mark ≡ t → first_blank text ≡ false
-    → Right text (cond t (Ok (found.Gap, 2 + prefix_len is_line (drop 2 text))) (cond (begins text open_mark) (block_at text (behind 1 (drop 2 text))) (cond (first_test is_ascii_digit text) (number_at text) (name_or_sign text (name_len text)))))
+    → Right text (cond t (Ok (found.Gap, 2 + prefix_len is_line (drop 2 text))) (cond (begins text open_mark) (block_at text (behind 1 (drop 2 text))) (cond (first_test is_ascii_digit text) (number_at text) (cond (begins_doc text) (doc_at text) (cond (first_test is_quote text) (text_at text) (name_or_sign text (name_len text)))))))
 right_line text true e blank =
     let whole : text ≡ 47 ∷ 47 ∷ drop 2 text = behind_word text line_mark e in
     (omega arith, omega (arith, ap length whole, prefix_len-le-length is_line (drop 2 text)), line_gap text e)
 right_line text false e blank = right_open text (begins text open_mark) refl blank e
 
 right_blank : (b : ℕ) (bs : List ℕ) (t : Bool) → is_blank b ≡ t
-    → Right (b ∷ bs) (cond t (Ok (found.Gap, 1)) (cond (begins (b ∷ bs) line_mark) (Ok (found.Gap, 2 + prefix_len is_line (drop 2 (b ∷ bs)))) (cond (begins (b ∷ bs) open_mark) (block_at (b ∷ bs) (behind 1 (drop 2 (b ∷ bs)))) (cond (is_ascii_digit b) (number_at (b ∷ bs)) (name_or_sign (b ∷ bs) (name_len (b ∷ bs)))))))
+    → Right (b ∷ bs) (cond t (Ok (found.Gap, 1)) (cond (begins (b ∷ bs) line_mark) (Ok (found.Gap, 2 + prefix_len is_line (drop 2 (b ∷ bs)))) (cond (begins (b ∷ bs) open_mark) (block_at (b ∷ bs) (behind 1 (drop 2 (b ∷ bs)))) (cond (is_ascii_digit b) (number_at (b ∷ bs)) (cond (begins_doc (b ∷ bs)) (doc_at (b ∷ bs)) (cond (is_quote b) (text_at (b ∷ bs)) (name_or_sign (b ∷ bs) (name_len (b ∷ bs)))))))))
 right_blank b bs true e = (omega arith, omega arith, inl (b, refl, e))
 right_blank b bs false e = right_line (b ∷ bs) (begins (b ∷ bs) line_mark) refl e
 

@@ -13,7 +13,8 @@ use Rattle.pc_lex.specs.Pieces.{Piece, gap, token, bytes_of, Stands, Pieces, tok
 use Rattle.pc_lex.specs.Reading.{piece_at, step_of, is_gap, Steps, Stuck}
 use Rattle.pc_lex.specs.Limits.{token_limit}
 use Rattle.pc_lex.specs.Answers.{Refuses}
-use Rattle.pc_lex.proofs.PieceReading.{piece_of, Right, piece_right}
+use Rattle.pc_lex.proofs.PieceRight.{piece_of, Right}
+use Rattle.pc_lex.proofs.PieceReading.{piece_right}
 
 pub record Sofar (text : List ℕ) (at : ℕ) (first : Bool) (ts : List Token) : Type 0 where
   pub pieces : List Piece
@@ -107,13 +108,15 @@ many text at p first ts (found.Token kind) n inside so e full read other =
 pub stuck_so : (text : List ℕ) (at : ℕ) (first : Bool) (ts : List Token) (f : LexFault) → at < length text → Sofar text at first ts → Stuck text at ts f → Refuses text f
 stuck_so text at first ts (fault.BadByte p) inside so s =
     let right : Right (drop at text) (Err stop.BadByte) = subst (Right (drop at text)) s.1 (right_at text at inside) in
-    (so.pieces, drop at text, at, so.cut, omega (arith, so.counted, so.few), omega (arith, length-drop at text), (s.0, right.0, omega (arith, length-drop at text), right.1, right.2))
+    (so.pieces, drop at text, at, so.cut, omega (arith, so.counted, so.few), omega (arith, length-drop at text), (s.0, right.0, omega (arith, length-drop at text), right.1, right.2, right.3))
 stuck_so text at first ts (fault.BadNumber p) inside so s =
     let right : Right (drop at text) (Err stop.BadNumber) = subst (Right (drop at text)) s.1 (right_at text at inside) in
     (so.pieces, drop at text, at, so.cut, omega (arith, so.counted, so.few), omega (arith, length-drop at text), (s.0, right.0, right.1))
 stuck_so text at first ts (fault.Unclosed p) inside so s =
     let right : Right (drop at text) (Err stop.Unclosed) = subst (Right (drop at text)) s.1 (right_at text at inside) in
     (so.pieces, drop at text, at, so.cut, omega (arith, so.counted, so.few), omega (arith, length-drop at text), (s.0, right.0, right.1))
-stuck_so text at first ts (fault.BadEscape p) inside so s = absurd s
+stuck_so text at first ts (fault.BadEscape p) inside so s =
+    let right : Right (drop at text) (Err (stop.BadEscape s.0)) = subst (Right (drop at text)) s.2 (right_at text at inside) in
+    (so.pieces, drop at text, at, so.cut, omega (arith, so.counted, so.few), omega (arith, length-drop at text), (s.0, s.1, right.0, right.1, right.2))
 stuck_so text at first ts (fault.TooMany p) inside so s = many text at p first ts s.2.0 s.2.1 inside so s.0 s.1 s.3 s.4
 stuck_so text at first ts fault.Memory inside so s = tt

@@ -14,14 +14,16 @@ use Rattle.pc_lex.specs.declared.pieces.Stop.{Stop}
 use Rattle.pc_lex.specs.declared.pieces.Stop.TheVariants as stop
 use Rattle.pc_lex.specs.Limits.{token_limit}
 use Rattle.pc_lex.specs.Bytes.{first_test, begins, open_mark}
-use Rattle.pc_lex.specs.Pieces.{Piece, gap, token, bytes_of, IsToken, Pieces, tokens_of, Tokens, count, Faulty, FaultBehind, TokenBehind, FirstFault}
+use Rattle.pc_lex.specs.Texts.{is_quote}
+use Rattle.pc_lex.specs.Pieces.{Opens, Piece, gap, token, bytes_of, IsToken, Pieces, tokens_of, Tokens, count, Faulty, FaultBehind, TokenBehind, FirstFault}
 use Rattle.pc_lex.specs.Answers.{TokenList, Refuses, Answers}
 use Rattle.pc_lex.specs.Reading.{piece_at, step_of, is_gap, Steps}
 use Rattle.pc_lex.proofs.Longest.{spelled_some}
 use Rattle.pc_lex.proofs.OneCut.{piece_one, piece_some, not_both, tokens_one}
 use Rattle.pc_lex.proofs.OneFault.{gap_token, none_of, Cases, fault_cases, fault_one}
 use Rattle.pc_lex.proofs.Reached.{Sofar, starts_so, goes_on, nearer, ends_so, stuck_so, right_at}
-use Rattle.pc_lex.proofs.PieceReading.{Right}
+use Rattle.pc_lex.proofs.PieceRight.{Right}
+use Rattle.pc_lex.proofs.QuotedBytes.{doc_quote}
 
 -- one token more than the pieces are
 made_count : (ps : List Piece) (at : ℕ) (first : Bool) → length (tokens_of at first ps) ≡ count ps + 1
@@ -62,11 +64,20 @@ digit_some : (text : List ℕ) → first_test is_ascii_digit text ≡ true → 0
 digit_some [] e = absurd (true≢false (sym e))
 digit_some (b ∷ bs) e = omega arith
 
+quote_some : (text : List ℕ) → first_test is_quote text ≡ true → 0 < length text
+quote_some [] e = absurd (true≢false (sym e))
+quote_some (b ∷ bs) e = omega arith
+
+open_some : (text : List ℕ) → Opens text → 0 < length text
+open_some text (inl opens) = opens_some text opens
+open_some text (inr (inl doc)) = quote_some text (doc_quote text doc)
+open_some text (inr (inr (plain, quote, never))) = quote_some text quote
+
 faulty_some : (rest : List ℕ) (at : ℕ) (f : LexFault) → Faulty rest at f → 0 < length rest
-faulty_some rest at (fault.Unclosed p) h = opens_some rest h.2
+faulty_some rest at (fault.Unclosed p) h = open_some rest h.2
 faulty_some rest at (fault.BadNumber p) h = digit_some rest h.2
 faulty_some rest at (fault.BadByte p) h = h.2
-faulty_some rest at (fault.BadEscape p) h = absurd h
+faulty_some rest at (fault.BadEscape p) h = omega (arith, ap length h.4.2)
 faulty_some rest at (fault.TooMany p) h = absurd h
 faulty_some rest at fault.Memory h = absurd h
 
@@ -114,6 +125,7 @@ step_told text at first ts (Ok (found.Token kind, n)) inside so e more = token_m
 step_told text at first ts (Err stop.BadByte) inside so e more = inr (fault.BadByte at, stuck_so text at first ts (fault.BadByte at) inside so (refl, e))
 step_told text at first ts (Err stop.BadNumber) inside so e more = inr (fault.BadNumber at, stuck_so text at first ts (fault.BadNumber at) inside so (refl, e))
 step_told text at first ts (Err stop.Unclosed) inside so e more = inr (fault.Unclosed at, stuck_so text at first ts (fault.Unclosed at) inside so (refl, e))
+step_told text at first ts (Err (stop.BadEscape offset)) inside so e more = inr (fault.BadEscape (at + offset), stuck_so text at first ts (fault.BadEscape (at + offset)) inside so (offset, refl, e))
 step_told text at first ts (Err stop.Memory) inside so e more =
     let never : Right (drop at text) (Err stop.Memory) = subst (Right (drop at text)) e (right_at text at inside) in
     absurd never

@@ -3,4 +3,7 @@ pub mod Bytes
 pub mod Pieces
 pub mod Answers
 pub mod Laws
+pub mod Texts
+pub mod TextReading
+pub mod EscapeFaults
 pub mod Reading

@@ -14,6 +14,7 @@ use Rattle.pc_token.specs.Signs.{sign_text}
 use Rattle.pc_lex.specs.declared.fault.LexFault.{LexFault}
 use Rattle.pc_lex.specs.declared.fault.LexFault.TheVariants as fault
 use Rattle.pc_lex.specs.Limits.{token_limit}
+use Rattle.pc_lex.specs.Texts.{is_quote, TextBytes, DocBytes, begins_doc, NeverEnds, BadEscapeIn}
 use Rattle.pc_lex.specs.Bytes.{is_blank, is_tail, is_prime, is_line, begins, begins_comment, open_mark, close_mark, hex_mark, bin_mark, is_joined, first_test}
 
 -- An optional `_`, a letter of this case, then letters, digits and `_`, then any number of `'`.
@@ -56,8 +57,8 @@ Spells (kinds.Name text) b = NameText is_ascii_lowercase b × NoWord b × (text 
 Spells (kinds.TypeName text) b = NameText is_ascii_uppercase b × (text ≡ b)
 Spells (kinds.Word word) b = b ≡ word_text word
 Spells (kinds.Number n) b = NumberText b n × (n < 2 ^ 64)
-Spells (kinds.Text v) b = ⊥
-Spells kinds.Doc b = ⊥
+Spells (kinds.Text v) b = TextBytes b v
+Spells kinds.Doc b = DocBytes b
 Spells (kinds.Sign sign) b = b ≡ sign_text sign
 Spells kinds.End b = ⊥
 
@@ -84,11 +85,13 @@ abbrev pub EndsWell : TokenKind → List ℕ → Type 0
 EndsWell (kinds.Number n) rest = first_test is_joined rest ≡ false
 EndsWell _ rest = ⊤
 
--- A token before the rest: no longer prefix of what is left is a token, and no comment begins here.
+-- A token before the rest: no longer prefix of what is left is a token. `//` and `/*` begin no token, and `"""` begins
+-- none but a doc.
 pub record IsToken (kind : TokenKind) (b rest : List ℕ) : Type 0 where
   pub spelled : Spells kind b
   pub longest : (other : TokenKind) (more after : List ℕ) → b ++ rest ≡ more ++ after → Spells other more → length more ≤ length b
   pub no_comment : begins_comment (b ++ rest) ≡ false
+  pub doc : begins_doc (b ++ rest) ≡ true → kind ≡ kinds.Doc
   pub ends : EndsWell kind rest
 
 -- a blank or a comment, or a token with its kind, and the bytes
@@ -132,13 +135,20 @@ count (token kind b ∷ ps) = 1 + count ps
 abbrev pub NoPiece : List ℕ → Type 0
 NoPiece text = (p : Piece) (rest : List ℕ) → text ≡ bytes_of p ++ rest → Stands p rest → ⊥
 
--- The fault of a text with which no piece begins, and its place: a comment that does not end, digits that are no
--- number, or another byte.
+-- A comment begins here, or a doc, or a text literal that no `"` ends.
+abbrev pub Opens : List ℕ → Type 0
+Opens text =
+    (begins text open_mark ≡ true)
+    ⊎ ((begins_doc text ≡ true)
+    ⊎ ((begins_doc text ≡ false) × (first_test is_quote text ≡ true) × NeverEnds text))
+
+-- The fault of a text with which no piece begins, and its place: a comment, text or doc that does not end, digits that
+-- are no number, a text with a bad escape, or another byte.
 abbrev pub Faulty : List ℕ → ℕ → LexFault → Type 0
-Faulty text at (fault.BadByte p) = (p ≡ at) × NoPiece text × (0 < length text) × (begins text open_mark ≡ false) × (first_test is_ascii_digit text ≡ false)
-Faulty text at (fault.Unclosed p) = (p ≡ at) × NoPiece text × (begins text open_mark ≡ true)
+Faulty text at (fault.BadByte p) = (p ≡ at) × NoPiece text × (0 < length text) × (begins text open_mark ≡ false) × (first_test is_ascii_digit text ≡ false) × (first_test is_quote text ≡ false)
+Faulty text at (fault.Unclosed p) = (p ≡ at) × NoPiece text × Opens text
 Faulty text at (fault.BadNumber p) = (p ≡ at) × NoPiece text × (first_test is_ascii_digit text ≡ true)
-Faulty text at (fault.BadEscape p) = ⊥
+Faulty text at (fault.BadEscape p) = (offset : ℕ) × (p ≡ at + offset) × NoPiece text × (begins_doc text ≡ false) × BadEscapeIn text offset
 Faulty text at (fault.TooMany p) = ⊥
 Faulty text at fault.Memory = ⊥
 

@@ -8,6 +8,8 @@ use Rattle.pc_token.specs.declared.kinds.Token.{Token}
 use Rattle.pc_lex.specs.declared.fault.LexFault.{LexFault}
 use Rattle.pc_lex.specs.declared.fault.LexFault.TheVariants as fault
 use Rattle.pc_lex.specs.Limits.{token_limit}
+use Rattle.pc_lex.specs.Texts.{is_quote, begins_doc}
+use Rattle.pc_lex.specs.TextReading.{text_behind, unescape, doc_behind}
 use Rattle.pc_lex.specs.Pieces.{has_line_end}
 use Rattle.pc_token.specs.declared.kinds.TokenKind.{TokenKind}
 use Rattle.pc_token.specs.declared.kinds.TokenKind.TheVariants as kinds
@@ -102,6 +104,28 @@ abbrev pub name_or_sign : List ℕ → ℕ → Result (Found × ℕ) Stop
 name_or_sign text zero = sign_or (sign_at text)
 name_or_sign text (suc n) = Ok (found.Token (name_kind (take (suc n) text)), suc n)
 
+abbrev pub doc_or : List ℕ → Option (List ℕ) → Result (Found × ℕ) Stop
+doc_or text None = Err stop.Unclosed
+doc_or text (Some rest) = Ok (found.Token kinds.Doc, length text - length rest)
+
+abbrev pub value_or : ℕ → Result (List ℕ) ℕ → Result (Found × ℕ) Stop
+value_or n (Ok value) = Ok (found.Token (kinds.Text value), n)
+value_or n (Err at) = Err (stop.BadEscape (1 + at))
+
+-- the bytes between two quotes of so many bytes in all
+abbrev pub between : List ℕ → ℕ → List ℕ
+between text n = take (n - 2) (drop 1 text)
+
+abbrev pub text_or : List ℕ → Option (List ℕ) → Result (Found × ℕ) Stop
+text_or text None = Err stop.Unclosed
+text_or text (Some rest) = value_or (length text - length rest) (unescape (between text (length text - length rest)))
+
+unfoldable pub text_at : List ℕ → Result (Found × ℕ) Stop
+text_at text = text_or text (text_behind (drop 1 text))
+
+unfoldable pub doc_at : List ℕ → Result (Found × ℕ) Stop
+doc_at text = doc_or text (doc_behind (drop 3 text))
+
 -- the piece with which a text begins, and its length
 unfoldable pub piece_at : List ℕ → Result (Found × ℕ) Stop
 piece_at [] = Err stop.BadByte
@@ -110,7 +134,14 @@ piece_at (b ∷ bs) =
     else (if begins (b ∷ bs) line_mark then Ok (found.Gap, 2 + prefix_len is_line (drop 2 (b ∷ bs)))
     else (if begins (b ∷ bs) open_mark then block_at (b ∷ bs) (behind 1 (drop 2 (b ∷ bs)))
     else (if is_ascii_digit b then number_at (b ∷ bs)
-    else name_or_sign (b ∷ bs) (name_len (b ∷ bs)))))
+    else (if begins_doc (b ∷ bs) then doc_at (b ∷ bs)
+    else (if is_quote b then text_at (b ∷ bs)
+    else name_or_sign (b ∷ bs) (name_len (b ∷ bs)))))))
+
+-- where the fault stands is within so many bytes
+abbrev pub StopWithin : ℕ → Stop → Type 0
+StopWithin n (stop.BadEscape offset) = offset < n
+StopWithin n _ = ⊤
 
 abbrev pub Fails : {Y : Type 0} → Stop → Result Y Stop → Type 0
 Fails stop.Memory read = Unit {0}
@@ -139,7 +170,7 @@ abbrev pub Stuck : List ℕ → ℕ → List Token → LexFault → Type 0
 Stuck text at old (fault.BadByte p) = (p ≡ at) × (piece_at (drop at text) ≡ Err stop.BadByte)
 Stuck text at old (fault.BadNumber p) = (p ≡ at) × (piece_at (drop at text) ≡ Err stop.BadNumber)
 Stuck text at old (fault.Unclosed p) = (p ≡ at) × (piece_at (drop at text) ≡ Err stop.Unclosed)
-Stuck text at old (fault.BadEscape p) = ⊥
+Stuck text at old (fault.BadEscape p) = (offset : ℕ) × (p ≡ at + offset) × (piece_at (drop at text) ≡ Err (stop.BadEscape offset))
 Stuck text at old (fault.TooMany p) = (p ≡ at) × (token_limit ≤ length old) × (x : Found × ℕ) × (piece_at (drop at text) ≡ Ok x) × (is_gap x.0 ≡ false)
 Stuck text at old fault.Memory = ⊤
 
@@ -147,6 +178,7 @@ abbrev pub fault_at : Stop → ℕ → LexFault
 fault_at stop.BadByte at = fault.BadByte at
 fault_at stop.BadNumber at = fault.BadNumber at
 fault_at stop.Unclosed at = fault.Unclosed at
+fault_at (stop.BadEscape offset) at = fault.BadEscape (at + offset)
 fault_at stop.Memory at = fault.Memory
 
 -- a number, if it is below 2 ^ 64

@@ -5,7 +5,7 @@ ghost use Rattle.pc_lex.specs.Limits.{text_limit, token_limit};
 ghost use Rattle.pc_lex.specs.Pieces as pieces;
 ghost use Rattle.pc_lex.specs.Pieces.{Tokens, FirstFault};
 ghost use Rattle.pc_lex.specs.Reading as reading;
-ghost use Rattle.pc_lex.specs.Reading.{Steps, Stuck};
+ghost use Rattle.pc_lex.specs.Reading.{Steps, StopWithin, Stuck};
 ghost use Rattle.pc_lex.specs.Answers.{TokenList, Refuses, Answers};
 
 use crate::fault::LexFault;
@@ -24,12 +24,14 @@ fn has_line_end(text: &[u8]) -> bool
 }
 
 fn fault_at(stop: Stop, place: u32) -> LexFault
+    requires { StopWithin text_limit stop × (place ≤ text_limit) }
     ensures { result ≡ reading.fault_at stop place }
 {
     match stop {
         Stop::BadByte => LexFault::BadByte(place),
         Stop::BadNumber => LexFault::BadNumber(place),
         Stop::Unclosed => LexFault::Unclosed(place),
+        Stop::BadEscape(offset) => LexFault::BadEscape(place + offset as u32),
         Stop::Memory => LexFault::Memory,
     }
 }

@@ -9,6 +9,7 @@ mod lexing;
 mod names;
 mod numbers;
 mod pieces;
+mod texts;
 
 pub use fault::LexFault;
 pub use laws::{faults_are_told, tokens_are_one};

@@ -1,7 +1,7 @@
-ghost use Rattle.std.specs.Prelude.{◌≡◌, ◌<◌, ◌≤◌, ◌+◌, ◌*◌, ◌==◌, ◌&&◌, length, drop, slice_index, true, IfOk};
+ghost use Rattle.std.specs.Prelude.{◌≡◌, ◌<◌, ◌≤◌, ◌+◌, ◌*◌, ◌==◌, ◌&&◌, length, drop, slice_index, true, IfOk, IfErr};
 ghost use Rattle.std.specs.Char.{is_digit, digit_value};
 ghost use Rattle.pc_lex.specs.Bytes.{first_test};
-ghost use Rattle.pc_lex.specs.Reading.{BelowOrNone};
+ghost use Rattle.pc_lex.specs.Reading.{BelowOrNone, StopWithin};
 ghost use Rattle.pc_lex.specs.Reading as reading;
 
 use crate::classes::is_joined;
@@ -115,6 +115,7 @@ fn base_at(text: &[u8]) -> (u8, usize)
 pub fn number_at(text: &[u8]) -> Result<(Found, usize), Stop>
     ensures value { result ≡ reading.number_at text.now }
     ensures within { IfOk result (λ r. r.1 ≤ length text.now) }
+    ensures short { IfErr result (StopWithin (length text.now)) }
 {
     let (base, skip) = base_at(text);
     let n = digits_len(&text[skip..], base);

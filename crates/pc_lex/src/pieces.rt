@@ -1,11 +1,12 @@
-ghost use Rattle.std.specs.Prelude.{◌≡◌, ◌<◌, ◌≤◌, length, IfOk};
+ghost use Rattle.std.specs.Prelude.{◌≡◌, ◌<◌, ◌≤◌, length, IfOk, IfErr};
 ghost use Rattle.pc_lex.specs.Reading as reading;
-ghost use Rattle.pc_lex.specs.Reading.{Gives};
+ghost use Rattle.pc_lex.specs.Reading.{Gives, StopWithin};
 
 use crate::classes::{Class, is_blank, run};
 use crate::comments::block_len;
 use crate::names::{name_kind, name_len};
 use crate::numbers::number_at;
+use crate::texts::{EscapeFault, begins_doc, doc_len, quote_len, text_value};
 use pc_token::{TokenKind, sign_at};
 use std::alloc::{AllocError, Global};
 
@@ -22,6 +23,8 @@ pub enum Stop {
     BadByte,
     Unclosed,
     BadNumber,
+    /// With the offset from the start of the text.
+    BadEscape(usize),
     Memory,
 }
 
@@ -35,12 +38,46 @@ impl From<AllocError> for Stop {
     }
 }
 
+/// The text literal at the front, where a `"` stands, and its length.
+#[tactic(auto, using(crate::proofs::TextCut::text_found), unfolding(crate::specs::Reading::text_at))]
+fn text_at(alloc: Global, text: &[u8]) -> Result<(Found, usize), Stop>
+    requires { 0 < length text.now }
+    ensures gives { Gives result (reading.text_at text.now) }
+    ensures within { IfOk result (λ r. r.1 ≤ length text.now) }
+    ensures short { IfErr result (StopWithin (length text.now)) }
+{
+    let n = match quote_len(&text[1..]) {
+        Some(n) => n,
+        None => return Err(Stop::Unclosed),
+    };
+    match text_value(alloc, &text[1..n + 1]) {
+        Ok(value) => Ok((Found::Token(TokenKind::Text(value)), n + 2)),
+        Err(EscapeFault::BadEscape(at)) => Err(Stop::BadEscape(at + 1)),
+        Err(EscapeFault::Memory) => Err(Stop::Memory),
+    }
+}
+
+/// The doc at the front, where a `"""` stands, and its length.
+#[tactic(auto, unfolding(crate::specs::Reading::doc_at))]
+fn doc_at(text: &[u8]) -> Result<(Found, usize), Stop>
+    requires { 3 ≤ length text.now }
+    ensures gives { Gives result (reading.doc_at text.now) }
+    ensures within { IfOk result (λ r. r.1 ≤ length text.now) }
+    ensures short { IfErr result (StopWithin (length text.now)) }
+{
+    match doc_len(&text[3..]) {
+        Some(n) => Ok((Found::Token(TokenKind::Doc), n + 6)),
+        None => Err(Stop::Unclosed),
+    }
+}
+
 /// The blank, comment or token with which a text begins, and its length.
 #[tactic(auto, unfolding(crate::specs::Reading::piece_at))]
 pub fn piece_at(alloc: Global, text: &[u8]) -> Result<(Found, usize), Stop>
     requires { 0 < length text.now }
     ensures gives { Gives result (reading.piece_at text.now) }
     ensures within { IfOk result (λ r. r.1 ≤ length text.now) }
+    ensures short { IfErr result (StopWithin (length text.now)) }
 {
     if is_blank(text[0]) {
         return Ok((Found::Gap, 1));
@@ -56,6 +93,12 @@ pub fn piece_at(alloc: Global, text: &[u8]) -> Result<(Found, usize), Stop>
     }
     if text[0].is_ascii_digit() {
         return number_at(text);
+    }
+    if begins_doc(text) {
+        return doc_at(text);
+    }
+    if text[0] == b'"' {
+        return text_at(alloc, text);
     }
     let n = name_len(text);
     if n > 0 {

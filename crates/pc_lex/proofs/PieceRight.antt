@@ -1,0 +1,61 @@
+-- What it is that a piece is read rightly.
+use Rattle.std.proofs.Common.{◌≡◌, ℕ, ◌<◌, ◌≤◌, Bool, true, false, List, [], ◌∷◌, ◌++◌, length, take, drop, Result, Ok, Err, refl, sym, ap, ◌∙◌, subst, inl, inr, arith, take-append-drop, length-take-le}
+use Rattle.std.proofs.lemmas.Bool.{true≢false}
+use Rattle.std.specs.Char.{is_ascii_digit}
+use Rattle.pc_token.specs.declared.kinds.TokenKind.{TokenKind}
+use Rattle.pc_token.specs.declared.kinds.TokenKind.TheVariants as kinds
+use Rattle.pc_lex.specs.declared.pieces.Found.{Found}
+use Rattle.pc_lex.specs.declared.pieces.Found.TheVariants as found
+use Rattle.pc_lex.specs.declared.pieces.Stop.{Stop}
+use Rattle.pc_lex.specs.declared.pieces.Stop.TheVariants as stop
+use Rattle.pc_lex.specs.Bytes.{first_test, is_blank, begins, begins_comment, line_mark, open_mark}
+use Rattle.pc_lex.specs.Texts.{begins_doc, is_quote, BadEscapeIn}
+use Rattle.pc_lex.specs.Pieces.{Opens, EndsWell, Spells, Piece, gap, token, Stands, NoPiece, IsGap, Closes}
+
+abbrev pub piece_of : Found → List ℕ → Piece
+piece_of found.Gap b = gap b
+piece_of (found.Token kind) b = token kind b
+
+-- What is read is right: a piece and its length, or the fault.
+abbrev pub Right : List ℕ → Result (Found × ℕ) Stop → Type 0
+Right text (Ok r) = (0 < r.1) × (r.1 ≤ length text) × Stands (piece_of r.0 (take r.1 text)) (drop r.1 text)
+Right text (Err stop.BadByte) = NoPiece text × (begins text open_mark ≡ false) × (first_test is_ascii_digit text ≡ false) × (first_test is_quote text ≡ false)
+Right text (Err stop.BadNumber) = NoPiece text × (first_test is_ascii_digit text ≡ true)
+Right text (Err stop.Unclosed) = NoPiece text × Opens text
+Right text (Err (stop.BadEscape offset)) = NoPiece text × (begins_doc text ≡ false) × BadEscapeIn text offset
+Right text (Err stop.Memory) = ⊥
+
+no_comment : (text : List ℕ) (n : ℕ) → begins text line_mark ≡ false → begins text open_mark ≡ false → begins_comment (take n text ++ drop n text) ≡ false
+no_comment text n line opens = subst (λ l. begins_comment l ≡ false) (sym (take-append-drop n text)) (rw (line, opens) refl)
+
+-- a token of n bytes
+pub token_right : (text : List ℕ) (kind : TokenKind) (n : ℕ) → 0 < n → n ≤ length text → begins text line_mark ≡ false → begins text open_mark ≡ false → (begins_doc text ≡ true → kind ≡ kinds.Doc) → Spells kind (take n text)
+    → EndsWell kind (drop n text) → ((other : TokenKind) (more after : List ℕ) → text ≡ more ++ after → Spells other more → length more ≤ n) → Right text (Ok (found.Token kind, n))
+token_right text kind n some within line opens doc spelled ends longest = (
+  some,
+  within,
+  record {
+    spelled = spelled;
+    longest = λ other more after e h. omega (arith, longest other more after (sym (take-append-drop n text) ∙ e) h, length-take-le n text within);
+    no_comment = no_comment text n line opens;
+    doc = λ d. doc (ap begins_doc (sym (take-append-drop n text)) ∙ d);
+    ends = ends;
+  },
+)
+
+abbrev pub first_blank : List ℕ → Bool
+first_blank [] = false
+first_blank (b ∷ bs) = is_blank b
+
+pub gap_no : (text b rest : List ℕ) → first_blank text ≡ false → begins text line_mark ≡ false → text ≡ b ++ rest → IsGap b rest → (t : List ℕ) × (text ≡ 47 ∷ 42 ∷ t) × Closes t rest
+gap_no text b rest blank line e (inl (c, one, is)) =
+    let same : text ≡ c ∷ rest = e ∙ ap (λ l. l ++ rest) one in
+    absurd (true≢false (sym is ∙ sym (ap first_blank same) ∙ blank))
+gap_no text b rest blank line e (inr (inl (t, one, all, stops))) =
+    let same : text ≡ 47 ∷ 47 ∷ (t ++ rest) = e ∙ ap (λ l. l ++ rest) one in
+    absurd (true≢false (sym (ap (λ l. begins l line_mark) same) ∙ line))
+gap_no text b rest blank line e (inr (inr (t, same, closes))) = (t, e ∙ same, closes)
+
+-- where neither a blank stands nor a comment begins, there is no gap
+pub never_gap : (text b rest : List ℕ) → first_blank text ≡ false → begins text line_mark ≡ false → begins text open_mark ≡ false → text ≡ b ++ rest → IsGap b rest → ⊥
+never_gap text b rest blank line opens e h = let c = gap_no text b rest blank line e h in true≢false (sym (ap (λ l. begins l open_mark) c.1) ∙ opens)

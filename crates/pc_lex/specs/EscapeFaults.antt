@@ -1,0 +1,15 @@
+-- The faults of the bytes between the quotes of a text.
+use Rattle.std.specs.Prelude.{◌≡◌, List, ℕ, Result, Ok, Err, ⊤}
+use Rattle.pc_lex.specs.declared.texts.EscapeFault.{EscapeFault}
+use Rattle.pc_lex.specs.declared.texts.EscapeFault.TheVariants as fault
+use Rattle.pc_lex.specs.Texts.{BadAt}
+
+abbrev pub IsBadEscape : List ℕ → EscapeFault → Type 0
+IsBadEscape b (fault.BadEscape at) = BadAt b at
+IsBadEscape b fault.Memory = ⊤
+
+-- What a function returned is what is read, unless memory ran out.
+abbrev pub GivesValue : Result (List ℕ) EscapeFault → Result (List ℕ) ℕ → Type 0
+GivesValue (Ok v) read = read ≡ Ok v
+GivesValue (Err (fault.BadEscape at)) read = read ≡ Err at
+GivesValue (Err fault.Memory) read = ⊤
