@@ -17,7 +17,7 @@ use Rattle.pc_lex.specs.Limits.{token_limit}
 use Rattle.pc_lex.specs.Texts.{is_quote, TextBytes, DocBytes, begins_doc, NeverEnds, BadEscapeIn}
 use Rattle.pc_lex.specs.Bytes.{is_blank, is_tail, is_prime, is_line, begins, begins_comment, open_mark, close_mark, hex_mark, bin_mark, is_joined, first_test}
 
--- An optional `_`, a letter of this case, then letters, digits and `_`, then any number of `'`.
+-- A letter of this case, before it one `_` or nothing, behind it letters, digits and `_`, and at the end `'`s.
 pub record NameText (is_head : ℕ → Bool) (text : List ℕ) : Type 0 where
   pub under : List ℕ
   pub head : ℕ

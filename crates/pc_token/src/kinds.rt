@@ -5,10 +5,10 @@ use pc_caps::{List, Span};
 /// What a token is, with what it carries. The tokens are those of this project's profile of Pony.
 #[derive(Debug, Drop)]
 pub enum TokenKind {
-    /// A name that is no reserved word, in bytes: an optional `_`, a small letter, then letters, digits and `_`, then
-    /// any number of `'`.
+    /// A name that is no reserved word, in bytes: a small letter, before it one `_` or nothing, behind it any number of
+    /// letters, digits and `_`, and at the end any number of `'`.
     Name(List<u8>),
-    /// A type name, in bytes: the same with a capital in place of the small letter.
+    /// A type name, in bytes: the same with a capital letter.
     TypeName(List<u8>),
     /// A reserved word.
     Word(Word),
