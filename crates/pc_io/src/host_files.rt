@@ -191,6 +191,9 @@ mod tests {
             }
         }
 
+        fs::remove_file(&rt, "four")?;
+        fs::remove_file(&rt, "none")?;
+
         // A reader that fails in mid-stream, and one that has more than the limit before.
         for (room, limit, wanted, length) in [
             (5, 9, FileFault::Failed, 5),
