@@ -17,12 +17,14 @@ use std::alloc::Global;
 /// How many tokens a text may have, its end not counted.
 const TOKEN_LIMIT: usize = 200_000;
 
+/// Whether an LF is among some bytes.
 fn has_line_end(text: &[u8]) -> bool
     ensures { result ≡ pieces.has_line_end text.now }
 {
     text.contains(&b'\n')
 }
 
+/// The fault of a text at the place where it begins with no piece.
 fn fault_at(stop: Stop, place: u32) -> LexFault
     requires { StopWithin text_limit stop × (place ≤ text_limit) }
     ensures { result ≡ reading.fault_at stop place }

@@ -1,4 +1,4 @@
-//! The tokens of a source text.
+//! The tokens of a source text. `docs/tokens.md` says what they are, `specs/Pieces.antt` defines it.
 #![tactic(auto)]
 
 mod classes;

@@ -13,18 +13,24 @@ use std::alloc::{AllocError, Global};
 /// What a text begins with: a blank or a comment, or a token.
 #[derive(Debug, Drop)]
 pub enum Found {
+    /// A blank or a comment.
     Gap,
+    /// A token of this kind.
     Token(TokenKind),
 }
 
 /// Why a text begins with none of these.
 #[derive(Debug)]
 pub enum Stop {
+    /// Nothing begins with the first byte.
     BadByte,
+    /// The comment, text or doc that begins here does not end.
     Unclosed,
+    /// The digits that begin here are no number.
     BadNumber,
-    /// With the offset from the start of the text.
+    /// The text literal has a bad escape, so many bytes from its start.
     BadEscape(usize),
+    /// Memory ran out.
     Memory,
 }
 

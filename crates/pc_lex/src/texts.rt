@@ -14,6 +14,7 @@ use std::alloc::{AllocError, Global};
 pub enum EscapeFault {
     /// The place of a `\` that begins no escape.
     BadEscape(usize),
+    /// Memory ran out.
     Memory,
 }
 
