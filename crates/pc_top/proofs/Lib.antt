@@ -1,0 +1,12 @@
+mod Accepted
+mod Answers
+mod Classes
+mod Definitions
+mod Facts
+mod Lives
+mod Names
+mod One
+mod Parts
+mod Places
+mod Spelled
+mod Spelling

@@ -1,0 +1,47 @@
+-- The verdict on the words of a command line.
+use Rattle.std.specs.Prelude.{ℕ, ◌≡◌, Option, Some, None, List, IfSome}
+use Rattle.pc_top.specs.Check.{IsCheck}
+use Rattle.pc_top.specs.Command.{Text, Asked, check, command_of}
+use Rattle.pc_top.specs.FirstForm.{IsSound}
+use Rattle.pc_top.specs.Lines.{usage_line}
+use Rattle.pc_top.specs.Named.{Named, file_at, FailedAt}
+use Rattle.pc_top.specs.Verdict.{Verdict, refused}
+
+-- What files tell, how often reading each name had failed before and after a call, and how many bytes its last reading
+-- took.
+pub record Files : Type 0 where
+  pub told : Text → Option Text
+  pub before : Text → ℕ
+  pub now : Text → ℕ
+  pub taken : ℕ
+
+abbrev pub files_change : (Text → Option Text) → (Text → ℕ) → (Text → ℕ) → ℕ → Files
+files_change told before now taken = record { told = told; before = before; now = now; taken = taken }
+
+abbrev pub named : Files → Text → Named
+named files name = file_at files.told files.before files.now files.taken name
+
+-- Words that are no command's are refused with status 2.
+abbrev pub IsVerdictOf : Files → Option Asked → Verdict → Type 0
+IsVerdictOf files None v = v ≡ refused 2 usage_line
+IsVerdictOf files (Some (check source)) v = IsCheck (named files source) v
+
+-- The verdict on the words: a status, a text on out and a line on err.
+abbrev pub IsVerdict : Files → List Text → Verdict → Type 0
+IsVerdict files words v = IsVerdictOf files (command_of words) v
+
+abbrev pub FailedOf : Files → Option Asked → Text → Type 0
+FailedOf files None name = ⊥
+FailedOf files (Some (check source)) name = FailedAt (named files source) name
+
+-- A name that the command of the words reads, whose failures rose.
+abbrev pub FailedIn : Files → List Text → Text → Type 0
+FailedIn files words name = FailedOf files (command_of words) name
+
+abbrev pub AcceptsOf : (Text → Option Text) → Option Asked → Type 0
+AcceptsOf told None = ⊥
+AcceptsOf told (Some (check source)) = IfSome (told source) IsSound
+
+-- The source that the words name is sound, where it is told.
+abbrev pub Accepts : (Text → Option Text) → List Text → Type 0
+Accepts told words = AcceptsOf told (command_of words)

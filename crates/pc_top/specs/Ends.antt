@@ -1,0 +1,36 @@
+-- How a command ended, by its verdict, by the names whose faults rose and by what happened to out.
+use Rattle.std.specs.Prelude.{ℕ, ◌≡◌, ◌⊎◌, [], Option, Result, MatchResult}
+use Rattle.std.specs.Io.KnownBytes.{Appends, Keeps}
+use Rattle.pc_io.specs.Sink.{Rose, GrowsByPrefix}
+use Rattle.pc_top.specs.Command.{Text}
+use Rattle.pc_top.specs.Verdict.{Verdict}
+use Rattle.pc_top.specs.declared.stop.Stop.{Stop}
+use Rattle.pc_top.specs.declared.stop.Stop.TheVariants.{Refused, File, Sink, Memory}
+
+-- What out told and how often it failed, before and after a call.
+pub record Change : Type 0 where
+  pub before : Option Text
+  pub now : Option Text
+  pub faults_before : ℕ
+  pub faults_now : ℕ
+
+abbrev pub change : Option Text → Option Text → ℕ → ℕ → Change
+change before now faults_before faults_now =
+    record { before = before; now = now; faults_before = faults_before; faults_now = faults_now }
+
+-- The verdict's text went to out, and the rest of it is this.
+abbrev pub Tells : (Verdict → Type 0) → Change → ℕ → Text → Type 0
+Tells V out status line = (v : Verdict) × V v × (v.status ≡ status) × (v.err ≡ line) × Appends out.before out.now v.out
+
+-- A part of the verdict's text went to out.
+abbrev pub TellsPart : (Verdict → Type 0) → Change → Type 0
+TellsPart V out = (v : Verdict) × V v × GrowsByPrefix out.before out.now v.out
+
+abbrev pub Stops : (Verdict → Type 0) → (Text → Type 0) → Change → Stop → Type 0
+Stops V Failed out (Refused status line) = Tells V out status line
+Stops V Failed out (File name) = Failed name × Keeps out.before out.now
+Stops V Failed out Sink = Rose out.faults_before out.faults_now × TellsPart V out
+Stops V Failed out Memory = Keeps out.before out.now ⊎ TellsPart V out
+
+abbrev pub Ends : (Verdict → Type 0) → (Text → Type 0) → Change → Result (Unit {0}) Stop → Type 0
+Ends V Failed out result = MatchResult result (λ _. Tells V out 0 []) (Stops V Failed out)

@@ -1,0 +1,35 @@
+-- A file of a command, and what reading it gives.
+use Rattle.std.specs.Prelude.{ℕ, ◌≡◌, ◌<◌, ◌≤◌, List, length, Option, IfSome}
+use Rattle.pc_top.specs.Command.{Text}
+
+-- A file by its name: the bytes that are told, and how often its reading had failed before and after a call.
+pub record Named : Type 0 where
+  pub name : Text
+  pub told : Option Text
+  pub before : ℕ
+  pub now : ℕ
+  -- the bytes that the last reading of the call took
+  pub taken : ℕ
+
+-- the file of this name, by the meanings of the files before and after a call
+abbrev pub file_at : (Text → Option Text) → (Text → ℕ) → (Text → ℕ) → ℕ → Text → Named
+file_at told before now taken name =
+    record { name = name; told = told name; before = before name; now = now name; taken = taken }
+
+-- What reading up to a limit gives: all bytes of the file, or that there are more.
+pub data Reading : Type 0 where
+  whole : List ℕ → Reading
+  longer : Reading
+
+-- A reading of a file that tells these bytes gives this. Where its failures rose, `longer` may be wrong.
+abbrev pub IsReading : ℕ → Option (List ℕ) → ℕ → ℕ → ℕ → Reading → Type 0
+IsReading limit told before now taken (whole bytes) = (length bytes ≤ limit) × IfSome told (λ b. bytes ≡ b)
+IsReading limit told before now taken longer = (limit < taken) × (now ≡ before → IfSome told (λ b. limit < length b))
+
+-- Reading the file up to a limit gives this.
+abbrev pub Gives : Named → ℕ → Reading → Type 0
+Gives file limit reading = IsReading limit file.told file.before file.now file.taken reading
+
+-- This is the file's name, and its failures rose.
+abbrev pub FailedAt : Named → Text → Type 0
+FailedAt file name = (name ≡ file.name) × (file.before < file.now)

@@ -1,0 +1,84 @@
+//! The top call.
+ghost use Rattle.std.specs.Prelude.{◌≡◌, ◌≤◌};
+ghost use Rattle.pc_top.specs.Answer.{Answer, IsWordsRefusal};
+ghost use Rattle.pc_top.specs.Asked.{Accepts, FailedIn, IsVerdict, files_change};
+ghost use Rattle.pc_top.specs.Command.{texts};
+ghost use Rattle.pc_top.specs.Complete.{Completes};
+ghost use Rattle.pc_top.specs.Ends.{Ends, change};
+ghost use Rattle.pc_top.specs.One.{VerdictIsOne};
+
+use crate::check::run_check;
+use crate::command::{Command, read_words};
+use crate::finish::finish;
+use crate::first_form::program_is_one;
+use crate::lines::make_usage_line;
+use crate::stop::Stop;
+use pc_io::{Files, Sink};
+use std::alloc::Global;
+
+/// Does what the words after the program's name ask for, and answers the exit status.
+///
+/// The status is 0 where the command is done, with its text on out, and else that of the refusal, with its line on err.
+/// It is 9 where a file of the command could not be read, 10 where out or err failed, and 11 at want of memory. The text is
+/// one call of `put` on out and the line one on err; after a failed call on out nothing is written to err.
+pub fn rcap<F: Files, O: Sink, E: Sink>(
+    alloc: Global,
+    words: &[&str],
+    files: &mut F,
+    out: &mut O,
+    err: &mut E,
+) -> u8
+    // The status, the text on out and the line on err are the verdict's, or the answer is a fault with its cause, or want
+    // of memory.
+    ensures answers { let files = files_change (F.bytes files.old) (F.faults files.old) (F.faults files.new) (F.taken files.new) in
+        Answer (IsVerdict files (texts words.now)) (FailedIn files (texts words.now))
+        (change (O.written out.old) (O.written out.new) (O.faults out.old) (O.faults out.new))
+        (change (E.written err.old) (E.written err.new) (E.faults err.old) (E.faults err.new)) result }
+
+    // What is accepted has the first form, and every definition of it holds.
+    ensures accepted { result ≡ 0 → Accepts (F.bytes files.old) (texts words.now) }
+
+    // Where no file of the command and no sink failed, the answer is the verdict or want of memory.
+    ensures completes { let files = files_change (F.bytes files.old) (F.faults files.old) (F.faults files.new) (F.taken files.new) in
+        Completes (IsVerdict files (texts words.now)) (FailedIn files (texts words.now))
+        (change (O.written out.old) (O.written out.new) (O.faults out.old) (O.faults out.new))
+        (change (E.written err.old) (E.written err.new) (E.faults err.old) (E.faults err.new)) result }
+{
+    let ended = run_words(alloc, words, files, out);
+    finish(alloc, ended, err)
+}
+
+// Runs the command of the words.
+fn run_words<F: Files, O: Sink>(
+    alloc: Global,
+    words: &[&str],
+    files: &mut F,
+    out: &mut O,
+) -> Result<(), Stop>
+    ensures out_later { O.faults out.old ≤ O.faults out.new }
+    ensures ends { let files = files_change (F.bytes files.old) (F.faults files.old) (F.faults files.new) (F.taken files.new) in
+        Ends (IsVerdict files (texts words.now)) (FailedIn files (texts words.now))
+        (change (O.written out.old) (O.written out.new) (O.faults out.old) (O.faults out.new)) result }
+{
+    match read_words(words) {
+        None => Err(refuse_words(alloc)),
+        Some(Command::Check { source }) => run_check(alloc, files, out, source),
+    }
+}
+
+// The refusal of words that are no command's.
+fn refuse_words(alloc: Global) -> Stop
+    ensures { IsWordsRefusal result }
+{
+    match make_usage_line(alloc) {
+        Ok(line) => Stop::Refused { status: 2, line },
+        Err(_) => Stop::Memory,
+    }
+}
+
+/// There is one verdict for the words and for what the files tell.
+pub fn verdict_is_one()
+    ensures { VerdictIsOne }
+{
+    program_is_one();
+}
