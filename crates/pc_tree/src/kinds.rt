@@ -43,3 +43,14 @@ pub enum Op {
     /// `isnt`: not the same object.
     Isnt,
 }
+
+/// The word that begins a method (the Pony tutorial).
+#[derive(Clone, Copy, Debug, PartialEq, Eq)]
+pub enum MethodWord {
+    /// `fun`: a function, which runs at once.
+    Fun,
+    /// `be`: a behaviour, which runs later, as a message.
+    Be,
+    /// `new`: a constructor.
+    New,
+}

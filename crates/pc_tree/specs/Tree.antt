@@ -1,0 +1,137 @@
+-- The tree as plain data: no pointers, and each list of subtrees a type of its own.
+use Rattle.std.specs.Prelude.{ℕ, List, [], ◌∷◌, Bool, Option}
+use Rattle.pc_caps.specs.declared.span.Span.{Span}
+use Rattle.pc_caps.specs.declared.capability.Cap.{Cap}
+use Rattle.pc_tree.specs.declared.kinds.Op.{Op}
+use Rattle.pc_tree.specs.declared.kinds.EntityKind.{EntityKind}
+use Rattle.pc_tree.specs.declared.kinds.MethodWord.{MethodWord}
+use Rattle.pc_tree.specs.declared.names.Name.{Name}
+use Rattle.pc_tree.specs.declared.names.TypeRef.{TypeRef}
+use Rattle.pc_tree.specs.declared.file.ParamDef.{ParamDef}
+
+mutual
+  pub data Expr : Type 0 where
+    number : ℕ → Span → Expr
+    truth : Bool → Span → Expr
+    text : List ℕ → Span → Expr
+    name : Name → Expr
+    type_name : Name → Expr
+    this : Span → Expr
+    consume : Name → Span → Expr
+    not_ : Expr → Span → Expr
+    infix_ : Op → Exprs → Span → Expr
+    chain : Expr → Suffixes → Span → Expr
+    group : Seq → Span → Expr
+    if_ : Arms → Other → Span → Expr
+    while_ : Seq → Seq → Span → Expr
+    recover : Option Cap → Seq → Span → Expr
+    assign : Expr → Expr → Span → Expr
+
+  pub data Exprs : Type 0 where
+    no_exprs : Exprs
+    expr : Expr → Exprs → Exprs
+
+  pub data Suffix : Type 0 where
+    dot : Name → Suffix
+    args : Exprs → Span → Suffix
+
+  pub data Suffixes : Type 0 where
+    no_suffixes : Suffixes
+    suffix : Suffix → Suffixes → Suffixes
+
+  -- a condition and what is done where it holds
+  pub data Arm : Type 0 where
+    arm_of : Seq → Seq → Span → Arm
+
+  pub data Arms : Type 0 where
+    no_arms : Arms
+    arm : Arm → Arms → Arms
+
+  -- what stands after `else`, if anything
+  pub data Other : Type 0 where
+    no_other : Other
+    other : Seq → Other
+
+  pub data Seq : Type 0 where
+    seq : Items → Span → Seq
+
+  pub data Item : Type 0 where
+    local : Bool → Name → Option TypeRef → Expr → Span → Item
+    plain : Expr → Item
+
+  pub data Items : Type 0 where
+    no_items : Items
+    item : Item → Items → Items
+
+pub record Field : Type 0 where
+  pub fixed : Bool
+  pub name : Name
+  pub ty : TypeRef
+  pub value : Option Expr
+
+pub record Method : Type 0 where
+  pub word : MethodWord
+  pub cap : Option Cap
+  pub name : Name
+  pub params : List ParamDef
+  pub result : Option TypeRef
+  pub body : Option Seq
+
+pub record Entity : Type 0 where
+  pub kind : EntityKind
+  pub cap : Option Cap
+  pub name : Name
+  pub provides : List Name
+  pub fields : List Field
+  pub methods : List Method
+
+pub record File : Type 0 where
+  pub entities : List Entity
+
+abbrev pub exprs_of : List Expr → Exprs
+exprs_of [] = no_exprs
+exprs_of (e ∷ es) = expr e (exprs_of es)
+
+abbrev pub suffixes_of : List Suffix → Suffixes
+suffixes_of [] = no_suffixes
+suffixes_of (s ∷ ss) = suffix s (suffixes_of ss)
+
+abbrev pub arms_of : List Arm → Arms
+arms_of [] = no_arms
+arms_of (a ∷ more) = arm a (arms_of more)
+
+abbrev pub items_of : List Item → Items
+items_of [] = no_items
+items_of (i ∷ is) = item i (items_of is)
+
+-- where each part lies in the text
+abbrev pub span_of : Expr → Span
+span_of (number n s) = s
+span_of (truth b s) = s
+span_of (text b s) = s
+span_of (name n) = n.span
+span_of (type_name n) = n.span
+span_of (this s) = s
+span_of (consume n s) = s
+span_of (not_ e s) = s
+span_of (infix_ o es s) = s
+span_of (chain e ss s) = s
+span_of (group b s) = s
+span_of (if_ a o s) = s
+span_of (while_ c b s) = s
+span_of (recover c b s) = s
+span_of (assign l r s) = s
+
+abbrev pub suffix_span : Suffix → Span
+suffix_span (dot n) = n.span
+suffix_span (args es s) = s
+
+abbrev pub arm_span : Arm → Span
+arm_span (arm_of c b s) = s
+
+abbrev pub seq_span : Seq → Span
+seq_span (seq is s) = s
+
+abbrev pub item_span : Item → Span
+item_span (local f n t e s) = s
+item_span (plain e) = span_of e

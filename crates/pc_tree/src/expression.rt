@@ -1,0 +1,125 @@
+use crate::kinds::Op;
+use crate::names::{Name, TypeRef};
+use pc_caps::{Cap, List, Span};
+
+/// A sequence: one or more items, of which the last gives the value.
+#[cycle(tree)]
+#[derive(Debug, Drop)]
+pub struct Seq {
+    pub items: List<Item>,
+    /// From its first token to its last.
+    pub span: Span,
+}
+
+/// One item of a sequence.
+#[cycle(tree)]
+#[derive(Debug, Drop)]
+pub enum Item {
+    /// `let x: T = value` or `var x: T = value`.
+    Local {
+        /// Whether the word is `let`: the local is never assigned again.
+        fixed: bool,
+        name: Name,
+        /// The type, where one is written.
+        ty: Option<TypeRef>,
+        value: Expr,
+        span: Span,
+    },
+    /// An expression.
+    Plain(Expr),
+}
+
+/// An expression (the Pony tutorial). An operator of one term, an atom without suffixes and an expression without `=` are
+/// the thing itself.
+#[cycle(tree)]
+#[derive(Debug, Drop)]
+pub enum Expr {
+    Number {
+        value: u64,
+        span: Span,
+    },
+    /// `true` or `false`.
+    Truth {
+        value: bool,
+        span: Span,
+    },
+    /// A text literal.
+    Text {
+        /// The bytes that it stands for.
+        bytes: List<u8>,
+        span: Span,
+    },
+    Name(Name),
+    TypeName(Name),
+    This(Span),
+    /// `consume x`: the local's value, which leaves the local.
+    Consume {
+        name: Name,
+        span: Span,
+    },
+    Not {
+        inner: Box<Expr>,
+        span: Span,
+    },
+    /// Two or more terms with one operator between them, which groups to the left.
+    Infix {
+        op: Op,
+        terms: List<Expr>,
+        span: Span,
+    },
+    /// An atom with one or more suffixes.
+    Chain {
+        head: Box<Expr>,
+        suffixes: List<Suffix>,
+        span: Span,
+    },
+    /// A sequence in parentheses; the span has both of them.
+    Group {
+        body: Box<Seq>,
+        span: Span,
+    },
+    If {
+        /// The `if` and each `elseif`.
+        arms: List<Arm>,
+        /// What stands after `else`, where it is written.
+        other: Option<Box<Seq>>,
+        /// From `if` to `end`.
+        span: Span,
+    },
+    While {
+        cond: Box<Seq>,
+        body: Box<Seq>,
+        span: Span,
+    },
+    Recover {
+        /// The capability, where one is written.
+        cap: Option<Cap>,
+        body: Box<Seq>,
+        span: Span,
+    },
+    Assign {
+        left: Box<Expr>,
+        right: Box<Expr>,
+        span: Span,
+    },
+}
+
+/// What may stand behind an atom.
+#[cycle(tree)]
+#[derive(Debug, Drop)]
+pub enum Suffix {
+    /// `.name`; the name alone has a span.
+    Dot(Name),
+    /// Arguments in parentheses; the span has both of them.
+    Args { args: List<Expr>, span: Span },
+}
+
+/// A condition and what is done where it holds.
+#[cycle(tree)]
+#[derive(Debug, Drop)]
+pub struct Arm {
+    pub cond: Seq,
+    pub body: Seq,
+    /// From its word, `if` or `elseif`, to the end of its body.
+    pub span: Span,
+}

@@ -1,0 +1,55 @@
+use crate::expression::{Expr, Seq};
+use crate::kinds::{EntityKind, MethodWord};
+use crate::names::{Name, TypeRef};
+use pc_caps::{Cap, List};
+
+/// The tree of a whole source text.
+#[derive(Debug, Drop)]
+pub struct File {
+    pub entities: List<Entity>,
+}
+
+/// A class, an actor, a primitive or a trait (the Pony tutorial).
+#[derive(Debug, Drop)]
+pub struct Entity {
+    pub kind: EntityKind,
+    /// The default capability, where one is written: only after `class` and `trait`.
+    pub cap: Option<Cap>,
+    pub name: Name,
+    /// The type names after `is`.
+    pub provides: List<Name>,
+    pub fields: List<FieldDef>,
+    pub methods: List<MethodDef>,
+}
+
+/// A field.
+#[derive(Debug, Drop)]
+pub struct FieldDef {
+    /// Whether the word is `let`: the field is set once, by each constructor.
+    pub fixed: bool,
+    pub name: Name,
+    pub ty: TypeRef,
+    /// The initial value, where one is written.
+    pub value: Option<Expr>,
+}
+
+/// A parameter.
+#[derive(Debug, Drop)]
+pub struct ParamDef {
+    pub name: Name,
+    pub ty: TypeRef,
+}
+
+/// A method.
+#[derive(Debug, Drop)]
+pub struct MethodDef {
+    pub word: MethodWord,
+    /// The capability after the word, where one is written: of the receiver after `fun`, of the new object after `new`.
+    pub cap: Option<Cap>,
+    pub name: Name,
+    pub params: List<ParamDef>,
+    /// The result's type, where one is written.
+    pub result: Option<TypeRef>,
+    /// The body, where there is one.
+    pub body: Option<Seq>,
+}

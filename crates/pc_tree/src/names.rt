@@ -1,0 +1,19 @@
+use pc_caps::{Cap, List, Span};
+
+/// A name or a type name, as it is written.
+#[derive(Debug, Drop)]
+pub struct Name {
+    /// Its bytes.
+    pub text: List<u8>,
+    pub span: Span,
+}
+
+/// A written type: `C`, `C iso` or, as a result, `C iso^` (the Pony tutorial).
+#[derive(Debug, Drop)]
+pub struct TypeRef {
+    pub name: Name,
+    /// The capability, where one is written.
+    pub cap: Option<Cap>,
+    /// Whether a `^` is written: the value has no name yet. Only a result has one.
+    pub hat: bool,
+}
