@@ -1,6 +1,8 @@
 -- What is accepted is sound.
 use Rattle.std.proofs.Common.{◌≡◌, ℕ, List, Option, Some, None, Ok, Err, refl, sym, ◌∙◌, subst, ap, arith}
 use Rattle.std.specs.Prelude.{IfSome, Result}
+use Rattle.pc_lex.specs.declared.fault.LexFault.{LexFault}
+use Rattle.pc_lex.specs.declared.fault.LexFault.TheVariants as fault
 use Rattle.pc_top.specs.After.After.{stops, goes}
 use Rattle.pc_top.specs.Answer.{Answer}
 use Rattle.pc_top.specs.Answer.Answer.{told, file, out_failed, err_failed, file_err_failed, no_memory}
@@ -9,25 +11,36 @@ use Rattle.pc_top.specs.Check.{CheckStage, IsCheck}
 use Rattle.pc_top.specs.Check.Accepting.{holds, fails}
 use Rattle.pc_top.specs.Command.{Text, Asked, check, command_of}
 use Rattle.pc_top.specs.Ends.{Change}
+use Rattle.pc_top.specs.Faults.{fault_status}
 use Rattle.pc_top.specs.FirstForm.{Says, IsSound}
 use Rattle.pc_top.specs.Meaning.{AllHold}
 use Rattle.pc_top.specs.Named.{Named, Reading, whole, Gives}
 use Rattle.pc_top.specs.Source.{SourceStage, source_limit}
 use Rattle.pc_top.specs.Source.Length.{fits, is_longer}
+use Rattle.pc_top.specs.Source.Lexing.{lexed, faulty}
 use Rattle.pc_top.specs.Source.Form.{says, not_built}
 use Rattle.pc_top.specs.Verdict.{Verdict, ended}
 use Rattle.pc_top.specs.declared.first_form.program.Program.{Program}
 
+fault_refuses : (f : LexFault) → fault_status f ≡ 0 → ⊥
+fault_refuses (fault.BadByte p) e = omega arith
+fault_refuses (fault.Unclosed p) e = omega arith
+fault_refuses (fault.BadNumber p) e = omega arith
+fault_refuses (fault.BadEscape p) e = omega arith
+fault_refuses (fault.TooMany p) e = omega arith
+fault_refuses fault.Memory e = omega arith
+
 source_refuses : {name : Text} {r : Reading} {v : Verdict} → SourceStage name r (Err v) → v.status ≡ 0 → ⊥
 source_refuses (stops is_longer) e = omega arith
-source_refuses (goes fits (not_built n)) e = omega arith
+source_refuses (goes fits (stops (faulty f h))) e = fault_refuses f e
+source_refuses (goes fits (goes t (not_built n))) e = omega arith
 
 -- The source was read whole, and says this program.
 abbrev IsSaid : Reading → Program → Type 0
 IsSaid r p = (bytes : Text) × (r ≡ whole bytes) × Says bytes p
 
 source_says : {name : Text} {r : Reading} {p : Program} → SourceStage name r (Ok p) → IsSaid r p
-source_says (goes (fits {bytes = b}) (says a)) = (b, refl, a)
+source_says (goes (fits {bytes = b}) (goes (lexed {ts = t} l) (says a))) = (b, refl, (t, l.0, a))
 
 check_accepts : {name : Text} {r : Reading} {end : Result Text Verdict} → CheckStage name r end → (ended end).status ≡ 0 → (p : Program) × IsSaid r p × AllHold p.definitions
 check_accepts (stops s) e = absurd (source_refuses s e)

@@ -8,5 +8,6 @@ mod Names
 mod One
 mod Parts
 mod Places
+mod Standing
 mod Spelled
 mod Spelling

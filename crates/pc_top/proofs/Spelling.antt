@@ -18,7 +18,7 @@ use Rattle.pc_top.specs.declared.first_form.program.Initial.{Initial}
 use Rattle.pc_top.specs.declared.first_form.program.Initial.TheVariants as initial
 use Rattle.pc_top.specs.Shape.{◌>>=◌, has_word, has_sign, begins_line, name_at, type_at, cap_at, has_name, has_type, class_at, with_class, classes_of, opens_main, takes_env, is_main, is_definition, initial_at, read_or_new, head_at, defined, definition_at, is_end_kind, ends, definitions_in, definitions_of, program_of}
 use Rattle.pc_top.specs.Written.{Wanted, Are, a_word, a_sign, a_name, a_type, anywhere, word_of_cap, class_tokens, main_tokens, initial_tokens, definition_tokens, definitions_tokens, IsWritten}
-use Rattle.pc_top.proofs.Places.{Stands, put, taken, word_stands, sign_stands, name_stands, type_stands, cap_stands, named_stands, typed_stands, word_there, word_not, sign_there, name_there, type_there, cap_there, named_there, typed_there, line_begins}
+use Rattle.pc_top.proofs.Standing.{Stands, put, taken, word_stands, sign_stands, name_stands, type_stands, cap_stands, named_stands, typed_stands, word_there, word_not, sign_there, name_there, type_there, cap_there, named_there, typed_there, line_begins}
 
 -- The head of Main.
 pub main_written : (ts : List Token) (ws : List Wanted) → is_main ts ≡ true → Are (drop 10 ts) ws → Are ts (main_tokens ++ ws)

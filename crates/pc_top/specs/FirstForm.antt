@@ -19,15 +19,7 @@ Says bytes p = (ts : List Token) × Tokens bytes ts × Spell ts p
 abbrev pub IsSound : List ℕ → Type 0
 IsSound bytes = (p : Program) × Says bytes p × AllHold p.definitions
 
--- A source says at most one program.
-abbrev pub ProgramIsOne : Type 0
-ProgramIsOne = (bytes : List ℕ) (p q : Program) → Says bytes p → Says bytes q → p ≡ q
-
--- What is read of a source: the program that it says, or that it says none.
-abbrev pub IsReadAs : List ℕ → Option Program → Type 0
-IsReadAs bytes read = MatchOption read ((p : Program) → Says bytes p → ⊥) (Says bytes)
-
--- The same of its tokens.
+-- What is read of tokens: the program that they spell, or that they spell none.
 abbrev pub IsRecognised : List Token → Option Program → Type 0
 IsRecognised ts read = MatchOption read ((p : Program) → Spell ts p → ⊥) (Spell ts)
 

@@ -5,12 +5,14 @@ pub mod Check
 pub mod Command
 pub mod Complete
 pub mod Ends
+pub mod Faults
 pub mod FirstForm
 pub mod Lines
 pub mod Meaning
 pub mod Named
 pub mod Naming
 pub mod One
+pub mod Place
 pub mod Reading
 pub mod Shape
 pub mod Source

@@ -25,6 +25,16 @@ PartGives limit Stage file x = (r : Reading) × Gives file limit r × Stage r (O
 abbrev pub PartEnds : {T : Type 0} → ℕ → (Reading → Result T Verdict → Type 0) → Named → Result T Stop → Type 0
 PartEnds limit Stage file result = MatchResult result (PartGives limit Stage file) (PartStops limit Stage file)
 
+-- How stages ended that read no file: with a value, with a refusal, or for want of memory.
+abbrev pub StageStops : {T : Type 0} → (Result T Verdict → Type 0) → Stop → Type 0
+StageStops Stage (Refused status line) = Stage (Err (refused status line))
+StageStops Stage (File name) = ⊥
+StageStops Stage Sink = ⊥
+StageStops Stage Memory = Unit {0}
+
+abbrev pub StageEnds : {T : Type 0} → (Result T Verdict → Type 0) → Result T Stop → Type 0
+StageEnds Stage result = MatchResult result (λ x. Stage (Ok x)) (StageStops Stage)
+
 -- How the writing of a text ended.
 abbrev pub WriteStops : Text → Change → Stop → Type 0
 WriteStops text out (Refused status line) = ⊥

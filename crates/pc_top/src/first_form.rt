@@ -9,4 +9,4 @@ mod shape;
 
 pub use meaning::all_hold;
 pub use program::{Definition, Initial, Program};
-pub use recognition::{program_is_one, read_first_form};
+pub use recognition::recognise;

@@ -3,9 +3,11 @@
 
 mod check;
 mod command;
+mod faults;
 mod finish;
 mod first_form;
 mod lines;
+mod place;
 mod reading;
 mod source;
 mod stop;
@@ -58,20 +60,16 @@ mod tests {
         Ok(())
     }
 
-    // Asks for `check` of a class C and a Main with these lines, and compares the status.
+    // Asks for `check` of a class C and a Main with these lines, and compares the answer.
     fn check_lines(
         rt: &impl Abort,
         alloc: Global,
         lines: &str,
         status: u8,
+        err: &str,
     ) -> Result<(), AllocError> {
         let source = format!(in alloc; "class C\nactor Main\n  new create(env: Env) =>\n{lines}")?;
         let out = if status == 0 { "accepted\n" } else { "" };
-        let err = if status == 14 {
-            "a.pony: form not built\n"
-        } else {
-            ""
-        };
         check_source(
             rt,
             alloc,
@@ -88,30 +86,38 @@ mod tests {
     #[test]
     fn programs_are_accepted_refused_or_not_built(rt: HostRuntime) -> Result<(), Fail> {
         let alloc = rt.alloc();
+        let form = "a.pony: form not built\n";
         let rows = [
-            ("    let a: C iso = C\n", 0),
-            ("    let a: C iso = C\n    let b: C iso = a\n", 1),
+            ("    let a: C iso = C\n", 0, ""),
+            ("    let a: C iso = C\n    let b: C iso = a\n", 1, ""),
             (
                 "    let a: C iso = C\n    let b: C iso = consume a\n    let d: C tag = a\n",
                 1,
+                "",
             ),
             (
                 "    let a: C iso = C\n    let b: C iso = consume a\n    let d: C tag = b\n",
                 0,
+                "",
             ),
             (
                 "    let a: C iso = C // one\n    /* two */ let b: C tag = a",
                 0,
+                "",
             ),
-            ("    let a: C iso = C let b: C tag = a\n", 14),
-            ("    let a: D iso = C\n", 14),
-            ("    let a: C iso = b\n", 14),
-            ("    let a: C iso = C\n    let a: C iso = C\n", 14),
-            ("    None\n", 14),
-            ("    let a: C iso = \"\\q\n", 14),
+            ("    let a: C iso = C let b: C tag = a\n", 14, form),
+            ("    let a: D iso = C\n", 14, form),
+            ("    let a: C iso = b\n", 14, form),
+            ("    let a: C iso = C\n    let a: C iso = C\n", 14, form),
+            ("    None\n", 14, form),
+            (
+                "    let a: U64 = 18446744073709551616\n",
+                3,
+                "a.pony:4:18: bad number\n",
+            ),
         ];
-        for (lines, status) in rows {
-            check_lines(&rt, alloc, lines, status)?;
+        for (lines, status, err) in rows {
+            check_lines(&rt, alloc, lines, status, err)?;
         }
         Ok(())
     }
@@ -142,12 +148,15 @@ mod tests {
     }
 
     #[test]
-    fn a_source_may_have_so_many_bytes(rt: HostRuntime) -> Result<(), Fail> {
+    fn a_source_may_have_so_many_bytes_and_tokens(rt: HostRuntime) -> Result<(), Fail> {
         let alloc = rt.alloc();
-        for (size, status, line) in [
-            (1_048_576, 14, "a.pony: form not built\n"),
-            (1_048_577, 8, "a.pony: longer than 1048576 bytes\n"),
-        ] {
+        let rows = [
+            (b' ', 1_048_576, 14, "a.pony: form not built\n"),
+            (b' ', 1_048_577, 8, "a.pony: longer than 1048576 bytes\n"),
+            (b'.', 200_000, 14, "a.pony: form not built\n"),
+            (b'.', 200_001, 8, "a.pony:1:200001: too many tokens\n"),
+        ];
+        for (byte, size, status, line) in rows {
             let failing = Failing {
                 files: &[],
                 out: &[],
@@ -158,8 +167,36 @@ mod tests {
                 out: "",
                 err: line,
             };
-            let blanks = vec![in alloc; b' '; size]?;
-            check_source(&rt, alloc, &blanks, failing, wanted)?;
+            let source = vec![in alloc; byte; size]?;
+            check_source(&rt, alloc, &source, failing, wanted)?;
+        }
+        Ok(())
+    }
+
+    #[test]
+    fn a_source_without_tokens_has_its_fault_named(rt: HostRuntime) -> Result<(), Fail> {
+        let alloc = rt.alloc();
+        let rows: [(&[u8], u8, &str); 7] = [
+            (b"class C /* a /* b */", 3, "a.pony:1:9: not closed\n"),
+            (b"class C \"\\q", 3, "a.pony:1:9: not closed\n"),
+            (b"class C \"\\q\"", 3, "a.pony:1:10: bad escape\n"),
+            (b"\xff", 3, "a.pony:1:1: bad byte\n"),
+            (b"0b2", 3, "a.pony:1:1: bad number\n"),
+            (b"1__2", 3, "a.pony:1:1: bad number\n"),
+            (b"class C\n\n  $", 3, "a.pony:3:3: bad byte\n"),
+        ];
+        for (source, status, err) in rows {
+            let failing = Failing {
+                files: &[],
+                out: &[],
+                err: &[],
+            };
+            let wanted = Wanted {
+                status,
+                out: "",
+                err,
+            };
+            check_source(&rt, alloc, source, failing, wanted)?;
         }
         Ok(())
     }

@@ -1,7 +1,8 @@
 //! The lines on err.
 ghost use Rattle.std.specs.Prelude.{◌≡◌, IfOk};
-ghost use Rattle.pc_top.specs.Lines.{longer_line, not_built_line, unread_line, usage_line};
+ghost use Rattle.pc_top.specs.Lines.{longer_line, not_built_line, place_line, unread_line, usage_line};
 
+use crate::place::Place;
 use pc_io::Bytes;
 use std::alloc::{AllocError, Global};
 
@@ -34,5 +35,19 @@ pub fn make_not_built_line(alloc: Global, name: &str) -> Result<Bytes, AllocErro
     ensures { IfOk result (λ line. line ≡ not_built_line name.now) }
 {
     let text = format!(in alloc; "{name}: form not built\n")?;
+    Bytes::copy_of(alloc, text.as_bytes())
+}
+
+/// `NAME:LINE:COLUMN: WHAT`, with a line end.
+pub fn make_place_line(
+    alloc: Global,
+    name: &str,
+    place: Place,
+    what: &str,
+) -> Result<Bytes, AllocError>
+    ensures { IfOk result (λ line. line ≡ place_line name.now place.line place.column what.now) }
+{
+    let Place { line, column } = place;
+    let text = format!(in alloc; "{name}:{line}:{column}: {what}\n")?;
     Bytes::copy_of(alloc, text.as_bytes())
 }

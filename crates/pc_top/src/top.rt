@@ -10,10 +10,10 @@ ghost use Rattle.pc_top.specs.One.{VerdictIsOne};
 use crate::check::run_check;
 use crate::command::{Command, read_words};
 use crate::finish::finish;
-use crate::first_form::program_is_one;
 use crate::lines::make_usage_line;
 use crate::stop::Stop;
 use pc_io::{Files, Sink};
+use pc_lex::{faults_are_told, tokens_are_one};
 use std::alloc::Global;
 
 /// Does what the words after the program's name ask for, and answers the exit status.
@@ -80,5 +80,6 @@ fn refuse_words(alloc: Global) -> Stop
 pub fn verdict_is_one()
     ensures { VerdictIsOne }
 {
-    program_is_one();
+    tokens_are_one();
+    faults_are_told();
 }
