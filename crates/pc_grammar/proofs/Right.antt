@@ -1,0 +1,160 @@
+-- What a reading answers is right, where it is complete, looks one token ahead, is explained, and agrees with itself at more
+-- levels.
+use Rattle.std.proofs.Common.{◌≡◌, ℕ, ◌≤◌, max, Bool, true, false, List, [], ◌∷◌, ◌++◌, length, Ok, Err, refl, sym, ap, ◌∙◌, subst, arith, inl, inr, append_assoc, length-append}
+use Rattle.pc_tree.specs.Tree as t
+use Rattle.pc_tree.specs.Measures.{depth, seq_depth}
+use Rattle.pc_token.specs.declared.kinds.Token.{Token}
+use Rattle.pc_token.specs.declared.kinds.TokenKind.TheVariants as k
+use Rattle.pc_token.specs.declared.words.Word.TheVariants as w
+use Rattle.pc_grammar.specs.Spells.{no_span, Spells, SpellsInfix, SpellsSeq}
+use Rattle.pc_grammar.specs.Begins.{Begins, IsOne, IsTooDeep}
+use Rattle.pc_grammar.specs.Reading.{Fault, unexpected, too_deep, Outcome, Parser, seq, expr, infix_, inner}
+use Rattle.pc_grammar.specs.Laws.{ReadsRight, RefusesRight, DeepRight, SeqIsOne, ExprIsOne, SeqReadsRight, SeqRefusesRight, SeqDeepRight, ExprReadsRight, ExprRefusesRight, ExprDeepRight, InfixReadsRight, InfixRefusesRight, InfixDeepRight}
+use Rattle.pc_grammar.proofs.Follow.{end_stops, to_expr, to_infix}
+use Rattle.pc_grammar.proofs.Complete.{complete, complete_seq, as_expr, as_infix}
+use Rattle.pc_grammar.proofs.Local.{rest_of, with_rest, Local, cut}
+use Rattle.pc_grammar.proofs.LocalRules.{good_inner, good_seq, good_expr, good_infix}
+use Rattle.pc_grammar.proofs.Agree.{Agrees, inner_agrees, seq_agrees, expr_agrees, infix_agrees}
+use Rattle.pc_grammar.proofs.Explained.{Fits, Explained, explained_weaker}
+use Rattle.pc_grammar.proofs.ExplainedParts.{InfixIn}
+use Rattle.pc_grammar.proofs.ExplainedExprs.{explained_expr, explained_infix}
+use Rattle.pc_grammar.proofs.ExplainedSeqs.{explained_inner, explained_seq}
+
+abbrev an_end : Token
+an_end = record { kind = k.Word w.EndWord; first = false; span = no_span }
+
+rest_with : {A : Type 0} (ts : List Token) (o : Outcome A) → rest_of (with_rest ts o) ≡ ts
+rest_with ts (Ok r) = refl
+rest_with ts (Err e) = refl
+
+ok_apart : {A : Type 0} (b : A) (rest r : List Token) → ◌≡◌ {A = Outcome A} (Ok (b, rest)) (Err (too_deep, r)) → ⊥
+ok_apart b rest r e = cc
+
+fault_apart : {A : Type 0} (rest r : List Token) → ◌≡◌ {A = Outcome A} (Err (unexpected, rest)) (Err (too_deep, r)) → ⊥
+fault_apart rest r e = let f : ◌≡◌ {A = Fault × List Token} (unexpected, rest) (too_deep, r) = cc in let g : unexpected ≡ too_deep = ap (λ p. p.0) f in cc
+
+module _ {A : Type 0} (spells : A → List Token → Type 0) (depth_of : A → ℕ) (reading : ℕ → Parser A) where
+  abbrev pub In : Bool → ℕ → A → List Token → Type 0
+  In u n tree ts = spells tree ts × Fits u n (depth_of tree)
+
+  module _ (whole : (tree : A) (n : ℕ) (ts : List Token) → spells tree ts → depth_of tree ≤ n → reading n (ts ++ an_end ∷ []) ≡ Ok (tree, an_end ∷ []))
+      (ahead : (n : ℕ) → Local (reading n)) (agrees : (n m : ℕ) → n ≤ m → Agrees (reading n) (reading m)) (explained : (u : Bool) (n : ℕ) (ts : List Token) → Explained u (In u n) ts (reading n ts)) where
+    not_within : (n : ℕ) (pre : List Token) (x : Token) (more others : List Token) (b : A) → rest_of (reading n (pre ++ x ∷ more)) ≡ x ∷ more → spells b (pre ++ x ∷ others) → depth_of b ≤ n → ⊥
+    not_within n pre x more others b ends spelled fits =
+        let tail = others ++ an_end ∷ [] in
+        let read : reading n (pre ++ x ∷ tail) ≡ Ok (b, an_end ∷ []) = ap (reading n) (sym (append_assoc pre (x ∷ others) (an_end ∷ []))) ∙ whole b n (pre ++ x ∷ others) spelled fits in
+        let here = (ahead n).local pre x more tail ends in
+        let lists : an_end ∷ [] ≡ x ∷ tail = sym (ap rest_of read) ∙ ap rest_of here ∙ rest_with (x ∷ tail) (reading n (pre ++ x ∷ more)) in
+        omega (arith, ap length lists, length-append others (an_end ∷ []))
+
+    -- with as many levels as the tree has
+    nothing_begins : (n : ℕ) (pre : List Token) (x : Token) (more : List Token) (o : Outcome A) → reading n (pre ++ x ∷ more) ≡ o → ((r : List Token) → o ≡ Err (too_deep, r) → ⊥) → rest_of o ≡ x ∷ more → Begins spells (pre ++ x ∷ []) → ⊥
+    nothing_begins n pre x more o e apart ends begins =
+        let m = max n (depth_of begins.1) in
+        let spelled : spells begins.1 (pre ++ x ∷ begins.0) = subst (λ l. spells begins.1 l) (append_assoc pre (x ∷ []) begins.0) begins.2 in
+        elim (agrees n m (omega arith) (pre ++ x ∷ more)) [
+          | inl f ↦ not_within m pre x more begins.0 begins.1 (ap rest_of (sym f ∙ e) ∙ ends) spelled (omega arith)
+          | inr f ↦ apart f.0 (sym e ∙ f.1)
+        ]
+
+    pub reads_right : ReadsRight spells depth_of reading
+    reads_right n ts rest tree e =
+        let h = subst (λ o. Explained true (In true n) ts o) e (explained true n ts) in
+        (h.0, h.1, h.2.0, h.2.1, λ x more eq begins. nothing_begins n h.0 x more _ (ap (reading n) (ap (λ l. h.0 ++ l) (sym eq) ∙ sym h.1) ∙ e) (ok_apart tree rest) eq begins)
+
+    pub refuses_right : RefusesRight spells depth_of reading
+    refuses_right n ts rest e =
+        let h = subst (λ o. Explained true (In true n) ts o) e (explained true n ts) in
+        (h.0, h.3, (h.1, h.2, h.4.0, h.4.1), λ x more eq begins. nothing_begins n h.0 x more _ (ap (reading n) (ap (λ l. h.0 ++ l) (sym eq) ∙ sym h.3) ∙ e) (fault_apart rest) eq begins)
+
+    deep_by : (n : ℕ) (ts rest : List Token) → reading n ts ≡ Err (too_deep, rest) → Explained true (In true n) ts (Err (too_deep, rest)) → Explained false (In false n) ts (Err (too_deep, rest)) → IsTooDeep spells depth_of n ts rest
+    deep_by n ts [] e h g = absurd h.5
+    deep_by n ts (x ∷ more) e h g =
+        let same : g.0 ≡ h.0 = cut g.0 h.0 (x ∷ more) (sym g.3 ∙ h.3) in
+        let P : List Token → Type 0 = λ l. spells g.2 (l ++ x ∷ g.1) in
+        let spelled : spells g.2 (h.0 ++ x ∷ g.1) = subst P same g.4.0 in
+        let Q : List Token → Type 0 = λ l. spells g.2 l in
+        let begun : spells g.2 ((h.0 ++ x ∷ []) ++ g.1) = subst Q (sym (append_assoc h.0 (x ∷ []) g.1)) spelled in
+        let ends : rest_of (reading n (h.0 ++ x ∷ more)) ≡ x ∷ more = ap rest_of (ap (reading n) (sym h.3) ∙ e) in
+        (h.0, more, x, refl, h.3, (h.1, h.2, h.4.0, h.4.1), (g.1, g.2, begun), λ b. let R : List Token → Type 0 = λ l. spells b.1 l in not_within n h.0 x more b.0 b.1 ends (subst R (append_assoc h.0 (x ∷ []) b.0) b.2) b.3)
+
+    pub deep_right : DeepRight spells depth_of reading
+    deep_right n ts rest e = deep_by n ts rest e (subst (λ o. Explained true (In true n) ts o) e (explained true n ts)) (subst (λ o. Explained false (In false n) ts o) e (explained false n ts))
+
+    pub is_one : IsOne spells
+    is_one ts b c one two =
+        let n = max (depth_of b) (depth_of c) in
+        let e = sym (whole b n ts one (omega arith)) ∙ whole c n ts two (omega arith) in
+        let f : ◌≡◌ {A = A × List Token} (b, an_end ∷ []) (c, an_end ∷ []) = cc in
+        ap (λ p. p.0) f
+
+-- ---- the three readings
+
+seq_whole : (b : t.Seq) (n : ℕ) (ts : List Token) → SpellsSeq b ts → seq_depth b ≤ n → seq n (ts ++ an_end ∷ []) ≡ Ok (b, an_end ∷ [])
+seq_whole b n ts h d = complete_seq b n ts an_end [] h d (end_stops an_end refl)
+
+expr_whole : (e : t.Expr) (n : ℕ) (ts : List Token) → Spells e ts → depth e ≤ n → expr n (ts ++ an_end ∷ []) ≡ Ok (e, an_end ∷ [])
+expr_whole e n ts h d = as_expr n (ts ++ an_end ∷ []) an_end [] e (to_expr an_end (end_stops an_end refl)) (complete e n ts an_end [] h d)
+
+infix_whole : (e : t.Expr) (n : ℕ) (ts : List Token) → SpellsInfix e ts → depth e ≤ n → infix_ n (ts ++ an_end ∷ []) ≡ Ok (e, an_end ∷ [])
+infix_whole e n ts h d = as_infix n (ts ++ an_end ∷ []) an_end [] e h.0 (to_infix an_end (to_expr an_end (end_stops an_end refl))) (complete e n ts an_end [] h.1 d)
+
+seq_ahead : (n : ℕ) → Local (seq n)
+seq_ahead n = (good_seq n (inner n) (good_inner n)).local
+
+expr_ahead : (n : ℕ) → Local (expr n)
+expr_ahead n = (good_expr n (inner n) (good_inner n)).local
+
+infix_ahead : (n : ℕ) → Local (infix_ n)
+infix_ahead n = (good_infix n (inner n) (good_inner n)).local
+
+seqs_agree : (n m : ℕ) → n ≤ m → Agrees (seq n) (seq m)
+seqs_agree n m le = seq_agrees n m le (inner n) (inner m) (inner_agrees n m le)
+
+exprs_agree : (n m : ℕ) → n ≤ m → Agrees (expr n) (expr m)
+exprs_agree n m le = expr_agrees n m le (inner n) (inner m) (inner_agrees n m le)
+
+infixes_agree : (n m : ℕ) → n ≤ m → Agrees (infix_ n) (infix_ m)
+infixes_agree n m le = infix_agrees n m le (inner n) (inner m) (inner_agrees n m le)
+
+seqs_explained : (u : Bool) (n : ℕ) (ts : List Token) → Explained u (In SpellsSeq seq_depth seq u n) ts (seq n ts)
+seqs_explained u n ts = explained_seq u n (inner n) (explained_inner u n) ts
+
+exprs_explained : (u : Bool) (n : ℕ) (ts : List Token) → Explained u (In Spells depth expr u n) ts (expr n ts)
+exprs_explained u n ts = explained_expr u n (inner n) (explained_inner u n) ts
+
+infixes_explained : (u : Bool) (n : ℕ) (ts : List Token) → Explained u (In SpellsInfix depth infix_ u n) ts (infix_ n ts)
+infixes_explained u n ts = explained_weaker u (InfixIn u n) (In SpellsInfix depth infix_ u n) ts (infix_ n ts) (λ e a h. ((h.0, h.1), h.2)) (explained_infix u n (inner n) (explained_inner u n) ts)
+
+pub seq_reads : SeqReadsRight
+seq_reads = reads_right SpellsSeq seq_depth seq seq_whole seq_ahead seqs_agree seqs_explained
+
+pub seq_refuses : SeqRefusesRight
+seq_refuses = refuses_right SpellsSeq seq_depth seq seq_whole seq_ahead seqs_agree seqs_explained
+
+pub seq_deep : SeqDeepRight
+seq_deep = deep_right SpellsSeq seq_depth seq seq_whole seq_ahead seqs_agree seqs_explained
+
+pub seq_one : SeqIsOne
+seq_one = is_one SpellsSeq seq_depth seq seq_whole seq_ahead seqs_agree seqs_explained
+
+pub expr_reads : ExprReadsRight
+expr_reads = reads_right Spells depth expr expr_whole expr_ahead exprs_agree exprs_explained
+
+pub expr_refuses : ExprRefusesRight
+expr_refuses = refuses_right Spells depth expr expr_whole expr_ahead exprs_agree exprs_explained
+
+pub expr_deep : ExprDeepRight
+expr_deep = deep_right Spells depth expr expr_whole expr_ahead exprs_agree exprs_explained
+
+pub expr_one : ExprIsOne
+expr_one = is_one Spells depth expr expr_whole expr_ahead exprs_agree exprs_explained
+
+pub infix_reads : InfixReadsRight
+infix_reads = reads_right SpellsInfix depth infix_ infix_whole infix_ahead infixes_agree infixes_explained
+
+pub infix_refuses : InfixRefusesRight
+infix_refuses = refuses_right SpellsInfix depth infix_ infix_whole infix_ahead infixes_agree infixes_explained
+
+pub infix_deep : InfixDeepRight
+infix_deep = deep_right SpellsInfix depth infix_ infix_whole infix_ahead infixes_agree infixes_explained

@@ -1,0 +1,34 @@
+-- How far a list of tokens is the beginning of something, for any kind of tree: `spells` says which tokens spell which
+-- tree, and `depth` how many levels a tree opens.
+use Rattle.std.specs.Prelude.{◌≡◌, ℕ, ◌≤◌, List, [], ◌∷◌, ◌++◌}
+use Rattle.pc_token.specs.declared.kinds.Token.{Token}
+
+module _ {A : Type 0} (spells : A → List Token → Type 0) where
+  -- some list with this front spells some tree, of any depth
+  abbrev pub Begins : List Token → Type 0
+  Begins ts = (more : List Token) × (tree : A) × spells tree (ts ++ more)
+
+  -- with the first of these tokens behind `pre`, nothing begins
+  abbrev pub IsStopped : List Token → List Token → Type 0
+  IsStopped pre rest = (x : Token) (more : List Token) → rest ≡ x ∷ more → Begins (pre ++ x ∷ []) → ⊥
+
+  -- at most one tree is spelled
+  abbrev pub IsOne : Type 0
+  IsOne = (ts : List Token) (one other : A) → spells one ts → spells other ts → one ≡ other
+
+  module _ (depth : A → ℕ) (n : ℕ) where
+    -- some list with this front spells some tree that opens at most n levels
+    abbrev pub BeginsWithin : List Token → Type 0
+    BeginsWithin ts = (more : List Token) × (tree : A) × spells tree (ts ++ more) × (depth tree ≤ n)
+
+    -- The tokens up to `rest` spell the tree, within the levels, and the next one does not go on with it.
+    abbrev pub IsRead : List Token → A → List Token → Type 0
+    IsRead ts tree rest = (pre : List Token) × (ts ≡ pre ++ rest) × spells tree pre × (depth tree ≤ n) × IsStopped pre rest
+
+    -- The tokens up to `rest` begin a tree within the levels, and with the next one nothing begins.
+    abbrev pub IsRefused : List Token → List Token → Type 0
+    IsRefused ts rest = (pre : List Token) × (ts ≡ pre ++ rest) × BeginsWithin pre × IsStopped pre rest
+
+    -- The tokens up to `rest` begin a tree within the levels; with the next one a tree begins, but none within the levels.
+    abbrev pub IsTooDeep : List Token → List Token → Type 0
+    IsTooDeep ts rest = (pre more : List Token) × (x : Token) × (rest ≡ x ∷ more) × (ts ≡ pre ++ rest) × BeginsWithin pre × Begins (pre ++ x ∷ []) × (BeginsWithin (pre ++ x ∷ []) → ⊥)

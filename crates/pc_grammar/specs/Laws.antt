@@ -1,0 +1,53 @@
+-- What the reading says of the tokens, and that nothing is spelled in two ways.
+use Rattle.std.specs.Prelude.{◌≡◌, ℕ, List, Ok, Err}
+use Rattle.pc_tree.specs.Measures.{depth, seq_depth}
+use Rattle.pc_token.specs.declared.kinds.Token.{Token}
+use Rattle.pc_grammar.specs.Spells.{Spells, SpellsInfix, SpellsSeq}
+use Rattle.pc_grammar.specs.Begins.{IsOne, IsRead, IsRefused, IsTooDeep}
+use Rattle.pc_grammar.specs.Reading.{Parser, unexpected, too_deep, seq, expr, infix_}
+
+module _ {A : Type 0} (spells : A → List Token → Type 0) (depth_of : A → ℕ) (reading : ℕ → Parser A) where
+  -- What is read is spelled, within the levels, and goes no further.
+  abbrev pub ReadsRight : Type 0
+  ReadsRight = (n : ℕ) (ts rest : List Token) (tree : A) → reading n ts ≡ Ok (tree, rest) → IsRead spells depth_of n ts tree rest
+
+  -- Where a token is unexpected, those before begin a tree within the levels, and with it nothing begins.
+  abbrev pub RefusesRight : Type 0
+  RefusesRight = (n : ℕ) (ts rest : List Token) → reading n ts ≡ Err (unexpected, rest) → IsRefused spells depth_of n ts rest
+
+  -- Where a token opens a level too many, those before begin a tree within the levels, and with it only deeper ones begin.
+  abbrev pub DeepRight : Type 0
+  DeepRight = (n : ℕ) (ts rest : List Token) → reading n ts ≡ Err (too_deep, rest) → IsTooDeep spells depth_of n ts rest
+
+abbrev pub SeqIsOne : Type 0
+SeqIsOne = IsOne SpellsSeq
+
+abbrev pub ExprIsOne : Type 0
+ExprIsOne = IsOne Spells
+
+abbrev pub SeqReadsRight : Type 0
+SeqReadsRight = ReadsRight SpellsSeq seq_depth seq
+
+abbrev pub SeqRefusesRight : Type 0
+SeqRefusesRight = RefusesRight SpellsSeq seq_depth seq
+
+abbrev pub SeqDeepRight : Type 0
+SeqDeepRight = DeepRight SpellsSeq seq_depth seq
+
+abbrev pub ExprReadsRight : Type 0
+ExprReadsRight = ReadsRight Spells depth expr
+
+abbrev pub ExprRefusesRight : Type 0
+ExprRefusesRight = RefusesRight Spells depth expr
+
+abbrev pub ExprDeepRight : Type 0
+ExprDeepRight = DeepRight Spells depth expr
+
+abbrev pub InfixReadsRight : Type 0
+InfixReadsRight = ReadsRight SpellsInfix depth infix_
+
+abbrev pub InfixRefusesRight : Type 0
+InfixRefusesRight = RefusesRight SpellsInfix depth infix_
+
+abbrev pub InfixDeepRight : Type 0
+InfixDeepRight = DeepRight SpellsInfix depth infix_

@@ -1,0 +1,5 @@
+pub mod Asking
+pub mod Spells
+pub mod Begins
+pub mod Reading
+pub mod Laws

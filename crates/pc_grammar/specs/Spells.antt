@@ -1,0 +1,255 @@
+-- Which tokens spell which tree: by cases on the tree, one for each line of the grammar.
+--
+--   Seq     = Item {Next Item}
+--   Item    = ("var" | "let") Name [":" Type] "=" Expr | Expr
+--   Type    = TypeName [Cap]
+--   Expr    = Infix ["=" Expr]
+--   Infix   = Term {Op Term}
+--   Term    = "not" Term | "consume" Name | Postfix
+--   Postfix = Atom {"." Name | "(" [Expr {"," Expr}] ")"}
+--   Atom    = Name | TypeName | "this" | number | text | "true" | "false" | "(" Seq ")"
+--           | "if" Seq "then" Seq {"elseif" Seq "then" Seq} ["else" Seq] "end"
+--           | "while" Seq "do" Seq "end" | "recover" [Cap] Seq "end"
+use Rattle.std.specs.Prelude.{◌≡◌, Bool, true, false, List, [], ◌∷◌, ◌++◌, Option, Some, None}
+use Rattle.pc_caps.specs.declared.span.Span.{Span}
+use Rattle.pc_caps.specs.declared.capability.Cap.{Cap}
+use Rattle.pc_tree.specs.Tree as t
+use Rattle.pc_tree.specs.declared.names.Name.{Name}
+use Rattle.pc_tree.specs.declared.names.TypeRef.{TypeRef}
+use Rattle.pc_tree.specs.declared.kinds.Op.{Op}
+use Rattle.pc_token.specs.declared.kinds.Token.{Token}
+use Rattle.pc_token.specs.declared.kinds.TokenKind.TheVariants as k
+use Rattle.pc_token.specs.declared.words.Word.{Word}
+use Rattle.pc_token.specs.declared.words.Word.TheVariants as w
+use Rattle.pc_token.specs.declared.signs.Sign.TheVariants as s
+use Rattle.pc_token.specs.Asking.{is_sign, is_word}
+use Rattle.pc_grammar.specs.Asking.{op_of, cap_of, local_word, truth_word}
+
+-- ---- where the tokens lie
+
+abbrev pub no_span : Span
+no_span = record { start = 0; end = 0 }
+
+abbrev pub first_span : List Token → Span
+first_span [] = no_span
+first_span (x ∷ ts) = x.span
+
+abbrev pub last_span : Span → List Token → Span
+last_span s [] = s
+last_span s (x ∷ ts) = last_span x.span ts
+
+-- from the beginning of one to the end of another
+abbrev pub join : Span → Span → Span
+join a b = record { start = a.start; end = b.end }
+
+-- from the first token to the last
+abbrev pub over : List Token → Span
+over ts = join (first_span ts) (last_span no_span ts)
+
+-- ---- names, capabilities and types
+
+abbrev pub IsName : Token → Name → Type 0
+IsName x m = (x.kind ≡ k.Name m.text) × (x.span ≡ m.span)
+
+abbrev pub IsTypeName : Token → Name → Type 0
+IsTypeName x m = (x.kind ≡ k.TypeName m.text) × (x.span ≡ m.span)
+
+-- [Cap]
+abbrev pub SpellsCap : Option Cap → List Token → Type 0
+SpellsCap None ts = ts ≡ []
+SpellsCap (Some c) ts = (x : Token) × (ts ≡ x ∷ []) × (cap_of x ≡ Some c)
+
+-- TypeName [Cap]
+abbrev pub SpellsType : TypeRef → List Token → Type 0
+SpellsType r ts = (x : Token) × (a : List Token) × (ts ≡ x ∷ a) × IsTypeName x r.name × SpellsCap r.cap a × (r.hat ≡ false)
+
+-- [":" Type]
+abbrev pub SpellsTyped : Option TypeRef → List Token → Type 0
+SpellsTyped None ts = ts ≡ []
+SpellsTyped (Some r) ts = (x : Token) × (a : List Token) × (ts ≡ x ∷ a) × (is_sign s.Colon x ≡ true) × SpellsType r a
+
+-- ---- the kinds of expressions
+
+abbrev pub is_atom : t.Expr → Bool
+is_atom (t.number n sp) = true
+is_atom (t.truth b sp) = true
+is_atom (t.text b sp) = true
+is_atom (t.name m) = true
+is_atom (t.type_name m) = true
+is_atom (t.this sp) = true
+is_atom (t.consume m sp) = false
+is_atom (t.not_ e sp) = false
+is_atom (t.infix_ o es sp) = false
+is_atom (t.chain e ss sp) = false
+is_atom (t.group b sp) = true
+is_atom (t.if_ a o sp) = true
+is_atom (t.while_ c b sp) = true
+is_atom (t.recover c b sp) = true
+is_atom (t.assign l r sp) = false
+
+abbrev pub is_term : t.Expr → Bool
+is_term (t.number n sp) = true
+is_term (t.truth b sp) = true
+is_term (t.text b sp) = true
+is_term (t.name m) = true
+is_term (t.type_name m) = true
+is_term (t.this sp) = true
+is_term (t.consume m sp) = true
+is_term (t.not_ e sp) = true
+is_term (t.infix_ o es sp) = false
+is_term (t.chain e ss sp) = true
+is_term (t.group b sp) = true
+is_term (t.if_ a o sp) = true
+is_term (t.while_ c b sp) = true
+is_term (t.recover c b sp) = true
+is_term (t.assign l r sp) = false
+
+abbrev pub is_infix : t.Expr → Bool
+is_infix (t.number n sp) = true
+is_infix (t.truth b sp) = true
+is_infix (t.text b sp) = true
+is_infix (t.name m) = true
+is_infix (t.type_name m) = true
+is_infix (t.this sp) = true
+is_infix (t.consume m sp) = true
+is_infix (t.not_ e sp) = true
+is_infix (t.infix_ o es sp) = true
+is_infix (t.chain e ss sp) = true
+is_infix (t.group b sp) = true
+is_infix (t.if_ a o sp) = true
+is_infix (t.while_ c b sp) = true
+is_infix (t.recover c b sp) = true
+is_infix (t.assign l r sp) = false
+
+abbrev pub is_dot : t.Suffix → Bool
+is_dot (t.dot m) = true
+is_dot (t.args es sp) = false
+
+-- whether the last suffix, if there is one, is a name
+abbrev pub ends_in_dot : Bool → t.Suffixes → Bool
+ends_in_dot b t.no_suffixes = b
+ends_in_dot b (t.suffix x ss) = ends_in_dot (is_dot x) ss
+
+-- What may stand before an `=`: a name, or what ends in `.` and a name.
+abbrev pub is_place : t.Expr → Bool
+is_place (t.number n sp) = false
+is_place (t.truth b sp) = false
+is_place (t.text b sp) = false
+is_place (t.name m) = true
+is_place (t.type_name m) = false
+is_place (t.this sp) = false
+is_place (t.consume m sp) = false
+is_place (t.not_ e sp) = false
+is_place (t.infix_ o es sp) = false
+is_place (t.chain e ss sp) = ends_in_dot false ss
+is_place (t.group b sp) = false
+is_place (t.if_ a o sp) = false
+is_place (t.while_ c b sp) = false
+is_place (t.recover c b sp) = false
+is_place (t.assign l r sp) = false
+
+-- some stand in the list
+abbrev pub IsMore : t.Exprs → Type 0
+IsMore t.no_exprs = ⊥
+IsMore (t.expr e es) = Unit {0}
+
+abbrev pub IsSome : t.Suffixes → Type 0
+IsSome t.no_suffixes = ⊥
+IsSome (t.suffix e es) = Unit {0}
+
+-- What stands before an item that is not the first: a `;`, or nothing where the item's first token is first on its line.
+abbrev pub IsNext : List Token → List Token → Type 0
+IsNext [] [] = ⊥
+IsNext [] (x ∷ item) = x.first ≡ true
+IsNext (x ∷ []) item = is_sign s.Semicolon x ≡ true
+IsNext (x ∷ y ∷ ts) item = ⊥
+
+-- ---- expressions and sequences
+
+abbrev mutual
+  pub Spells : t.Expr → List Token → Type 0
+  Spells (t.number n sp) ts = (x : Token) × (ts ≡ x ∷ []) × (x.kind ≡ k.Number n) × (sp ≡ over ts)
+  Spells (t.truth b sp) ts = (x : Token) × (ts ≡ x ∷ []) × (is_word (truth_word b) x ≡ true) × (sp ≡ over ts)
+  Spells (t.text b sp) ts = (x : Token) × (ts ≡ x ∷ []) × (x.kind ≡ k.Text b) × (sp ≡ over ts)
+  Spells (t.name m) ts = (x : Token) × (ts ≡ x ∷ []) × IsName x m
+  Spells (t.type_name m) ts = (x : Token) × (ts ≡ x ∷ []) × IsTypeName x m
+  Spells (t.this sp) ts = (x : Token) × (ts ≡ x ∷ []) × (is_word w.ThisWord x ≡ true) × (sp ≡ over ts)
+  Spells (t.consume m sp) ts = (x y : Token) × (ts ≡ x ∷ y ∷ []) × (is_word w.ConsumeWord x ≡ true) × IsName y m × (sp ≡ over ts)
+  Spells (t.not_ e sp) ts = (x : Token) × (a : List Token) × (ts ≡ x ∷ a) × (is_word w.NotWord x ≡ true) × (is_term e ≡ true) × Spells e a × (sp ≡ over ts)
+  Spells (t.infix_ o es sp) ts = SpellsTerms es o ts × (sp ≡ over ts)
+  Spells (t.chain e ss sp) ts = (a b : List Token) × (ts ≡ a ++ b) × (is_atom e ≡ true) × Spells e a × IsSome ss × SpellsSuffixes ss b × (sp ≡ over ts)
+  Spells (t.group b sp) ts = (x y : Token) × (a : List Token) × (ts ≡ x ∷ (a ++ y ∷ [])) × (is_sign s.OpenParen x ≡ true) × SpellsSeq b a × (is_sign s.CloseParen y ≡ true) × (sp ≡ over ts)
+  Spells (t.if_ as' o sp) ts = (z : Token) × (a d : List Token) × (ts ≡ a ++ (d ++ z ∷ [])) × SpellsArms as' a × SpellsOther o d × (is_word w.EndWord z ≡ true) × (sp ≡ over ts)
+  Spells (t.while_ c b sp) ts = (x y z : Token) × (a d : List Token) × (ts ≡ x ∷ (a ++ y ∷ (d ++ z ∷ []))) × (is_word w.WhileWord x ≡ true) × SpellsSeq c a × (is_word w.DoWord y ≡ true) × SpellsSeq b d
+      × (is_word w.EndWord z ≡ true) × (sp ≡ over ts)
+  Spells (t.recover c b sp) ts = (x z : Token) × (d a : List Token) × (ts ≡ x ∷ (d ++ (a ++ z ∷ []))) × (is_word w.RecoverWord x ≡ true) × SpellsCap c d × SpellsSeq b a × (is_word w.EndWord z ≡ true) × (sp ≡ over ts)
+  Spells (t.assign l r sp) ts = (x : Token) × (a b : List Token) × (ts ≡ a ++ x ∷ b) × (is_place l ≡ true) × Spells l a × (is_sign s.Assign x ≡ true) × Spells r b × (sp ≡ over ts)
+
+  -- Term {Op Term}, two terms at least, all with one operator between them
+  pub SpellsTerms : t.Exprs → Op → List Token → Type 0
+  SpellsTerms t.no_exprs o ts = ⊥
+  SpellsTerms (t.expr e es) o ts = (a b : List Token) × (ts ≡ a ++ b) × (is_term e ≡ true) × Spells e a × IsMore es × SpellsMoreTerms es o b
+
+  -- {Op Term}
+  pub SpellsMoreTerms : t.Exprs → Op → List Token → Type 0
+  SpellsMoreTerms t.no_exprs o ts = ts ≡ []
+  SpellsMoreTerms (t.expr e es) o ts = (x : Token) × (a b : List Token) × (ts ≡ x ∷ (a ++ b)) × (op_of x ≡ Some o) × (is_term e ≡ true) × Spells e a × SpellsMoreTerms es o b
+
+  -- The name alone is the place of a suffix `.name`. The `(` of arguments is not first on its line.
+  pub SpellsSuffix : t.Suffix → List Token → Type 0
+  SpellsSuffix (t.dot m) ts = (x y : Token) × (ts ≡ x ∷ y ∷ []) × (is_sign s.Dot x ≡ true) × IsName y m
+  SpellsSuffix (t.args es sp) ts = (x y : Token) × (a : List Token) × (ts ≡ x ∷ (a ++ y ∷ [])) × (is_sign s.OpenParen x ≡ true) × (x.first ≡ false) × SpellsArgs es a × (is_sign s.CloseParen y ≡ true) × (sp ≡ over ts)
+
+  pub SpellsSuffixes : t.Suffixes → List Token → Type 0
+  SpellsSuffixes t.no_suffixes ts = ts ≡ []
+  SpellsSuffixes (t.suffix x ss) ts = (a b : List Token) × (ts ≡ a ++ b) × SpellsSuffix x a × SpellsSuffixes ss b
+
+  -- [Expr {"," Expr}]
+  pub SpellsArgs : t.Exprs → List Token → Type 0
+  SpellsArgs t.no_exprs ts = ts ≡ []
+  SpellsArgs (t.expr e es) ts = (a b : List Token) × (ts ≡ a ++ b) × Spells e a × SpellsMoreArgs es b
+
+  -- {"," Expr}
+  pub SpellsMoreArgs : t.Exprs → List Token → Type 0
+  SpellsMoreArgs t.no_exprs ts = ts ≡ []
+  SpellsMoreArgs (t.expr e es) ts = (x : Token) × (a b : List Token) × (ts ≡ x ∷ (a ++ b)) × (is_sign s.Comma x ≡ true) × Spells e a × SpellsMoreArgs es b
+
+  -- "if" Seq "then" Seq, or the same with another word
+  pub SpellsArm : t.Arm → Word → List Token → Type 0
+  SpellsArm (t.arm_of c b sp) word ts = (x y : Token) × (a d : List Token) × (ts ≡ x ∷ (a ++ y ∷ d)) × (is_word word x ≡ true) × SpellsSeq c a × (is_word w.ThenWord y ≡ true) × SpellsSeq b d × (sp ≡ over ts)
+
+  -- "if" Seq "then" Seq {"elseif" Seq "then" Seq}
+  pub SpellsArms : t.Arms → List Token → Type 0
+  SpellsArms t.no_arms ts = ⊥
+  SpellsArms (t.arm x xs) ts = (a b : List Token) × (ts ≡ a ++ b) × SpellsArm x w.IfWord a × SpellsMoreArms xs b
+
+  -- {"elseif" Seq "then" Seq}
+  pub SpellsMoreArms : t.Arms → List Token → Type 0
+  SpellsMoreArms t.no_arms ts = ts ≡ []
+  SpellsMoreArms (t.arm x xs) ts = (a b : List Token) × (ts ≡ a ++ b) × SpellsArm x w.ElseifWord a × SpellsMoreArms xs b
+
+  -- ["else" Seq]
+  pub SpellsOther : t.Other → List Token → Type 0
+  SpellsOther t.no_other ts = ts ≡ []
+  SpellsOther (t.other b) ts = (x : Token) × (a : List Token) × (ts ≡ x ∷ a) × (is_word w.ElseWord x ≡ true) × SpellsSeq b a
+
+  pub SpellsSeq : t.Seq → List Token → Type 0
+  SpellsSeq (t.seq is sp) ts = SpellsItems is ts × (sp ≡ over ts)
+
+  -- Item {Next Item}
+  pub SpellsItems : t.Items → List Token → Type 0
+  SpellsItems t.no_items ts = ⊥
+  SpellsItems (t.item i is) ts = (a b : List Token) × (ts ≡ a ++ b) × SpellsItem i a × SpellsMoreItems is b
+
+  -- {Next Item}
+  pub SpellsMoreItems : t.Items → List Token → Type 0
+  SpellsMoreItems t.no_items ts = ts ≡ []
+  SpellsMoreItems (t.item i is) ts = (n a b : List Token) × (ts ≡ n ++ (a ++ b)) × IsNext n a × SpellsItem i a × SpellsMoreItems is b
+
+  pub SpellsItem : t.Item → List Token → Type 0
+  SpellsItem (t.local f m ty e sp) ts = (x y z : Token) × (a b : List Token) × (ts ≡ x ∷ y ∷ (a ++ z ∷ b)) × (is_word (local_word f) x ≡ true) × IsName y m × SpellsTyped ty a × (is_sign s.Assign z ≡ true) × Spells e b × (sp ≡ over ts)
+  SpellsItem (t.plain e) ts = Spells e ts
+
+-- an `Infix`, which has no `=`
+abbrev pub SpellsInfix : t.Expr → List Token → Type 0
+SpellsInfix e ts = (is_infix e ≡ true) × Spells e ts
