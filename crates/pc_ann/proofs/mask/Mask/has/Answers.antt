@@ -1,0 +1,11 @@
+use Rattle.std.proofs.Common.{◌≡◌, ap, sym, ◌∙◌, arith}
+use Rattle.std.specs.Prelude.{nat_eq}
+use Rattle.std.specs.Int.{bit_at}
+use Rattle.std.proofs.lemmas.Bool.{le-ltb}
+use Rattle.std.proofs.lemmas.Nat.Bits.{bit_at_above}
+use Rattle.pc_ann.proofs.mask.Mask.has.Goals as goal
+
+pub returns-else-number-lt64 : goal.returns-else-number-lt64
+returns-else-number-lt64 c =
+    let above : bit_at c.args.self.0 c.args.number ≡ 0 = bit_at_above c.args.self.0 64 c.args.number (omega arith) (omega arith) in
+    le-ltb c.args.number 64 (omega arith) ∙ sym (ap (λ n. nat_eq n 1) above)
