@@ -1,0 +1,6 @@
+use Rattle.std.proofs.Common.{◌≡◌, drop}
+use Rattle.pc_core.specs.Lookup as spec
+use Rattle.pc_core.proofs.lookup.place_of_field.Given as goal
+
+abbrev pub invariant-loop-field : goal.invariant-loop-field
+invariant-loop-field l = record { rest : spec.place_of spec.field_name l.name (drop l.field-index l.fields) l.at ≡ spec.place_of spec.field_name l.name l.fields 0; at : l.at ≡ l.field-index }

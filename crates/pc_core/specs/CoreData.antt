@@ -1,0 +1,14 @@
+-- A core as its lists.
+use Rattle.std.specs.Prelude.{ℕ, List}
+use Rattle.pc_core.specs.declared.declarations.EntityDef.{EntityDef}
+use Rattle.pc_core.specs.declared.declarations.Method.{Method}
+use Rattle.pc_core.specs.declared.nodes.Slot.{Slot}
+use Rattle.pc_core.specs.declared.nodes.Node.{Node}
+
+pub record CoreData : Type 0 where
+  pub entities : List EntityDef
+  pub methods : List Method
+  pub slots : List Slot
+  pub nodes : List Node
+  -- the texts of the names of fields and methods
+  pub names : List (List ℕ)

@@ -1,0 +1,114 @@
+-- What entities are built in, and when an entity fits its core.
+use Rattle.std.specs.Prelude.{◌≡◌, ◌⊎◌, ◌↔◌, ℕ, ◌<◌, ◌≤◌, Bool, true, false, List, [], ◌∷◌, ◌++◌, map, length, Some, None, slice_get, codes}
+use Rattle.pc_caps.specs.declared.capability.Cap.{Cap}
+use Rattle.pc_caps.specs.declared.capability.Cap.TheVariants as cap
+use Rattle.pc_caps.specs.declared.capability.Form.TheVariants as form
+use Rattle.pc_caps.specs.declared.span.Span.{Span}
+use Rattle.pc_tree.specs.declared.kinds.EntityKind.{EntityKind}
+use Rattle.pc_tree.specs.declared.kinds.EntityKind.TheVariants as kind
+use Rattle.pc_core.specs.declared.declarations.EntityDef.{EntityDef}
+use Rattle.pc_core.specs.declared.declarations.FieldInfo.{FieldInfo}
+use Rattle.pc_core.specs.declared.declarations.Method.{Method}
+use Rattle.pc_core.specs.declared.declarations.MethodKind.TheVariants as method
+use Rattle.pc_core.specs.declared.declarations.ParamInfo.{ParamInfo}
+use Rattle.pc_core.specs.CoreData.{CoreData}
+use Rattle.pc_core.specs.Words.{Each, Has, Differ, Ascends}
+use Rattle.pc_core.specs.Lookup.{own_methods, field_name, method_name}
+
+-- Built-in parts stand nowhere in the text.
+abbrev pub nowhere : Span
+nowhere = record { start = 0; end = 0 }
+
+-- A built-in entity, which is below no trait.
+abbrev pub built_in : EntityKind → Cap → List ℕ → List FieldInfo → ℕ → EntityDef
+built_in k c name fields methods = record { kind = k; cap = c; name = name; span = nowhere; provides = []; above = []; fields = fields; first_method = 0; methods = methods }
+
+-- A value of the language itself.
+abbrev pub built_in_value : List ℕ → EntityDef
+built_in_value name = built_in kind.Primitive cap.Val name [] 0
+
+-- The environment's only field, the stream of the program's texts.
+abbrev pub out_field : ℕ → FieldInfo
+out_field name = record { name = name; fixed = true; entity = 5; cap = cap.Tag }
+
+-- The stream's only method, a behaviour that takes a text.
+abbrev pub print_method : ℕ → Method
+print_method name = record {
+  entity = 5;
+  name = name;
+  kind = method.Be;
+  receiver = cap.Ref;
+  params = record { entity = 3; cap = cap.Val; span = nowhere } ∷ [];
+  result = (0, form.Val);
+  first_slot = 0;
+  slots = 0;
+  first_node = 0;
+  body = None;
+  span = nowhere;
+}
+
+-- The first six entities and the first method are those of the language.
+pub record HasBuiltIn (core : CoreData) : Type 0 where
+  pub none : slice_get core.entities 0 ≡ Some (built_in_value (codes "None"))
+  pub numbers : slice_get core.entities 1 ≡ Some (built_in_value (codes "U64"))
+  pub truths : slice_get core.entities 2 ≡ Some (built_in_value (codes "Bool"))
+  pub texts : slice_get core.entities 3 ≡ Some (built_in_value (codes "String"))
+  pub out : ℕ
+  pub out_name : slice_get core.names out ≡ Some (codes "out")
+  pub env : slice_get core.entities 4 ≡ Some (built_in kind.Class cap.Val (codes "Env") (out_field out ∷ []) 0)
+  pub stream : slice_get core.entities 5 ≡ Some (built_in kind.Actor cap.Tag (codes "OutStream") [] 1)
+  pub print : ℕ
+  pub print_name : slice_get core.names print ≡ Some (codes "print")
+  pub method : slice_get core.methods 0 ≡ Some (print_method print)
+
+-- The actor with which a program begins: `create` takes the environment.
+pub record HasMain (core : CoreData) : Type 0 where
+  pub entity : ℕ
+  pub main : EntityDef
+  pub is_entity : slice_get core.entities entity ≡ Some main
+  pub name : main.name ≡ codes "Main"
+  pub actor : main.kind ≡ kind.Actor
+  pub number : ℕ
+  pub create : Method
+  pub is_method : slice_get core.methods number ≡ Some create
+  pub own : create.entity ≡ entity
+  pub method_name : slice_get core.names create.name ≡ Some (codes "create")
+  pub spawns : create.kind ≡ method.Spawn
+  pub param : ParamInfo
+  pub params : create.params ≡ param ∷ []
+  pub env : param.entity ≡ 4
+  pub cap : param.cap ≡ cap.Val
+
+-- An entity is a trait.
+abbrev pub IsTrait : CoreData → ℕ → Type 0
+IsTrait core e = (x : EntityDef) × (slice_get core.entities e ≡ Some x) × (x.kind ≡ kind.Trait)
+
+-- The `is` list of an entity names another.
+abbrev pub Names : CoreData → ℕ → ℕ → Type 0
+Names core a b = (x : EntityDef) × (slice_get core.entities a ≡ Some x) × Has x.provides b
+
+-- A chain of at least one `is` leads from an entity to another.
+pub data Leads (core : CoreData) : ℕ → ℕ → Type 0 where
+  one : {a b : ℕ} → Names core a b → Leads core a b
+  more : {a b c : ℕ} → Names core a b → Leads core b c → Leads core a c
+
+-- Fields stand in classes and actors.
+abbrev pub may_have_fields : EntityKind → Bool
+may_have_fields kind.Class = true
+may_have_fields kind.Actor = true
+may_have_fields k = false
+
+-- Entity number e fits the core.
+pub record EntityFits (core : CoreData) (e : ℕ) (x : EntityDef) : Type 0 where
+  -- its `is` list names traits, and `above` is what they lead to
+  pub provides : Each (λ i b. IsTrait core b) x.provides
+  pub ascends : Ascends x.above
+  pub above : (b : ℕ) → (Has x.above b) ↔ (Leads core e b)
+  -- its fields
+  pub few_fields : length x.fields ≤ 64
+  pub placed_fields : (x.fields ≡ []) ⊎ (may_have_fields x.kind ≡ true)
+  pub fields : Each (λ i f. (f.name < length core.names) × (f.entity < length core.entities)) x.fields
+  -- the names of its fields and methods differ
+  pub names : Differ (map field_name x.fields ++ map method_name (own_methods core x))
+  -- its methods name it
+  pub methods : Each (λ i m. m.entity ≡ e) (own_methods core x)

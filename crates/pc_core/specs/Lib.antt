@@ -1,0 +1,10 @@
+pub mod Words
+pub mod CoreData
+pub mod Lookup
+pub mod Runs
+pub mod Entities
+pub mod Methods
+pub mod Nodes
+pub mod Formed
+pub mod Members
+pub mod Growing

@@ -1,0 +1,124 @@
+-- When a method fits its core.
+use Rattle.std.specs.Prelude.{◌≡◌, ◌⊎◌, ℕ, ◌+◌, ◌<◌, ◌≤◌, Bool, true, false, List, [], ◌∷◌, ◌++◌, map, length, Some, IsSome, slice_get}
+use Rattle.pc_caps.specs.Tables.{unalias}
+use Rattle.pc_caps.specs.declared.capability.Cap.{Cap}
+use Rattle.pc_caps.specs.declared.capability.Cap.TheVariants as cap
+use Rattle.pc_caps.specs.declared.capability.Form.TheVariants as form
+use Rattle.pc_tree.specs.declared.kinds.EntityKind.{EntityKind}
+use Rattle.pc_tree.specs.declared.kinds.EntityKind.TheVariants as kind
+use Rattle.pc_core.specs.declared.declarations.EntityDef.{EntityDef}
+use Rattle.pc_core.specs.declared.declarations.Method.{Method}
+use Rattle.pc_core.specs.declared.declarations.MethodKind.{MethodKind}
+use Rattle.pc_core.specs.declared.declarations.MethodKind.TheVariants as method
+use Rattle.pc_core.specs.declared.declarations.ParamInfo.{ParamInfo}
+use Rattle.pc_core.specs.declared.nodes.Slot.{Slot}
+use Rattle.pc_core.specs.declared.nodes.SlotKind.{SlotKind}
+use Rattle.pc_core.specs.declared.nodes.SlotKind.TheVariants as slot
+use Rattle.pc_core.specs.declared.nodes.Node.{Node}
+use Rattle.pc_core.specs.declared.nodes.NodeKind.{NodeKind}
+use Rattle.pc_core.specs.declared.nodes.NodeKind.TheVariants as node
+use Rattle.pc_core.specs.CoreData.{CoreData}
+use Rattle.pc_core.specs.Words.{Each, Has}
+use Rattle.pc_core.specs.Lookup.{own_slots, own_nodes}
+
+-- The entities in which a method of this kind stands.
+abbrev pub stands_in : MethodKind → EntityKind → Bool
+stands_in method.Fun k = true
+stands_in method.Be kind.Actor = true
+stands_in method.Be kind.Trait = true
+stands_in method.New kind.Class = true
+stands_in method.Spawn kind.Actor = true
+stands_in m k = false
+
+-- A behaviour answers None, and a constructor a new object of its entity: an actor's as `tag`, a class's as a value of
+-- some capability that no place holds. In all three `this` is `ref`.
+abbrev pub ResultFits : MethodKind → Method → Type 0
+ResultFits method.Fun x = Unit {0}
+ResultFits method.Be x = (x.receiver ≡ cap.Ref) × (x.result ≡ (0, form.Val))
+ResultFits method.New x = (x.receiver ≡ cap.Ref) × (x.result.0 ≡ x.entity) × ((k : Cap) × (x.result.1 ≡ unalias k))
+ResultFits method.Spawn x = (x.receiver ≡ cap.Ref) × (x.result ≡ (x.entity, form.Tag))
+
+-- The slot of `this`, and that of a parameter.
+abbrev pub this_slot : ℕ → Method → Slot
+this_slot m x = record { method = m; kind = slot.This; depth = 0; written = Some (x.entity, x.receiver) }
+
+abbrev pub param_slot : ℕ → ParamInfo → Slot
+param_slot m p = record { method = m; kind = slot.Param; depth = 0; written = Some (p.entity, p.cap) }
+
+abbrev pub is_local : SlotKind → Bool
+is_local slot.Let = true
+is_local slot.Var = true
+is_local k = false
+
+-- A node of this kind uses the slot of index s.
+abbrev pub Uses : ℕ → NodeKind → Type 0
+Uses s (node.Local i) = i ≡ s
+Uses s (node.Consume i) = i ≡ s
+Uses s (node.Assign i) = i ≡ s
+Uses s k = ⊥
+
+-- The slot of index s in method m is that of a local. It is defined once, by an item of a sequence, at its own depth; and
+-- what uses it stands in a later item of that sequence. Since nodes stand in post-order, those are the nodes between the
+-- item and the sequence.
+pub record LocalFits (core : CoreData) (m s : ℕ) (x : Slot) : Type 0 where
+  pub kind : is_local x.kind ≡ true
+  pub method : x.method ≡ m
+  pub written : (ty : ℕ × Cap) → x.written ≡ Some ty → ty.0 < length core.entities
+  -- its definition
+  pub define : ℕ
+  pub definition : Node
+  pub is_definition : slice_get core.nodes define ≡ Some definition
+  pub defines : definition.kind ≡ node.Define s
+  pub own : definition.method ≡ m
+  pub depth : definition.depth ≡ x.depth
+  -- the sequence of which that is an item
+  pub sequence : ℕ
+  pub around : Node
+  pub is_around : slice_get core.nodes sequence ≡ Some around
+  pub is_sequence : around.kind ≡ node.Seq
+  pub item : Has around.children define
+  -- there is no other definition, and each use comes after it
+  pub only : Each (λ n y. y.method ≡ m → y.kind ≡ node.Define s → n ≡ define) core.nodes
+  pub later : Each (λ n y. y.method ≡ m → Uses s y.kind → (define < n) × (n < sequence)) core.nodes
+
+-- The slots of method m: `this`, then the parameters, then the locals.
+abbrev pub SlotsFit : CoreData → ℕ → Method → Type 0
+SlotsFit core m x =
+    (locals : List Slot) × (own_slots core x ≡ this_slot m x ∷ map (param_slot m) x.params ++ locals)
+    × Each (λ i s. LocalFits core m (1 + length x.params + i) s) locals
+
+-- From number n on, these nodes stand in post-order: going through them with the list of the nodes whose parent has not
+-- come, each node's children are the last ones of that list, in order, and the node takes their place. The third argument
+-- is the list before the nodes, and the last one the list behind them.
+abbrev pub PostOrder : ℕ → List Node → List ℕ → List ℕ → Type 0
+PostOrder n [] waiting last = waiting ≡ last
+PostOrder n (x ∷ xs) waiting last = (rest : List ℕ) × (waiting ≡ rest ++ x.children) × PostOrder (n + 1) xs (rest ++ n ∷ []) last
+
+-- The nodes of method m stand in post-order up to its one body, which is their only root.
+pub record BodyFits (core : CoreData) (m : ℕ) (x : Method) (body : ℕ) : Type 0 where
+  pub from : x.first_node ≤ body
+  pub own : Each (λ i y. y.method ≡ m) (own_nodes core x)
+  pub post_order : PostOrder x.first_node (own_nodes core x) [] (body ∷ [])
+  pub root : Node
+  pub is_root : slice_get core.nodes body ≡ Some root
+  pub is_body : root.kind ≡ node.Body
+  pub depth : root.depth ≡ 0
+  pub one : Each (λ i y. y.kind ≡ node.Body → x.first_node + i ≡ body) (own_nodes core x)
+
+-- Method number m fits the core.
+pub record MethodFits (core : CoreData) (m : ℕ) (x : Method) : Type 0 where
+  -- the entity that it belongs to
+  pub owner : EntityDef
+  pub is_owner : slice_get core.entities x.entity ≡ Some owner
+  pub placed : stands_in x.kind owner.kind ≡ true
+  -- its declaration
+  pub name : x.name < length core.names
+  pub params : Each (λ i p. p.entity < length core.entities) x.params
+  pub result : x.result.0 < length core.entities
+  pub result_fits : ResultFits x.kind x
+  -- its slots
+  pub few_slots : x.slots ≤ 64
+  pub slots : (m ≡ 0) ⊎ SlotsFit core m x
+  -- its nodes
+  pub has_body : (m ≡ 0) ⊎ (owner.kind ≡ kind.Trait) ⊎ IsSome x.body
+  pub body : (b : ℕ) → x.body ≡ Some b → BodyFits core m x b

@@ -1,0 +1,69 @@
+//! Fields and methods by their names.
+ghost use Rattle.std.specs.Prelude.{◌≡◌, ℕ, ◌+◌, ◌<◌, ◌≤◌, ◌^◌, length, MatchOption, slice_range};
+ghost use Rattle.pc_core.specs.Lookup as spec;
+
+use crate::cores::Core;
+use crate::declarations::{FieldInfo, Method};
+
+impl Core {
+    /// The index of the entity's field of this name. `None` exactly where there is no such entity or it has no such
+    /// field. Takes no memory.
+    pub fn field(&self, entity: u32, name: u32) -> Option<u32>
+        ensures value { result ≡ spec.field_named self.now entity name }
+        ensures exact { MatchOption result ((i : ℕ) → ¬ (spec.IsField self.now entity name i)) (λ i. spec.IsField self.now entity name i) }
+    {
+        self.formed();
+        let found = self.entity_at(entity)?;
+        place_of_field(found.fields.as_slice(), name)
+    }
+
+    /// The number of the entity's method of this name. `None` exactly where there is no such entity or it has no such
+    /// method. Takes no memory.
+    pub fn method(&self, entity: u32, name: u32) -> Option<u32>
+        ensures value { result ≡ spec.method_named self.now entity name }
+        ensures exact { MatchOption result ((m : ℕ) → ¬ (spec.IsMethod self.now entity name m)) (λ m. spec.IsMethod self.now entity name m) }
+    {
+        self.formed();
+        let found = self.entity_at(entity)?;
+        let methods = part(self.methods(), found.first_method, found.methods);
+        place_of_method(methods, name, found.first_method)
+    }
+}
+
+// As many methods as this, from this number on.
+fn part(methods: &[Method], first: u32, count: u32) -> &[Method]
+    requires { first + count ≤ length methods.now }
+    ensures { result.now ≡ slice_range methods.now first (first + count) }
+{
+    &methods[first as usize..first as usize + count as usize]
+}
+
+// The index of the first field of this name.
+fn place_of_field(fields: &[FieldInfo], name: u32) -> Option<u32>
+    requires { length fields.now ≤ 64 }
+    ensures { result ≡ spec.place_of spec.field_name name fields.now 0 }
+{
+    let mut at = 0;
+    for field in fields {
+        if field.name == name {
+            return Some(at);
+        }
+        at += 1;
+    }
+    None
+}
+
+// The number of the first method of this name, where the first one has this number.
+fn place_of_method(methods: &[Method], name: u32, first: u32) -> Option<u32>
+    requires { first + length methods.now < 2 ^ 32 }
+    ensures { result ≡ spec.place_of spec.method_name name methods.now first }
+{
+    let mut at = first;
+    for method in methods {
+        if method.name == name {
+            return Some(at);
+        }
+        at += 1;
+    }
+    None
+}
