@@ -1,0 +1,3 @@
+pub mod Sub
+pub mod Declarations
+pub mod Above
