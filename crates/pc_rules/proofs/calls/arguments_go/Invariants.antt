@@ -1,0 +1,6 @@
+use Rattle.std.proofs.Common.{◌≡◌, drop}
+use Rattle.pc_rules.specs.Calls as spec
+use Rattle.pc_rules.proofs.calls.arguments_go.Given as goal
+
+abbrev pub invariant-loop-argument : goal.invariant-loop-argument
+invariant-loop-argument l = spec.arguments_go l.core l.ann (drop l.argument-index l.arguments) l.left ≡ spec.arguments_go l.core l.ann l.arguments l.params

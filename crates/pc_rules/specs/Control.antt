@@ -1,0 +1,140 @@
+-- Rules for sequences, branches, loops, recover and bodies.
+use Rattle.std.specs.Prelude.{ℕ, ◌+◌, Bool, true, false, ◌&&◌, List, [], ◌∷◌, length, Option, Some, None, slice_get, if◌then◌else◌}
+use Rattle.pc_caps.specs.Tables.{fits, unalias, lift}
+use Rattle.pc_rules.specs.Parts.{Ty, Masks, says_of, reads_as, lower, constructs, all_fields, through, type_of, one_child, two_children, three_children, last_child}
+use Rattle.pc_rules.specs.Operators.{meet_masks}
+use Rattle.pc_caps.specs.declared.capability.Cap.{Cap}
+use Rattle.pc_caps.specs.declared.capability.Form.{Form}
+use Rattle.pc_caps.specs.declared.capability.Form.TheVariants as form
+use Rattle.pc_core.specs.declared.declarations.Method.{Method}
+use Rattle.pc_core.specs.declared.declarations.MethodKind.{MethodKind}
+use Rattle.pc_core.specs.declared.declarations.MethodKind.TheVariants as method
+use Rattle.pc_core.specs.declared.nodes.Node.{Node}
+use Rattle.pc_core.specs.declared.nodes.NodeKind.{NodeKind}
+use Rattle.pc_core.specs.declared.nodes.NodeKind.TheVariants as node
+use Rattle.pc_core.specs.CoreData.{CoreData}
+use Rattle.pc_core.specs.Words.{◌>>=◌}
+use Rattle.pc_ann.specs.declared.mask.Mask.{Mask}
+use Rattle.pc_ann.specs.declared.annotation.Ann.{Ann}
+use Rattle.pc_ann.specs.Masks.{empty, first, without_number, within, same}
+use Rattle.pc_rules.specs.declared.said.Said.{Said}
+
+-- ---- sequences
+
+-- The slot that an item of a sequence defines is live no more behind the sequence.
+abbrev pub without_definition : NodeKind → Mask → Mask
+without_definition (node.Define s) l = without_number l s
+without_definition k l = l
+
+abbrev pub without_item : Option Node → Mask → Mask
+without_item None l = l
+without_item (Some y) l = without_definition y.kind l
+
+abbrev pub without_items : CoreData → List ℕ → Mask → Mask
+without_items core [] l = l
+without_items core (c ∷ cs) l = without_items core cs (without_item (slice_get core.nodes c) l)
+
+-- Seq: the last item's type, or none; the slots of its definitions are live no more.
+abbrev pub seq_says : CoreData → Ann → Node → Masks → Option Said
+seq_says core ann x m = do
+  c ← last_child x.children
+  t ← slice_get ann.notes c
+  n ← through ann x.children m
+  Some (says_of t.ty (without_items core x.children n.0, n.1))
+
+-- ---- branches and loops
+
+-- The type of two branches: that of the second where the first is below it, else that of the first where the second is
+-- below it, else none.
+abbrev pub joined_types : CoreData → Ty → Ty → Option Ty
+joined_types core a b = if lower core a b then Some b else (if lower core b a then Some a else None)
+
+abbrev pub joined : CoreData → Option Ty → Option Ty → Option Ty
+joined core (Some a) (Some b) = joined_types core a b
+joined core a b = None
+
+-- Both branches start from what the condition leaves; behind the node stands what both leave.
+abbrev pub branch_masks : Ann → ℕ × ℕ × ℕ → Masks → Option Masks
+branch_masks ann c m = do
+  n ← through ann (c.0 ∷ []) m
+  a ← through ann (c.1 ∷ []) n
+  b ← through ann (c.2 ∷ []) n
+  Some (meet_masks a b)
+
+abbrev pub branch_types : Ann → ℕ × ℕ × ℕ → Option (Option Ty × Option Ty)
+branch_types ann c = do
+  a ← slice_get ann.notes c.1
+  b ← slice_get ann.notes c.2
+  Some (a.ty, b.ty)
+
+-- A condition is a readable Bool.
+abbrev pub is_condition : Option Ty → Bool
+is_condition None = false
+is_condition (Some v) = reads_as 2 v
+
+-- If: the two branches' type.
+abbrev pub if_says : CoreData → Ann → Node → Masks → Option Said
+if_says core ann x m = do
+  c ← three_children x.children
+  n ← branch_masks ann c m
+  ts ← branch_types ann c
+  if is_condition (type_of ann c.0) then Some (says_of (joined core ts.0 ts.1) n) else None
+
+-- The body starts from what the condition leaves, keeps live what is live before the node, and leaves the set fields as
+-- they are before it.
+abbrev pub loop_masks : Ann → ℕ × ℕ → Masks → Option Masks
+loop_masks ann c m = do
+  n ← through ann (c.0 ∷ []) m
+  k ← through ann (c.1 ∷ []) n
+  if within m.0 k.0 && same k.1 m.1 then Some n else None
+
+-- While: None, and the masks that the condition leaves.
+abbrev pub while_says : Ann → Node → Masks → Option Said
+while_says ann x m = do
+  c ← two_children x.children
+  n ← loop_masks ann c m
+  if is_condition (type_of ann c.0) then Some (says_of (Some (0, form.Val)) n) else None
+
+-- ---- recover
+
+-- The form of a recover's value: that of its body lifted, or what the written capability gives, where that fits it.
+abbrev pub recovered : Option Cap → Form → Option Form
+recovered None f = Some (lift f)
+recovered (Some k) f = if fits (lift f) k then Some (unalias k) else None
+
+-- Recover: the body has a type; its entity, in that form.
+abbrev pub recover_says : Ann → Node → Option Cap → Masks → Option Said
+recover_says ann x k m = do
+  c ← one_child x.children
+  v ← type_of ann c
+  f ← recovered k v.1
+  n ← through ann x.children m
+  Some (says_of (Some (v.0, f)) n)
+
+-- ---- bodies
+
+-- The masks with which a method starts: `this` and the parameters are live; no field is set in a constructor, and all are
+-- elsewhere.
+abbrev pub start_set : CoreData → Method → Mask
+start_set core f = if constructs f.kind then empty else all_fields core f.entity
+
+abbrev pub starts_method : CoreData → Method → Masks → Bool
+starts_method core f m = same m.0 (first (1 + length f.params)) && same m.1 (start_set core f)
+
+-- What a function's sequence gives is below its result. Of other methods nothing is asked.
+abbrev pub gives : CoreData → Ty → Option Ty → Bool
+gives core r None = false
+gives core r (Some v) = lower core v r
+
+abbrev pub result_ok : CoreData → MethodKind → Ty → Option Ty → Bool
+result_ok core method.Fun r v = gives core r v
+result_ok core k r v = true
+
+-- Body: the masks are those of the start, and a function's sequence gives its result. There is no value.
+abbrev pub body_says : CoreData → Ann → Node → Masks → Option Said
+body_says core ann x m = do
+  f ← slice_get core.methods x.method
+  c ← one_child x.children
+  t ← slice_get ann.notes c
+  n ← through ann x.children m
+  if starts_method core f m && result_ok core f.kind f.result t.ty then Some (says_of None n) else None

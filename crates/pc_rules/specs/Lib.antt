@@ -1,0 +1,10 @@
+pub mod Parts
+pub mod Values
+pub mod Fields
+pub mod Calls
+pub mod Operators
+pub mod Control
+pub mod Rules
+pub mod Valid
+pub mod Statements
+pub mod Example

@@ -1,0 +1,139 @@
+-- What the rules look at: slots, masks, the notes of children and their types.
+use Rattle.std.specs.Prelude.{ℕ, ◌+◌, ◌-◌, Bool, true, false, ◌&&◌, ◌||◌, List, [], ◌∷◌, length, Option, Some, None, nat_eq, slice_get, if◌then◌else◌}
+use Rattle.pc_caps.specs.Order.{is_below}
+use Rattle.pc_caps.specs.Tables.{fits, sendable}
+use Rattle.pc_sub.specs.Sub.{is_sub}
+use Rattle.pc_caps.specs.declared.capability.Cap.{Cap}
+use Rattle.pc_caps.specs.declared.capability.Form.{Form}
+use Rattle.pc_caps.specs.declared.capability.Form.TheVariants as form
+use Rattle.pc_core.specs.declared.declarations.EntityDef.{EntityDef}
+use Rattle.pc_core.specs.declared.declarations.MethodKind.{MethodKind}
+use Rattle.pc_core.specs.declared.declarations.MethodKind.TheVariants as method
+use Rattle.pc_core.specs.declared.nodes.Slot.{Slot}
+use Rattle.pc_core.specs.declared.nodes.Node.{Node}
+use Rattle.pc_core.specs.CoreData.{CoreData}
+use Rattle.pc_core.specs.Words.{◌>>=◌}
+use Rattle.pc_ann.specs.declared.mask.Mask.{Mask}
+use Rattle.pc_ann.specs.declared.annotation.Note.{Note}
+use Rattle.pc_ann.specs.declared.annotation.Ann.{Ann}
+use Rattle.pc_ann.specs.Masks.{first, within, same}
+use Rattle.pc_rules.specs.declared.said.Said.{Said}
+
+-- The type of a value: its entity and its form.
+abbrev pub Ty : Type 0
+Ty = ℕ × Form
+
+-- The masks of live slots and of set fields.
+abbrev pub Masks : Type 0
+Masks = Mask × Mask
+
+-- What a rule says: this type, or none, and these masks after the node.
+abbrev pub says_of : Option Ty → Masks → Said
+says_of ty m = record { ty = ty; live = m.0; set = m.1 }
+
+-- ---- types
+
+-- A value of form F is readable: F is below `box`.
+abbrev pub readable : Form → Bool
+readable f = is_below f form.Box
+
+-- A value of this type goes to a place of this entity and capability.
+abbrev pub goes_to : CoreData → Ty → ℕ × Cap → Bool
+goes_to core v place = is_sub core v.0 place.0 && fits v.1 place.1
+
+-- A type is below another in entity and form.
+abbrev pub lower : CoreData → Ty → Ty → Bool
+lower core a b = is_sub core a.0 b.0 && is_below a.1 b.1
+
+-- A readable value of this entity.
+abbrev pub reads_as : ℕ → Ty → Bool
+reads_as e v = nat_eq v.0 e && readable v.1
+
+-- ---- slots
+
+-- A slot of a method by its index, with its type in the annotation.
+abbrev pub slot_of : CoreData → Ann → ℕ → ℕ → Option (Slot × (ℕ × Cap))
+slot_of core ann m s = do
+  x ← slice_get core.methods m
+  y ← slice_get core.slots (x.first_slot + s)
+  ty ← slice_get ann.slots (x.first_slot + s)
+  Some (y, ty)
+
+-- A slot is reachable from a node: it is of the same depth, or its capability is sendable.
+abbrev pub reachable : Node → Slot × (ℕ × Cap) → Bool
+reachable x i = nat_eq i.0.depth x.depth || sendable i.1.1
+
+-- ---- methods and fields
+
+abbrev pub constructs : MethodKind → Bool
+constructs method.New = true
+constructs method.Spawn = true
+constructs k = false
+
+-- How many fields an entity has.
+abbrev pub fields_in : Option EntityDef → ℕ
+fields_in None = 0
+fields_in (Some x) = length x.fields
+
+abbrev pub field_count : CoreData → ℕ → ℕ
+field_count core e = fields_in (slice_get core.entities e)
+
+-- The set mask with all fields of an entity.
+abbrev pub all_fields : CoreData → ℕ → Mask
+all_fields core e = first (field_count core e)
+
+-- A set mask is full: it has all fields of the entity.
+abbrev pub full : CoreData → ℕ → Mask → Bool
+full core e s = within (all_fields core e) s
+
+-- ---- children
+
+-- The masks of a note before its node.
+abbrev pub before : Note → Masks
+before t = (t.live_before, t.set_before)
+
+-- The masks of a note behind its node.
+abbrev pub after : Note → Masks
+after t = (t.live_after, t.set_after)
+
+-- A node of this note starts from these masks.
+abbrev pub starts : Note → Masks → Bool
+starts t m = same t.live_before m.0 && same t.set_before m.1
+
+-- The masks behind these nodes, one evaluated after the other from these masks on. There are none where one of them
+-- starts from other masks than the one before it leaves.
+abbrev pub through : Ann → List ℕ → Masks → Option Masks
+through ann [] m = Some m
+through ann (c ∷ cs) m = do
+  t ← slice_get ann.notes c
+  if starts t m then through ann cs (after t) else None
+
+-- The type of a child that a rule uses.
+abbrev pub type_of : Ann → ℕ → Option Ty
+type_of ann c = do
+  t ← slice_get ann.notes c
+  t.ty
+
+-- As many children as the kind has.
+abbrev pub one_child : List ℕ → Option ℕ
+one_child (a ∷ []) = Some a
+one_child cs = None
+
+abbrev pub two_children : List ℕ → Option (ℕ × ℕ)
+two_children (a ∷ b ∷ []) = Some (a, b)
+two_children cs = None
+
+abbrev pub three_children : List ℕ → Option (ℕ × ℕ × ℕ)
+three_children (a ∷ b ∷ c ∷ []) = Some (a, b, c)
+three_children cs = None
+
+abbrev pub last_child : List ℕ → Option ℕ
+last_child cs = slice_get cs (length cs - 1)
+
+-- The types of two children.
+abbrev pub two_types : Ann → List ℕ → Option (Ty × Ty)
+two_types ann cs = do
+  c ← two_children cs
+  a ← type_of ann c.0
+  b ← type_of ann c.1
+  Some (a, b)

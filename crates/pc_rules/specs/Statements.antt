@@ -1,0 +1,39 @@
+-- Laws of the rules.
+use Rattle.std.specs.Prelude.{◌≡◌, ◌≢◌, ◌⊎◌, ◌↔◌, ℕ, ◌<◌, List, Some, slice_get}
+use Rattle.pc_core.specs.declared.nodes.Node.{Node}
+use Rattle.pc_core.specs.declared.nodes.NodeKind.TheVariants as node
+use Rattle.pc_core.specs.CoreData.{CoreData}
+use Rattle.pc_core.specs.Words.{Has}
+use Rattle.pc_ann.specs.declared.annotation.Note.{Note}
+use Rattle.pc_ann.specs.declared.annotation.Ann.{Ann}
+use Rattle.pc_ann.specs.declared.annotation.Rule.TheVariants as rule
+use Rattle.pc_ann.specs.Masks.{IsIn}
+use Rattle.pc_rules.specs.declared.said.Said.{Said}
+use Rattle.pc_rules.specs.Parts.{Masks, before, through}
+use Rattle.pc_rules.specs.Rules.{says, said_by, Meets}
+
+-- Two notes of one node that meet the same rule from the same masks say the same type and the same masks behind it.
+abbrev pub RulesDetermine : Type 0
+RulesDetermine = (core : CoreData) (ann : Ann) (x : Node) (a b : Note) → a.rule ≡ b.rule → before a ≡ before b → Meets core ann x a → Meets core ann x b → said_by a ≡ said_by b
+
+-- Behind a consume exactly its slot is live no more, and the set fields are as before.
+abbrev pub ConsumeTakesOut : Type 0
+ConsumeTakesOut =
+    (core : CoreData) (ann : Ann) (x : Node) (s : ℕ) (m : Masks) (r : Said) → says core ann x m rule.Consume (node.Consume s) ≡ Some r
+    → ((i : ℕ) → (IsIn r.live i) ↔ ((i ≢ s) × IsIn m.0 i)) × (r.set ≡ m.1)
+
+-- Behind a definition exactly its slot is live besides what is behind the value, and the set fields are as there.
+abbrev pub DefinePutsIn : Type 0
+DefinePutsIn =
+    (core : CoreData) (ann : Ann) (x : Node) (s : ℕ) (m n : Masks) (r : Said) → says core ann x m rule.Define (node.Define s) ≡ Some r → through ann x.children m ≡ Some n
+    → ((i : ℕ) → (IsIn r.live i) ↔ (((i ≡ s) × (s < 64)) ⊎ IsIn n.0 i)) × (r.set ≡ n.1)
+
+-- One of these nodes defines the slot of this index.
+abbrev pub Defines : CoreData → List ℕ → ℕ → Type 0
+Defines core cs i = (c : ℕ) × (y : Node) × Has cs c × (slice_get core.nodes c ≡ Some y) × (y.kind ≡ node.Define i)
+
+-- Behind a sequence exactly the slots that its items define are live no more, and the set fields are as behind its last item.
+abbrev pub SeqTakesOut : Type 0
+SeqTakesOut =
+    (core : CoreData) (ann : Ann) (x : Node) (m n : Masks) (r : Said) → says core ann x m rule.Seq node.Seq ≡ Some r → through ann x.children m ≡ Some n
+    → ((i : ℕ) → (IsIn r.live i) ↔ (IsIn n.0 i × ((Defines core x.children i) → ⊥))) × (r.set ≡ n.1)

@@ -1,0 +1,243 @@
+//! Rules for sequences, branches, loops, recover and bodies.
+ghost use Rattle.std.specs.Prelude.{◌≡◌, slice_get, length, ◌+◌};
+ghost use Rattle.pc_ann.specs.Masks.{first};
+ghost use Rattle.pc_rules.specs.Control as spec;
+
+use crate::operators::meet_masks;
+use crate::parts::{
+    all_fields, constructs, last_child, lower, note_at, one_child, reads_as, says_of,
+    three_children, through, two_children, type_of,
+};
+use crate::said::Said;
+use pc_ann::{Ann, Mask};
+use pc_caps::{Cap, Form, fits, lift, unalias};
+use pc_core::{Core, Method, MethodKind, Node, NodeKind};
+
+// The live mask without the slot that a node defines.
+fn without_definition(kind: &NodeKind, live: Mask) -> Mask
+    ensures { result ≡ spec.without_definition kind.now live }
+{
+    match kind {
+        NodeKind::Define(slot) => live.without(*slot),
+        _ => live,
+    }
+}
+
+fn without_item(core: &Core, item: u32, live: Mask) -> Mask
+    ensures { result ≡ spec.without_item (slice_get core.now.nodes item) live }
+{
+    match core.node_at(item) {
+        None => live,
+        Some(node) => without_definition(&node.kind, live),
+    }
+}
+
+// The live mask without the slots that the items of a sequence define.
+fn without_items(core: &Core, items: &[u32], live: Mask) -> Mask
+    ensures { result ≡ spec.without_items core.now items.now live }
+{
+    let mut left = live;
+    for item in items {
+        left = without_item(core, *item, left);
+    }
+    left
+}
+
+// A sequence.
+pub(crate) fn seq_says(core: &Core, ann: &Ann, node: &Node, masks: (Mask, Mask)) -> Option<Said>
+    ensures { result ≡ spec.seq_says core.now ann.now node.now masks }
+{
+    let items = node.children.as_slice();
+    let last = last_child(items)?;
+    let note = note_at(ann, last)?;
+    let reached = through(ann, items, masks)?;
+    Some(says_of(note.ty, (without_items(core, items, reached.0), reached.1)))
+}
+
+// The type of two branches.
+fn joined(core: &Core, a: Option<(u32, Form)>, b: Option<(u32, Form)>) -> Option<(u32, Form)>
+    ensures { result ≡ spec.joined core.now a b }
+{
+    match (a, b) {
+        (Some(first), Some(second)) => joined_types(core, first, second),
+        (_, _) => None,
+    }
+}
+
+fn joined_types(core: &Core, a: (u32, Form), b: (u32, Form)) -> Option<(u32, Form)>
+    ensures { result ≡ spec.joined_types core.now a b }
+{
+    if lower(core, a, b) {
+        Some(b)
+    } else if lower(core, b, a) {
+        Some(a)
+    } else {
+        None
+    }
+}
+
+// The masks behind a branch, whichever way is taken.
+fn branch_masks(ann: &Ann, children: (u32, u32, u32), masks: (Mask, Mask)) -> Option<(Mask, Mask)>
+    ensures { result ≡ spec.branch_masks ann.now children masks }
+{
+    let tested = through(ann, &[children.0], masks)?;
+    let a = through(ann, &[children.1], tested)?;
+    let b = through(ann, &[children.2], tested)?;
+    Some(meet_masks(a, b))
+}
+
+fn branch_types(
+    ann: &Ann,
+    children: (u32, u32, u32),
+) -> Option<(Option<(u32, Form)>, Option<(u32, Form)>)>
+    ensures { result ≡ spec.branch_types ann.now children }
+{
+    let a = note_at(ann, children.1)?;
+    let b = note_at(ann, children.2)?;
+    Some((a.ty, b.ty))
+}
+
+// Whether a value of this type decides a branch.
+fn is_condition(ty: Option<(u32, Form)>) -> bool
+    ensures { result ≡ spec.is_condition ty }
+{
+    match ty {
+        None => false,
+        Some(ty) => reads_as(2, ty),
+    }
+}
+
+// `if`.
+pub(crate) fn if_says(core: &Core, ann: &Ann, node: &Node, masks: (Mask, Mask)) -> Option<Said>
+    ensures { result ≡ spec.if_says core.now ann.now node.now masks }
+{
+    let children = three_children(node.children.as_slice())?;
+    let reached = branch_masks(ann, children, masks)?;
+    let types = branch_types(ann, children)?;
+    if is_condition(type_of(ann, children.0)) {
+        Some(says_of(joined(core, types.0, types.1), reached))
+    } else {
+        None
+    }
+}
+
+// The masks behind a loop.
+fn loop_masks(ann: &Ann, children: (u32, u32), masks: (Mask, Mask)) -> Option<(Mask, Mask)>
+    ensures { result ≡ spec.loop_masks ann.now children masks }
+{
+    let tested = through(ann, &[children.0], masks)?;
+    let looped = through(ann, &[children.1], tested)?;
+    if masks.0.is_within(looped.0) && looped.1 == masks.1 {
+        Some(tested)
+    } else {
+        None
+    }
+}
+
+// `while`.
+pub(crate) fn while_says(ann: &Ann, node: &Node, masks: (Mask, Mask)) -> Option<Said>
+    ensures { result ≡ spec.while_says ann.now node.now masks }
+{
+    let children = two_children(node.children.as_slice())?;
+    let reached = loop_masks(ann, children, masks)?;
+    if is_condition(type_of(ann, children.0)) {
+        Some(says_of(Some((0, Form::Val)), reached))
+    } else {
+        None
+    }
+}
+
+// The form of a recover's value.
+fn recovered(written: Option<Cap>, body: Form) -> Option<Form>
+    ensures { result ≡ spec.recovered written body }
+{
+    match written {
+        None => Some(lift(body)),
+        Some(cap) if fits(lift(body), cap) => Some(unalias(cap)),
+        Some(_) => None,
+    }
+}
+
+// `recover`.
+pub(crate) fn recover_says(
+    ann: &Ann,
+    node: &Node,
+    written: Option<Cap>,
+    masks: (Mask, Mask),
+) -> Option<Said>
+    ensures { result ≡ spec.recover_says ann.now node.now written masks }
+{
+    let child = one_child(node.children.as_slice())?;
+    let body = type_of(ann, child)?;
+    let form = recovered(written, body.1)?;
+    let reached = through(ann, node.children.as_slice(), masks)?;
+    Some(says_of(Some((body.0, form)), reached))
+}
+
+// The set mask with which a method starts.
+fn start_set(core: &Core, method: &Method) -> Mask
+    ensures { result ≡ spec.start_set core.now method.now }
+{
+    if constructs(method.kind) {
+        Mask::first(0)
+    } else {
+        all_fields(core, method.entity)
+    }
+}
+
+// The live mask with which a method starts.
+fn start_live(method: &Method) -> Mask
+    ensures { result ≡ first (1 + length method.now.params) }
+{
+    let count = method.params.len();
+    if count < 63 {
+        Mask::first(count as u32 + 1)
+    } else {
+        Mask::first(64)
+    }
+}
+
+fn starts_method(core: &Core, method: &Method, masks: (Mask, Mask)) -> bool
+    ensures { result ≡ spec.starts_method core.now method.now masks }
+{
+    masks.0 == start_live(method) && masks.1 == start_set(core, method)
+}
+
+fn gives(core: &Core, result_type: (u32, Form), value: Option<(u32, Form)>) -> bool
+    ensures { result ≡ spec.gives core.now result_type value }
+{
+    match value {
+        None => false,
+        Some(value) => lower(core, value, result_type),
+    }
+}
+
+// Whether a function's value is below its result.
+fn result_ok(
+    core: &Core,
+    kind: MethodKind,
+    result_type: (u32, Form),
+    value: Option<(u32, Form)>,
+) -> bool
+    ensures { result ≡ spec.result_ok core.now kind result_type value }
+{
+    match kind {
+        MethodKind::Fun => gives(core, result_type, value),
+        _ => true,
+    }
+}
+
+// The body of a method.
+pub(crate) fn body_says(core: &Core, ann: &Ann, node: &Node, masks: (Mask, Mask)) -> Option<Said>
+    ensures { result ≡ spec.body_says core.now ann.now node.now masks }
+{
+    let method = core.method_at(node.method)?;
+    let child = one_child(node.children.as_slice())?;
+    let note = note_at(ann, child)?;
+    let reached = through(ann, node.children.as_slice(), masks)?;
+    if starts_method(core, method, masks) && result_ok(core, method.kind, method.result, note.ty) {
+        Some(says_of(None, reached))
+    } else {
+        None
+    }
+}

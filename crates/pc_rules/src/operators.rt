@@ -1,0 +1,173 @@
+//! Rules for operators.
+ghost use Rattle.std.specs.Prelude.{◌≡◌, ◌&&◌, ◌||◌};
+ghost use Rattle.pc_rules.specs.Operators as spec;
+
+use crate::parts::{one_child, reads_as, says_of, through, two_children, two_types, type_of};
+use crate::said::Said;
+use pc_ann::{Ann, Mask};
+use pc_caps::Form;
+use pc_core::Node;
+use pc_tree::Op;
+
+fn is_arithmetic(op: Op) -> bool
+    ensures { result ≡ spec.is_arithmetic op }
+{
+    matches!(op, Op::Add | Op::Sub | Op::Mul | Op::Div | Op::Rem)
+}
+
+fn is_comparison(op: Op) -> bool
+    ensures { result ≡ spec.is_comparison op }
+{
+    matches!(op, Op::Lt | Op::Le | Op::Gt | Op::Ge)
+}
+
+fn is_equality(op: Op) -> bool
+    ensures { result ≡ spec.is_equality op }
+{
+    matches!(op, Op::Eq | Op::Ne)
+}
+
+fn is_add(op: Op) -> bool
+    ensures { result ≡ spec.is_add op }
+{
+    matches!(op, Op::Add)
+}
+
+fn is_xor(op: Op) -> bool
+    ensures { result ≡ spec.is_xor op }
+{
+    matches!(op, Op::Xor)
+}
+
+// Whether both are readable values of this entity.
+fn both_read_as(entity: u32, values: ((u32, Form), (u32, Form))) -> bool
+    ensures { result ≡ spec.both_read_as entity values }
+{
+    reads_as(entity, values.0) && reads_as(entity, values.1)
+}
+
+// The masks behind two children, and a value of this entity, as `val`.
+fn value_says(entity: u32, ann: &Ann, node: &Node, masks: (Mask, Mask)) -> Option<Said>
+    ensures { result ≡ spec.value_says entity ann.now node.now masks }
+{
+    let reached = through(ann, node.children.as_slice(), masks)?;
+    Some(says_of(Some((entity, Form::Val)), reached))
+}
+
+// Arithmetic.
+pub(crate) fn arith_says(ann: &Ann, node: &Node, op: Op, masks: (Mask, Mask)) -> Option<Said>
+    ensures { result ≡ spec.arith_says ann.now node.now op masks }
+{
+    let values = two_types(ann, node.children.as_slice())?;
+    if is_arithmetic(op) && both_read_as(1, values) {
+        value_says(1, ann, node, masks)
+    } else {
+        None
+    }
+}
+
+// Less and greater.
+pub(crate) fn compare_says(ann: &Ann, node: &Node, op: Op, masks: (Mask, Mask)) -> Option<Said>
+    ensures { result ≡ spec.compare_says ann.now node.now op masks }
+{
+    let values = two_types(ann, node.children.as_slice())?;
+    if is_comparison(op) && both_read_as(1, values) {
+        value_says(2, ann, node, masks)
+    } else {
+        None
+    }
+}
+
+// Whether both are numbers, truth values or texts.
+fn comparable(values: ((u32, Form), (u32, Form))) -> bool
+    ensures { result ≡ spec.comparable values }
+{
+    both_read_as(1, values) || both_read_as(2, values) || both_read_as(3, values)
+}
+
+// Equality.
+pub(crate) fn equal_says(ann: &Ann, node: &Node, op: Op, masks: (Mask, Mask)) -> Option<Said>
+    ensures { result ≡ spec.equal_says ann.now node.now op masks }
+{
+    let values = two_types(ann, node.children.as_slice())?;
+    if is_equality(op) && comparable(values) {
+        value_says(2, ann, node, masks)
+    } else {
+        None
+    }
+}
+
+// Two texts as one.
+pub(crate) fn join_says(ann: &Ann, node: &Node, op: Op, masks: (Mask, Mask)) -> Option<Said>
+    ensures { result ≡ spec.join_says ann.now node.now op masks }
+{
+    let values = two_types(ann, node.children.as_slice())?;
+    if is_add(op) && both_read_as(3, values) {
+        value_says(3, ann, node, masks)
+    } else {
+        None
+    }
+}
+
+// `xor`.
+pub(crate) fn xor_says(ann: &Ann, node: &Node, op: Op, masks: (Mask, Mask)) -> Option<Said>
+    ensures { result ≡ spec.xor_says ann.now node.now op masks }
+{
+    let values = two_types(ann, node.children.as_slice())?;
+    if is_xor(op) && both_read_as(2, values) {
+        value_says(2, ann, node, masks)
+    } else {
+        None
+    }
+}
+
+// `not`.
+pub(crate) fn not_says(ann: &Ann, node: &Node, masks: (Mask, Mask)) -> Option<Said>
+    ensures { result ≡ spec.not_says ann.now node.now masks }
+{
+    let child = one_child(node.children.as_slice())?;
+    let value = type_of(ann, child)?;
+    if reads_as(2, value) {
+        value_says(2, ann, node, masks)
+    } else {
+        None
+    }
+}
+
+// `is` and `isnt`.
+pub(crate) fn identity_says(ann: &Ann, node: &Node, masks: (Mask, Mask)) -> Option<Said>
+    ensures { result ≡ spec.identity_says ann.now node.now masks }
+{
+    let _values = two_types(ann, node.children.as_slice())?;
+    value_says(2, ann, node, masks)
+}
+
+// The masks behind both of two ways.
+pub(crate) fn meet_masks(a: (Mask, Mask), b: (Mask, Mask)) -> (Mask, Mask)
+    ensures { result ≡ spec.meet_masks a b }
+{
+    (a.0.meet(b.0), a.1.meet(b.1))
+}
+
+// The masks behind an operator whose right side may not be evaluated.
+fn lazy_masks(ann: &Ann, children: &[u32], masks: (Mask, Mask)) -> Option<(Mask, Mask)>
+    ensures { result ≡ spec.lazy_masks ann.now children.now masks }
+{
+    let both = two_children(children)?;
+    let left = through(ann, &[both.0], masks)?;
+    let right = through(ann, &[both.1], left)?;
+    Some(meet_masks(left, right))
+}
+
+// `and` and `or`.
+pub(crate) fn lazy_says(ann: &Ann, node: &Node, masks: (Mask, Mask)) -> Option<Said>
+    ensures { result ≡ spec.lazy_says ann.now node.now masks }
+{
+    let values = two_types(ann, node.children.as_slice())?;
+    let reached = lazy_masks(ann, node.children.as_slice(), masks)?;
+    if both_read_as(2, values) {
+        Some(says_of(Some((2, Form::Val)), reached))
+    } else {
+        None
+    }
+}

@@ -1,0 +1,186 @@
+//! What the rules look at: slots, masks, the notes of children and their types.
+ghost use Rattle.std.specs.Prelude.{◌≡◌, length, slice_get};
+ghost use Rattle.pc_ann.specs.Masks.{first};
+ghost use Rattle.pc_rules.specs.Parts as spec;
+
+use crate::said::Said;
+use pc_ann::{Ann, Mask, Note};
+use pc_caps::{Cap, Form, below, fits, sendable};
+use pc_core::{Core, EntityDef, MethodKind, Node, Slot};
+use pc_sub::is_sub;
+
+// What a rule says: this type, or none, and these masks.
+pub(crate) fn says_of(ty: Option<(u32, Form)>, masks: (Mask, Mask)) -> Said
+    ensures { result ≡ spec.says_of ty masks }
+{
+    Said {
+        ty,
+        live: masks.0,
+        set: masks.1,
+    }
+}
+
+// Whether a value of this form may be read.
+pub(crate) fn readable(form: Form) -> bool
+    ensures { result ≡ spec.readable form }
+{
+    below(form, Form::Box)
+}
+
+// Whether a value goes to a place of this entity and capability.
+pub(crate) fn goes_to(core: &Core, value: (u32, Form), place: (u32, Cap)) -> bool
+    ensures { result ≡ spec.goes_to core.now value place }
+{
+    is_sub(core, value.0, place.0) && fits(value.1, place.1)
+}
+
+// Whether a type is below another in entity and form.
+pub(crate) fn lower(core: &Core, a: (u32, Form), b: (u32, Form)) -> bool
+    ensures { result ≡ spec.lower core.now a b }
+{
+    is_sub(core, a.0, b.0) && below(a.1, b.1)
+}
+
+// Whether a value is a readable one of this entity.
+pub(crate) fn reads_as(entity: u32, value: (u32, Form)) -> bool
+    ensures { result ≡ spec.reads_as entity value }
+{
+    value.0 == entity && readable(value.1)
+}
+
+// A slot of a method by its index, with its type.
+pub(crate) fn slot_of(core: &Core, ann: &Ann, method: u32, slot: u32) -> Option<(Slot, (u32, Cap))>
+    ensures { result ≡ spec.slot_of core.now ann.now method slot }
+{
+    let method = core.method_at(method)?;
+    let declared = core.slot_at(method, slot)?;
+    let ty = ann.slots.get(method.first_slot as usize + slot as usize)?;
+    Some((*declared, *ty))
+}
+
+// Whether a slot is reachable from a node.
+pub(crate) fn reachable(node: &Node, slot: (Slot, (u32, Cap))) -> bool
+    ensures { result ≡ spec.reachable node.now slot }
+{
+    slot.0.depth == node.depth || sendable(slot.1.1)
+}
+
+// Whether a method is a constructor.
+pub(crate) fn constructs(kind: MethodKind) -> bool
+    ensures { result ≡ spec.constructs kind }
+{
+    matches!(kind, MethodKind::New | MethodKind::Spawn)
+}
+
+// The set of all fields of an entity.
+pub(crate) fn all_fields(core: &Core, entity: u32) -> Mask
+    ensures { result ≡ spec.all_fields core.now entity }
+{
+    match core.entity_at(entity) {
+        None => Mask::first(0),
+        Some(found) => all_of(found),
+    }
+}
+
+// The set of this entity's fields: there are at most 64.
+fn all_of(entity: &EntityDef) -> Mask
+    ensures { result ≡ first (length entity.now.fields) }
+{
+    let count = entity.fields.len();
+    if count < 64 {
+        Mask::first(count as u32)
+    } else {
+        Mask::first(64)
+    }
+}
+
+// Whether a set mask has all fields of the entity.
+pub(crate) fn full(core: &Core, entity: u32, set: Mask) -> bool
+    ensures { result ≡ spec.full core.now entity set }
+{
+    all_fields(core, entity).is_within(set)
+}
+
+// Whether a node of this note starts from these masks.
+pub(crate) fn starts(note: Note, masks: (Mask, Mask)) -> bool
+    ensures { result ≡ spec.starts note masks }
+{
+    note.live_before == masks.0 && note.set_before == masks.1
+}
+
+// The note of a node.
+pub(crate) fn note_at(ann: &Ann, node: u32) -> Option<Note>
+    ensures { result ≡ slice_get ann.now.notes node }
+{
+    ann.notes.get(node as usize).copied()
+}
+
+// The masks behind these nodes, one evaluated after the other from these masks on.
+pub(crate) fn through(ann: &Ann, children: &[u32], masks: (Mask, Mask)) -> Option<(Mask, Mask)>
+    ensures { result ≡ spec.through ann.now children.now masks }
+{
+    let mut reached = masks;
+    for child in children {
+        let note = note_at(ann, *child)?;
+        if !starts(note, reached) {
+            return None;
+        }
+        reached = (note.live_after, note.set_after);
+    }
+    Some(reached)
+}
+
+// The type of a child.
+pub(crate) fn type_of(ann: &Ann, child: u32) -> Option<(u32, Form)>
+    ensures { result ≡ spec.type_of ann.now child }
+{
+    let note = note_at(ann, child)?;
+    note.ty
+}
+
+pub(crate) fn one_child(children: &[u32]) -> Option<u32>
+    ensures { result ≡ spec.one_child children.now }
+{
+    match children {
+        [a] => Some(*a),
+        _ => None,
+    }
+}
+
+pub(crate) fn two_children(children: &[u32]) -> Option<(u32, u32)>
+    ensures { result ≡ spec.two_children children.now }
+{
+    match children {
+        [a, b] => Some((*a, *b)),
+        _ => None,
+    }
+}
+
+pub(crate) fn three_children(children: &[u32]) -> Option<(u32, u32, u32)>
+    ensures { result ≡ spec.three_children children.now }
+{
+    match children {
+        [a, b, c] => Some((*a, *b, *c)),
+        _ => None,
+    }
+}
+
+// The types of two children.
+pub(crate) fn two_types(ann: &Ann, children: &[u32]) -> Option<((u32, Form), (u32, Form))>
+    ensures { result ≡ spec.two_types ann.now children.now }
+{
+    let both = two_children(children)?;
+    let a = type_of(ann, both.0)?;
+    let b = type_of(ann, both.1)?;
+    Some((a, b))
+}
+
+pub(crate) fn last_child(children: &[u32]) -> Option<u32>
+    ensures { result ≡ spec.last_child children.now }
+{
+    let count = children.len();
+    if count == 0 {
+        return None;
+    }
+    children.get(count - 1).copied()
+}

@@ -1,0 +1,15 @@
+//! What a rule says.
+
+use pc_ann::Mask;
+use pc_caps::Form;
+
+/// What a rule says of a node: its type and the masks after it.
+#[derive(Clone, Copy, Debug, PartialEq, Eq)]
+pub struct Said {
+    /// The entity and the form of the node's value, or none where the value can't be used.
+    pub ty: Option<(u32, Form)>,
+    /// The live slots after the node.
+    pub live: Mask,
+    /// The set fields after it.
+    pub set: Mask,
+}
