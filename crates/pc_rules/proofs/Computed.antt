@@ -10,7 +10,7 @@ use Rattle.pc_ann.specs.declared.annotation.Note.{Note}
 use Rattle.pc_ann.specs.declared.annotation.Rule.{Rule}
 use Rattle.pc_ann.specs.declared.annotation.Rule.TheVariants as rule
 use Rattle.pc_rules.specs.declared.said.Said.{Said}
-use Rattle.pc_rules.specs.Rules.{Meets, MeetsRule, says}
+use Rattle.pc_rules.specs.Rules.{Meets}
 use Rattle.pc_rules.specs.Example.{four_slots, derivation, at, node_of, noted, EachMeets, MeetsNone, WrongNotes}
 
 pub each_meets : EachMeets

@@ -1,25 +1,20 @@
 -- The laws of the rules, proved.
 use Rattle.std.specs.Prelude.{◌≡◌, ◌≢◌, ◌⊎◌, ◌↔◌, ℕ, zero, suc, ◌<◌, Bool, true, false, cond, List, [], ◌∷◌, Option, Some, None, slice_get, refl}
-use Rattle.std.proofs.Common.{inl, inr, ap, sym, subst, ◌∙◌}
-use Rattle.std.proofs.lemmas.Option.{same_Some, none-some, cond_some}
-use Rattle.std.proofs.lemmas.Bool.{cases_order}
-use Rattle.std.proofs.lemmas.Bool.Decides.{eqb_tells}
+use Rattle.std.proofs.Common.{ap, sym, subst, ◌∙◌}
+use Rattle.std.proofs.lemmas.Option.{same_Some, none-some}
 use Rattle.pc_core.specs.declared.nodes.Node.{Node}
 use Rattle.pc_core.specs.declared.nodes.NodeKind.{NodeKind}
 use Rattle.pc_core.specs.declared.nodes.NodeKind.TheVariants as node
 use Rattle.pc_core.specs.CoreData.{CoreData}
-use Rattle.pc_core.specs.Words.{◌>>=◌, Has}
 use Rattle.pc_core.specs.Members.{bind_some}
 use Rattle.pc_ann.specs.declared.mask.Mask.{Mask}
-use Rattle.pc_ann.specs.declared.annotation.Note.{Note}
-use Rattle.pc_ann.specs.declared.annotation.Ann.{Ann}
-use Rattle.pc_ann.specs.Masks.{IsIn, without_number, with_number}
+use Rattle.pc_ann.specs.Masks.{IsIn, with_number}
 use Rattle.pc_ann.specs.MaskLaws.{without_number_bits, with_number_bits}
 use Rattle.pc_rules.specs.declared.said.Said.{Said}
 use Rattle.pc_rules.specs.Parts.{Masks, before, through, one_child, type_of, slot_of, last_child}
 use Rattle.pc_rules.specs.Values.{used, defined, defines}
 use Rattle.pc_rules.specs.Control.{without_definition, without_item, without_items}
-use Rattle.pc_rules.specs.Rules.{says, said_by, Meets}
+use Rattle.pc_rules.specs.Rules.{says, said_by}
 use Rattle.pc_rules.specs.Statements.{RulesDetermine, ConsumeTakesOut, DefinePutsIn, Defines, SeqTakesOut}
 
 pub rules_determine : RulesDetermine

@@ -8,3 +8,5 @@ pub mod Rules
 pub mod Valid
 pub mod Statements
 pub mod Example
+pub mod Trees
+pub mod First

@@ -1,4 +1,5 @@
 //! Laws of the rules. Each call does nothing, and its contract is the law.
+ghost use Rattle.pc_rules.specs.First as first;
 ghost use Rattle.pc_rules.specs.Statements as law;
 
 /// A rule and the masks before a node determine its type and the masks after it.
@@ -23,4 +24,10 @@ pub fn define_puts_in()
 #[tactic(auto, using(crate::proofs::Lawful::seq_takes_out))]
 pub fn seq_takes_out()
     ensures { law.SeqTakesOut }
+{}
+
+/// At most one annotation of a core of the first kinds of nodes is valid: primitives' values, new objects, locals and their
+/// definitions, sequences and bodies.
+pub fn one_annotation_is_valid()
+    ensures { first.OneValid }
 {}

@@ -1,0 +1,27 @@
+-- Cores of the first kinds of nodes, of which at most one annotation is valid.
+use Rattle.std.specs.Prelude.{◌≡◌, Bool, true, false}
+use Rattle.pc_core.specs.declared.nodes.NodeKind.{NodeKind}
+use Rattle.pc_core.specs.declared.nodes.NodeKind.TheVariants as node
+use Rattle.pc_core.specs.CoreData.{CoreData}
+use Rattle.pc_core.specs.Words.{Each}
+use Rattle.pc_core.specs.Formed.{Formed}
+use Rattle.pc_ann.specs.declared.annotation.Ann.{Ann}
+use Rattle.pc_rules.specs.Valid.{Valid}
+
+-- Primitives' values, new objects, locals and their definitions, sequences and bodies.
+abbrev pub is_first : NodeKind → Bool
+is_first (node.Prim e) = true
+is_first (node.New k) = true
+is_first (node.Local s) = true
+is_first (node.Consume s) = true
+is_first (node.Define s) = true
+is_first node.Seq = true
+is_first node.Body = true
+is_first k = false
+
+abbrev pub FirstKinds : CoreData → Type 0
+FirstKinds core = Each (λ n x. is_first x.kind ≡ true) core.nodes
+
+-- At most one annotation of such a core is valid.
+abbrev pub OneValid : Type 0
+OneValid = (core : CoreData) (a b : Ann) → Formed core → FirstKinds core → Valid core a → Valid core b → a ≡ b

@@ -1,0 +1,48 @@
+-- The nodes of a method as a tree. Since they stand in post-order, what stands in a node is the run of nodes up to it.
+use Rattle.std.specs.Prelude.{◌≡◌, ℕ, suc, ◌+◌, List, [], ◌∷◌, ◌++◌, length, Some, slice_get, refl}
+use Rattle.std.proofs.Common.{ap, sym, subst, ◌∙◌, arith}
+use Rattle.pc_core.specs.declared.declarations.Method.{Method}
+use Rattle.pc_core.specs.declared.nodes.Node.{Node}
+use Rattle.pc_core.specs.CoreData.{CoreData}
+use Rattle.pc_core.specs.Words.{Each}
+use Rattle.pc_core.specs.Lookup.{own_nodes, node_end}
+use Rattle.pc_core.specs.Methods.{PostOrder, BodyFits}
+use Rattle.pc_core.specs.Runs.{get_range}
+
+-- What stands in node n are the nodes from number `low` up to it: its children's trees, one behind the other, and itself.
+mutual
+  pub data Tree (core : CoreData) : ℕ → ℕ → Type 0 where
+    tree : {low n : ℕ} (x : Node) → slice_get core.nodes n ≡ Some x → Forest core low n x.children → Tree core low n
+
+  pub data Forest (core : CoreData) : ℕ → ℕ → List ℕ → Type 0 where
+    empty : {low : ℕ} → Forest core low low []
+    more : {low high c : ℕ} {cs : List ℕ} → Tree core low c → Forest core (c + 1) high cs → Forest core low high (c ∷ cs)
+
+forest_append : (core : CoreData) (low middle n : ℕ) (cs : List ℕ) → Forest core low middle cs → Tree core middle n → Forest core low (n + 1) (cs ++ n ∷ [])
+forest_append core low middle n [] empty t = more t empty
+forest_append core low middle n (c ∷ cs) (more u f) t = more u (forest_append core (c + 1) middle n cs f t)
+
+forest_split : (core : CoreData) (low high : ℕ) (rest cs : List ℕ) → Forest core low high (rest ++ cs) → (middle : ℕ) × Forest core low middle rest × Forest core middle high cs
+forest_split core low high [] cs f = (low, empty, f)
+forest_split core low high (r ∷ rest) cs (more t f) = let s = forest_split core (r + 1) high rest cs f in (s.0, more t s.1, s.2)
+
+-- Nodes in post-order turn the trees that wait into the trees that are left.
+forest_order : (core : CoreData) (low n : ℕ) (xs : List Node) (waiting last : List ℕ) → PostOrder n xs waiting last → Each (λ i x. slice_get core.nodes (n + i) ≡ Some x) xs → Forest core low n waiting → Forest core low (n + length xs) last
+forest_order core low n [] waiting last p h f = let e : n ≡ n + 0 = omega arith in subst (λ k. Forest core low k last) e (subst (λ ws. Forest core low n ws) p f)
+forest_order core low n (x ∷ xs) waiting last p h f =
+    let s = forest_split core low n p.0 x.children (subst (λ ws. Forest core low n ws) p.1 f) in
+    let e : n + 0 ≡ n = omega arith in
+    let here : slice_get core.nodes n ≡ Some x = ap (slice_get core.nodes) (sym e) ∙ h 0 x refl in
+    let next : Each (λ i x. slice_get core.nodes (n + 1 + i) ≡ Some x) xs = λ i y g. let k : n + 1 + i ≡ n + suc i = omega arith in ap (slice_get core.nodes) k ∙ h (suc i) y g in
+    let total : n + 1 + length xs ≡ n + length (x ∷ xs) = omega arith in
+    subst (λ k. Forest core low k last) total (forest_order core low (n + 1) xs (p.0 ++ n ∷ []) last p.2 next (forest_append core low s.0 n p.0 s.1 (tree x here s.2)))
+
+only_tree : (core : CoreData) (low high n : ℕ) → Forest core low high (n ∷ []) → Tree core low n
+only_tree core low high n (more t f) = t
+
+-- The nodes of a method with a body are one tree.
+pub body_tree : (core : CoreData) (m : ℕ) (x : Method) (b : ℕ) → BodyFits core m x b → Tree core x.first_node b
+body_tree core m x b f =
+    only_tree core x.first_node (x.first_node + length (own_nodes core x)) b
+    (forest_order core x.first_node x.first_node (own_nodes core x) [] (b ∷ []) f.post_order
+    (λ i y g. (get_range core.nodes x.first_node (node_end x.first_node x.body) i y g).1) empty)
