@@ -1,0 +1,2 @@
+pub mod Formation
+pub mod Validity

@@ -1,0 +1,5 @@
+pub mod Limits
+pub mod Schedules
+pub mod Answers
+pub mod Laws
+pub mod Reading

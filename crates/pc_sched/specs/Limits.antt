@@ -1,0 +1,10 @@
+-- The limits of a schedule.
+use Rattle.std.specs.Prelude.{ℕ}
+
+-- how many bytes its text may have
+abbrev pub text_limit : ℕ
+text_limit = 1048576
+
+-- how many turns it may have
+abbrev pub turn_limit : ℕ
+turn_limit = 1000000

@@ -1,0 +1,96 @@
+-- What turns a text spells, and its first fault where it spells none.
+--
+-- A text is cut into pieces, each a blank or a word. Each word spells a turn.
+use Rattle.std.specs.Prelude.{◌≡◌, ℕ, ◌+◌, ◌-◌, ◌*◌, ◌<◌, ◌≤◌, ◌^◌, Bool, true, not, ◌||◌, ◌==◌, List, [], ◌∷◌, ◌++◌, length, ◌⊎◌, ⊤}
+use Rattle.std.specs.List.{list_all}
+use Rattle.std.specs.Char.{is_ascii_digit}
+use Rattle.pc_sched.specs.declared.turns.Turn.{Turn}
+use Rattle.pc_sched.specs.declared.fault.SchedFault.{SchedFault}
+use Rattle.pc_sched.specs.declared.fault.SchedFault.TheVariants as fault
+use Rattle.pc_sched.specs.Limits.{turn_limit}
+
+-- space, tab, CR, LF
+abbrev pub is_blank : ℕ → Bool
+is_blank b = b == 32 || b == 9 || b == 13 || b == 10
+
+abbrev pub no_blank : ℕ → Bool
+no_blank b = not (is_blank b)
+
+-- a blank, or a word
+pub data Piece : Type 0 where
+  blank : ℕ → Piece
+  word : List ℕ → Piece
+
+abbrev pub bytes_of : Piece → List ℕ
+bytes_of (blank b) = b ∷ []
+bytes_of (word b) = b
+
+-- the end of the text, or a blank
+abbrev pub AtWordEnd : List ℕ → Type 0
+AtWordEnd [] = ⊤
+AtWordEnd (b ∷ bs) = is_blank b ≡ true
+
+-- One blank, or bytes that are no blanks, as many as there are, before the rest.
+abbrev pub Stands : Piece → List ℕ → Type 0
+Stands (blank b) rest = is_blank b ≡ true
+Stands (word b) rest = (0 < length b) × (list_all no_blank b ≡ true) × AtWordEnd rest
+
+-- The text is cut into these pieces, and the rest.
+abbrev pub Pieces : List ℕ → List Piece → List ℕ → Type 0
+Pieces text [] rest = text ≡ rest
+Pieces text (p ∷ ps) rest = (mid : List ℕ) × (text ≡ bytes_of p ++ mid) × Stands p mid × Pieces mid ps rest
+
+-- the number that decimal digits make behind those that made acc
+abbrev pub value : ℕ → List ℕ → ℕ
+value acc [] = acc
+value acc (b ∷ bs) = value (acc * 10 + (b - 48)) bs
+
+-- One to ten digits, of a value below 2^32.
+pub record Number (b : List ℕ) (n : ℕ) : Type 0 where
+  pub some : 0 < length b
+  pub few : length b ≤ 10
+  pub digits : list_all is_ascii_digit b ≡ true
+  pub is : n ≡ value 0 b
+  pub small : n < 2 ^ 32
+
+-- The word is an actor's number, which is one turn, or that number, `*` and how many turns.
+abbrev pub Spells : List ℕ → Turn → Type 0
+Spells b turn =
+    (Number b turn.actor × (turn.times ≡ 1))
+    ⊎ ((left right : List ℕ) × (b ≡ left ++ 42 ∷ right) × Number left turn.actor × Number right turn.times)
+
+-- The words among the pieces spell these turns, in their order.
+abbrev pub Spelled : List Piece → List Turn → Type 0
+Spelled [] turns = turns ≡ []
+Spelled (blank b ∷ ps) turns = Spelled ps turns
+Spelled (word b ∷ ps) turns = (turn : Turn) × (more : List Turn) × (turns ≡ turn ∷ more) × Spells b turn × Spelled ps more
+
+-- how many turns there are
+abbrev pub total : List Turn → ℕ
+total [] = 0
+total (turn ∷ turns) = turn.times + total turns
+
+-- The text spells these turns. There is no limit on their number.
+abbrev pub Turns : List ℕ → List Turn → Type 0
+Turns text turns = (ps : List Piece) × Pieces text ps [] × Spelled ps turns
+
+-- The text spells these turns, and they are not too many.
+abbrev pub TurnList : List ℕ → List Turn → Type 0
+TurnList text turns = Turns text turns × (total turns ≤ turn_limit)
+
+-- The word stands at a place, and all that is before it spells these turns, which are not too many.
+pub record WordAt (text : List ℕ) (at : ℕ) (turns : List Turn) (b : List ℕ) : Type 0 where
+  pub pieces : List Piece
+  pub rest : List ℕ
+  pub cut : Pieces text pieces (b ++ rest)
+  pub stands : Stands (word b) rest
+  pub spelled : Spelled pieces turns
+  pub few : total turns ≤ turn_limit
+  pub place : at + length (b ++ rest) ≡ length text
+
+-- The first fault of a text: the first word that spells no turn, or with whose turn there are too many. Want of memory
+-- is none.
+abbrev pub FirstFault : List ℕ → SchedFault → Type 0
+FirstFault text (fault.BadWord at) = (turns : List Turn) × (b : List ℕ) × WordAt text at turns b × ((turn : Turn) → Spells b turn → ⊥)
+FirstFault text (fault.TooMany at) = (turns : List Turn) × (b : List ℕ) × WordAt text at turns b × (turn : Turn) × Spells b turn × (turn_limit < total turns + turn.times)
+FirstFault text fault.Memory = ⊥
