@@ -21,7 +21,7 @@ open_by x true false e f h = (e, f)
 open_by x true true e f h = absurd (cc)
 open_by x false b e f h = absurd (cc)
 
-open_suffix_is : (x : Token) → is_sign s.Dot x ≡ false → begins_suffix x ≡ true → (is_sign s.OpenParen x ≡ true) × (x.first ≡ false)
+pub open_suffix_is : (x : Token) → is_sign s.Dot x ≡ false → begins_suffix x ≡ true → (is_sign s.OpenParen x ≡ true) × (x.first ≡ false)
 unfolding begins_suffix
 open_suffix_is x e h = open_by x (is_sign s.OpenParen x) x.first refl refl (rw e at h)
 

@@ -79,6 +79,10 @@ module _ (y : Token) where
   unfolding begins_suffix op_of is_sign begins_item same_sign
   end_stops e = record { suffix = rw e; op = rw e; assign = rw e; semicolon = rw e; item = rw e }
 
+  pub last_stops : y.kind ≡ k.End → Stops_seq y
+  unfolding begins_suffix op_of is_sign begins_item same_sign
+  last_stops e = record { suffix = rw e; op = rw e; assign = rw e; semicolon = rw e; item = rw e }
+
   pub comma_stops : y.kind ≡ k.Sign s.Comma → Stops_expr y
   unfolding begins_suffix op_of is_sign same_sign
   comma_stops e = record { suffix = rw e; op = rw e; assign = rw e }

@@ -17,3 +17,5 @@ pub mod ExplainedChains
 pub mod ExplainedExprs
 pub mod ExplainedSeqs
 pub mod Right
+pub mod Steady
+pub mod SteadyRules

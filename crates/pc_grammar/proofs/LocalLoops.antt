@@ -74,7 +74,7 @@ module _ (next : Next) (ahead : OneAhead next) where
     | inr (inr e) ↦ absurd (let f : y ∷ (pre ++ x ∷ more) ≡ x ∷ more = ap (λ o. rest_of (goes_at (y ∷ (pre ++ x ∷ more)) o)) (sym (e _)) ∙ ends in omega (arith, ap length f, length-append pre (x ∷ more)))
   ]
 
-  local_goes : Local (goes next)
+  pub local_goes : Local (goes next)
   local_goes = record { suffix = goes_suffix; local = goes_local }
 
 pub local_same : {A : Type 0} (p q : Parser A) → ((ts : List Token) → p ts ≡ q ts) → Local q → Local p
@@ -93,11 +93,11 @@ module _ {A : Type 0} (next : Next) (p : Parser A) where
   turned n ts (Some begin) = refl
 
   module _ (ahead : OneAhead next) (lp : Local p) where
-    local_turn : (n : ℕ) → Local (many next p n) → (b : Bool) → Local (turn n b)
+    pub local_turn : (n : ℕ) → Local (many next p n) → (b : Bool) → Local (turn n b)
     local_turn n l true = local_bind p (λ x. many next p n >>= λ xs. pure (x ∷ xs)) lp (λ x. local_bind (many next p n) (λ xs. pure (x ∷ xs)) l (λ xs. local_pure (x ∷ xs)))
     local_turn n l false = local_pure []
 
-    local_many : (n : ℕ) → Local (many next p n)
+    pub local_many : (n : ℕ) → Local (many next p n)
     unfolding many
     local_many zero = local_pure []
     local_many (suc n) = local_same (many next p (suc n)) (goes next >>= turn n) (λ ts. turned n ts (next ts)) (local_bind (goes next) (turn n) (local_goes next ahead) (local_turn n (local_many n)))
@@ -121,7 +121,7 @@ module _ {A : Type 0} (next : Next) (p : Parser A) where
       fuel_by m k ts None e a b same = refl
       fuel_by m k ts (Some begin) e a b same = fuel_turn m k begin (p begin) refl (λ rest less. let f = falls ts begin e in same rest (omega (arith, f.0, f.1)) (omega (arith, f.0, f.1)))
 
-      fuel : (m k : ℕ) (ts : List Token) → length ts ≤ m → length ts ≤ k → many next p m ts ≡ many next p k ts
+      pub fuel : (m k : ℕ) (ts : List Token) → length ts ≤ m → length ts ≤ k → many next p m ts ≡ many next p k ts
       unfolding many
       fuel zero zero ts a b = refl
       fuel zero (suc k) [] a b = sym (ap (many_step p (many next p k) []) ahead.none)

@@ -21,7 +21,7 @@ pub record Good {A : Type 0} (p : Parser A) : Type 0 where
   pub local : Local p
   pub takes : Takes p
 
-good_bind : {A B : Type 0} (p : Parser A) (f : A → Parser B) → Good p → ((x : A) → Local (f x)) → Good (p >>= f)
+pub good_bind : {A B : Type 0} (p : Parser A) (f : A → Parser B) → Good p → ((x : A) → Local (f x)) → Good (p >>= f)
 good_bind p f g l = record {
   local = local_bind p f g.local l;
   takes = λ ts rest x e.
@@ -32,7 +32,7 @@ good_bind p f g l = record {
       omega (arith, one, ap length left, length-append two.0 rest);
 }
 
-good_then : {A B : Type 0} (p : Parser A) (f : A → Parser B) → Local p → ((x : A) → Good (f x)) → Good (p >>= f)
+pub good_then : {A B : Type 0} (p : Parser A) (f : A → Parser B) → Local p → ((x : A) → Good (f x)) → Good (p >>= f)
 good_then p f l g = record {
   local = local_bind p f l (λ x. (g x).local);
   takes = λ ts rest x e.
@@ -43,7 +43,7 @@ good_then p f l g = record {
       omega (arith, two, ap length left, length-append one.0 q.0.1);
 }
 
-good_refuse : {A : Type 0} → Good (refuse {A = A})
+pub good_refuse : {A : Type 0} → Good (refuse {A = A})
 good_refuse = record { local = local_refuse; takes = λ ts rest x e. absurd (cc e) }
 
 taken : (y : Token) (ts rest : List Token) (x : Token) (b : Bool) → ◌≡◌ {A = Outcome Token} (cond b (Ok (y, ts)) (Err (unexpected, y ∷ ts))) (Ok (x, rest)) → length rest < length (y ∷ ts)
@@ -55,89 +55,89 @@ unfolding take_if
 take_takes test [] rest x = λ e. absurd (cc e)
 take_takes test (y ∷ ts) rest x = taken y ts rest x (test y)
 
-good_take : (test : Token → Bool) → Good (take_if test)
+pub good_take : (test : Token → Bool) → Good (take_if test)
 good_take test = record { local = local_take test; takes = take_takes test }
 
-good_deeper : {A : Type 0} (n : ℕ) (p : Parser A) → Good p → Good (deeper n p)
+pub good_deeper : {A : Type 0} (n : ℕ) (p : Parser A) → Good p → Good (deeper n p)
 unfolding deeper
 good_deeper zero p g = record { local = local_deeper zero p g.local; takes = λ ts rest x e. absurd (cc e) }
 good_deeper (suc n) p g = g
 
-good_cond : {A : Type 0} (b : Bool) (p q : Parser A) → Good p → Good q → Good (cond b p q)
+pub good_cond : {A : Type 0} (b : Bool) (p q : Parser A) → Good p → Good q → Good (cond b p q)
 good_cond true p q g h = g
 good_cond false p q g h = h
 
-local_cond : {A : Type 0} (b : Bool) (p q : Parser A) → Local p → Local q → Local (cond b p q)
+pub local_cond : {A : Type 0} (b : Bool) (p q : Parser A) → Local p → Local q → Local (cond b p q)
 local_cond true p q g h = g
 local_cond false p q g h = h
 
-good_name_at : (kk : TokenKind) → Good (name_at kk)
+pub good_name_at : (kk : TokenKind) → Good (name_at kk)
 good_name_at (k.Name text) = good_bind _ _ (good_take _) (λ y. local_pure _)
 good_name_at _ = good_refuse
 
-good_name : Good name
+pub good_name : Good name
 unfolding name
 good_name = good_then _ _ local_peek (λ x. good_name_at x.kind)
 
-good_type_name_at : (kk : TokenKind) → Good (type_name_at kk)
+pub good_type_name_at : (kk : TokenKind) → Good (type_name_at kk)
 good_type_name_at (k.TypeName text) = good_bind _ _ (good_take _) (λ y. local_pure _)
 good_type_name_at _ = good_refuse
 
-good_type_name : Good type_name
+pub good_type_name : Good type_name
 unfolding type_name
 good_type_name = good_then _ _ local_peek (λ x. good_type_name_at x.kind)
 
-local_cap_by : (o : Option Cap) → Local (cap_by o)
+pub local_cap_by : (o : Option Cap) → Local (cap_by o)
 local_cap_by None = local_pure _
 local_cap_by (Some c) = local_bind _ _ (local_take _) (λ y. local_pure _)
 
-local_maybe_cap : Local maybe_cap
+pub local_maybe_cap : Local maybe_cap
 unfolding maybe_cap
 local_maybe_cap = local_bind _ _ local_peek (λ x. local_cap_by (cap_of x))
 
-good_written_type : Good written_type
+pub good_written_type : Good written_type
 unfolding written_type
 good_written_type = good_bind _ _ good_type_name (λ m. local_bind _ _ local_maybe_cap (λ c. local_pure _))
 
-local_maybe_type : Local maybe_type
+pub local_maybe_type : Local maybe_type
 unfolding maybe_type
 local_maybe_type = local_bind _ _ local_peek (λ x. local_cond (is_sign s.Colon x) _ _ (local_bind _ _ (local_bind _ _ (local_take _) (λ y. good_written_type.local)) (λ r. local_pure _)) (local_pure _))
 
-good_leaf : (f : Span → t.Expr) → Good (leaf f)
+pub good_leaf : (f : Span → t.Expr) → Good (leaf f)
 good_leaf f = good_bind _ _ (good_take _) (λ x. local_pure _)
 
-good_consume : Good consume
+pub good_consume : Good consume
 unfolding consume
 good_consume = good_bind _ _ (good_take _) (λ x. local_bind _ _ good_name.local (λ m. local_pure _))
 
 module _ (n : ℕ) (p : Parser t.Seq) (lp : Local p) where
-  good_group : Good (group n p)
+  pub good_group : Good (group n p)
   unfolding group
   good_group = good_deeper n _ (good_bind _ _ (good_take _) (λ x. local_bind _ _ lp (λ b. local_bind _ _ (local_take _) (λ y. local_pure _))))
 
-  local_other : Local (other p)
+  pub local_other : Local (other p)
   unfolding other
   local_other = local_bind _ _ local_peek (λ x. local_cond (is_word w.ElseWord x) _ _ (local_bind _ _ (local_bind _ _ (local_take _) (λ y. lp)) (λ b. local_pure _)) (local_pure _))
 
-  good_arm : (word : Word) → Good (arm word p)
+  pub good_arm : (word : Word) → Good (arm word p)
   unfolding arm
   good_arm word = good_bind _ _ (good_take _) (λ x. local_bind _ _ lp (λ c. local_bind _ _ (local_bind _ _ (local_take _) (λ y. lp)) (λ b. local_pure _)))
 
-  good_if : Good (if_ n p)
+  pub good_if : Good (if_ n p)
   unfolding if_
   good_if =
       let more = good_arm w.ElseifWord in
       good_deeper n _ (good_bind _ _ (good_arm w.IfWord) (λ a. local_bind _ _ (local_all (at (is_word w.ElseifWord)) (arm w.ElseifWord p) (at_ahead _) more.local more.takes) (λ xs. local_bind _ _ local_other (λ o. local_bind _ _ (local_take _) (λ z. local_pure _)))))
 
-  good_while : Good (while_ n p)
+  pub good_while : Good (while_ n p)
   unfolding while_
   good_while = good_deeper n _ (good_bind _ _ (good_take _) (λ x. local_bind _ _ lp (λ c. local_bind _ _ (local_bind _ _ (local_take _) (λ y. lp)) (λ b. local_bind _ _ (local_take _) (λ z. local_pure _)))))
 
-  good_recover : Good (recover_ n p)
+  pub good_recover : Good (recover_ n p)
   unfolding recover_
   good_recover = good_deeper n _ (good_bind _ _ (good_take _) (λ x. local_bind _ _ local_maybe_cap (λ c. local_bind _ _ lp (λ b. local_bind _ _ (local_take _) (λ z. local_pure _)))))
 
-  good_atom_at : (kk : TokenKind) → Good (atom_at n p kk)
+  pub good_atom_at : (kk : TokenKind) → Good (atom_at n p kk)
   good_atom_at (k.Name text) = good_bind _ _ good_name (λ m. local_pure _)
   good_atom_at (k.TypeName text) = good_bind _ _ good_type_name (λ m. local_pure _)
   good_atom_at (k.Number v) = good_leaf (t.number v)
@@ -151,49 +151,49 @@ module _ (n : ℕ) (p : Parser t.Seq) (lp : Local p) where
   good_atom_at (k.Word w.RecoverWord) = good_recover
   good_atom_at _ = good_refuse
 
-  good_atom : Good (atom n p)
+  pub good_atom : Good (atom n p)
   unfolding atom
   good_atom = good_then _ _ local_peek (λ x. good_atom_at x.kind)
 
 module _ (p : Parser t.Expr) (g : Good p) where
-  local_arg_list : Local (arg_list p)
+  pub local_arg_list : Local (arg_list p)
   unfolding arg_list
   local_arg_list = local_bind _ _ local_peek (λ x. local_cond (is_sign s.CloseParen x) _ _ (local_pure _) (local_bind _ _ g.local (λ e. local_bind _ _ (local_all (after (is_sign s.Comma)) p (after_ahead _) g.local g.takes) (λ es. local_pure _))))
 
-  good_local : (f : Bool) → Good (local f p)
+  pub good_local : (f : Bool) → Good (local f p)
   unfolding local
   good_local f = good_bind _ _ (good_take _) (λ x. local_bind _ _ good_name.local (λ m. local_bind _ _ local_maybe_type (λ ty. local_bind _ _ (local_bind _ _ (local_take _) (λ z. g.local)) (λ v. local_pure _))))
 
-  good_item : Good (item p)
+  pub good_item : Good (item p)
   unfolding item
   good_item = good_then _ _ local_peek (λ x. good_cond (is_word w.LetWord x) _ _ (good_local true) (good_cond (is_word w.VarWord x) _ _ (good_local false) (good_bind _ _ g (λ v. local_pure _))))
 
-  local_infix_by : (e : t.Expr) (o : Option Op) → Local (infix_by p e o)
+  pub local_infix_by : (e : t.Expr) (o : Option Op) → Local (infix_by p e o)
   local_infix_by e None = local_pure _
   local_infix_by e (Some o) = local_bind _ _ (local_all (after (is_op o)) p (after_ahead _) g.local g.takes) (λ es. local_pure _)
 
-  good_infix_with : Good (infix_with p)
+  pub good_infix_with : Good (infix_with p)
   unfolding infix_with
   good_infix_with = good_bind _ _ g (λ e. local_bind _ _ local_peek (λ x. local_infix_by e (op_of x)))
 
-good_seq_with : (p : Parser t.Item) → Good p → Good (seq_with p)
+pub good_seq_with : (p : Parser t.Item) → Good p → Good (seq_with p)
 unfolding seq_with
 good_seq_with p g = good_bind _ _ g (λ e. local_bind _ _ (local_all next_item p item_ahead g.local g.takes) (λ es. local_pure _))
 
 module _ (n : ℕ) (p : Parser t.Expr) (g : Good p) where
-  good_args : Good (args n p)
+  pub good_args : Good (args n p)
   unfolding args
   good_args = good_deeper n _ (good_bind _ _ (good_take _) (λ x. local_bind _ _ (local_arg_list p g) (λ es. local_bind _ _ (local_take _) (λ y. local_pure _))))
 
-  good_suffix : Good (suffix n p)
+  pub good_suffix : Good (suffix n p)
   unfolding suffix
   good_suffix = good_then _ _ local_peek (λ x. good_cond (is_sign s.Dot x) _ _ (good_bind _ _ (good_bind _ _ (good_take _) (λ y. good_name.local)) (λ m. local_pure _)) good_args)
 
-  good_negation : Good (negation n p)
+  pub good_negation : Good (negation n p)
   unfolding negation
   good_negation = good_deeper n _ (good_bind _ _ (good_take _) (λ x. local_bind _ _ g.local (λ e. local_pure _)))
 
-  local_becomes : (l : t.Expr) → Local (becomes n p l)
+  pub local_becomes : (l : t.Expr) → Local (becomes n p l)
   unfolding becomes
   local_becomes l = local_deeper n _ (local_bind _ _ (local_bind _ _ (local_take _) (λ x. g.local)) (λ e. local_pure _))
 
@@ -203,11 +203,11 @@ pub record GoodInner (i : Inner) : Type 0 where
   pub term : Good i.term
 
 module _ (n : ℕ) (i : Inner) (g : GoodInner i) where
-  good_postfix : Good (postfix n i)
+  pub good_postfix : Good (postfix n i)
   unfolding postfix
   good_postfix = good_bind _ _ (good_atom n i.seq g.seq.local) (λ e. local_bind _ _ (local_all (at begins_suffix) (suffix n i.expr) (at_ahead _) (good_suffix n i.expr g.expr).local (good_suffix n i.expr g.expr).takes) (λ ss. local_pure _))
 
-  good_term : Good (term n i)
+  pub good_term : Good (term n i)
   unfolding term
   good_term = good_then _ _ local_peek (λ x. good_cond (is_word w.NotWord x) _ _ (good_negation n i.term g.term) (good_cond (is_word w.ConsumeWord x) _ _ good_consume good_postfix))
 

@@ -4,24 +4,21 @@ use Rattle.std.proofs.Common.{◌≡◌, ℕ, ◌≤◌, max, Bool, true, false,
 use Rattle.pc_tree.specs.Tree as t
 use Rattle.pc_tree.specs.Measures.{depth, seq_depth}
 use Rattle.pc_token.specs.declared.kinds.Token.{Token}
-use Rattle.pc_token.specs.declared.kinds.TokenKind.TheVariants as k
-use Rattle.pc_token.specs.declared.words.Word.TheVariants as w
-use Rattle.pc_grammar.specs.Spells.{no_span, Spells, SpellsInfix, SpellsSeq}
-use Rattle.pc_grammar.specs.Begins.{Begins, IsOne, IsTooDeep}
+use Rattle.pc_grammar.specs.Spells.{Spells, SpellsInfix, SpellsSeq}
+use Rattle.pc_grammar.specs.Begins.{Begins, SpellsNone, IsOne, IsTooDeep}
 use Rattle.pc_grammar.specs.Reading.{Fault, unexpected, too_deep, Outcome, Parser, seq, expr, infix_, inner}
 use Rattle.pc_grammar.specs.Laws.{ReadsRight, RefusesRight, DeepRight, SeqIsOne, ExprIsOne, SeqReadsRight, SeqRefusesRight, SeqDeepRight, ExprReadsRight, ExprRefusesRight, ExprDeepRight, InfixReadsRight, InfixRefusesRight, InfixDeepRight}
-use Rattle.pc_grammar.proofs.Follow.{end_stops, to_expr, to_infix}
+use Rattle.pc_grammar.proofs.Follow.{last_stops, to_expr, to_infix}
 use Rattle.pc_grammar.proofs.Complete.{complete, complete_seq, as_expr, as_infix}
 use Rattle.pc_grammar.proofs.Local.{rest_of, with_rest, Local, cut}
 use Rattle.pc_grammar.proofs.LocalRules.{good_inner, good_seq, good_expr, good_infix}
 use Rattle.pc_grammar.proofs.Agree.{Agrees, inner_agrees, seq_agrees, expr_agrees, infix_agrees}
+use Rattle.pc_grammar.proofs.Steady.{the_end, Plain, Steady}
+use Rattle.pc_grammar.proofs.SteadyRules.{fine_inner, fine_seq, fine_expr, fine_infix}
 use Rattle.pc_grammar.proofs.Explained.{Fits, Explained, explained_weaker}
 use Rattle.pc_grammar.proofs.ExplainedParts.{InfixIn}
 use Rattle.pc_grammar.proofs.ExplainedExprs.{explained_expr, explained_infix}
 use Rattle.pc_grammar.proofs.ExplainedSeqs.{explained_inner, explained_seq}
-
-abbrev an_end : Token
-an_end = record { kind = k.Word w.EndWord; first = false; span = no_span }
 
 rest_with : {A : Type 0} (ts : List Token) (o : Outcome A) → rest_of (with_rest ts o) ≡ ts
 rest_with ts (Ok r) = refl
@@ -37,15 +34,15 @@ module _ {A : Type 0} (spells : A → List Token → Type 0) (depth_of : A → �
   abbrev pub In : Bool → ℕ → A → List Token → Type 0
   In u n tree ts = spells tree ts × Fits u n (depth_of tree)
 
-  module _ (whole : (tree : A) (n : ℕ) (ts : List Token) → spells tree ts → depth_of tree ≤ n → reading n (ts ++ an_end ∷ []) ≡ Ok (tree, an_end ∷ []))
-      (ahead : (n : ℕ) → Local (reading n)) (agrees : (n m : ℕ) → n ≤ m → Agrees (reading n) (reading m)) (explained : (u : Bool) (n : ℕ) (ts : List Token) → Explained u (In u n) ts (reading n ts)) where
+  module _ (whole : (tree : A) (n : ℕ) (ts : List Token) → spells tree ts → depth_of tree ≤ n → reading n (ts ++ the_end ∷ []) ≡ Ok (tree, the_end ∷ []))
+      (ahead : (n : ℕ) → Local (reading n)) (steadies : (n : ℕ) → Steady (reading n)) (agrees : (n m : ℕ) → n ≤ m → Agrees (reading n) (reading m)) (explained : (u : Bool) (n : ℕ) (ts : List Token) → Explained u (In u n) ts (reading n ts)) where
     not_within : (n : ℕ) (pre : List Token) (x : Token) (more others : List Token) (b : A) → rest_of (reading n (pre ++ x ∷ more)) ≡ x ∷ more → spells b (pre ++ x ∷ others) → depth_of b ≤ n → ⊥
     not_within n pre x more others b ends spelled fits =
-        let tail = others ++ an_end ∷ [] in
-        let read : reading n (pre ++ x ∷ tail) ≡ Ok (b, an_end ∷ []) = ap (reading n) (sym (append_assoc pre (x ∷ others) (an_end ∷ []))) ∙ whole b n (pre ++ x ∷ others) spelled fits in
+        let tail = others ++ the_end ∷ [] in
+        let read : reading n (pre ++ x ∷ tail) ≡ Ok (b, the_end ∷ []) = ap (reading n) (sym (append_assoc pre (x ∷ others) (the_end ∷ []))) ∙ whole b n (pre ++ x ∷ others) spelled fits in
         let here = (ahead n).local pre x more tail ends in
-        let lists : an_end ∷ [] ≡ x ∷ tail = sym (ap rest_of read) ∙ ap rest_of here ∙ rest_with (x ∷ tail) (reading n (pre ++ x ∷ more)) in
-        omega (arith, ap length lists, length-append others (an_end ∷ []))
+        let lists : the_end ∷ [] ≡ x ∷ tail = sym (ap rest_of read) ∙ ap rest_of here ∙ rest_with (x ∷ tail) (reading n (pre ++ x ∷ more)) in
+        omega (arith, ap length lists, length-append others (the_end ∷ []))
 
     -- with as many levels as the tree has
     nothing_begins : (n : ℕ) (pre : List Token) (x : Token) (more : List Token) (o : Outcome A) → reading n (pre ++ x ∷ more) ≡ o → ((r : List Token) → o ≡ Err (too_deep, r) → ⊥) → rest_of o ≡ x ∷ more → Begins spells (pre ++ x ∷ []) → ⊥
@@ -62,10 +59,28 @@ module _ {A : Type 0} (spells : A → List Token → Type 0) (depth_of : A → �
         let h = subst (λ o. Explained true (In true n) ts o) e (explained true n ts) in
         (h.0, h.1, h.2.0, h.2.1, λ x more eq begins. nothing_begins n h.0 x more _ (ap (reading n) (ap (λ l. h.0 ++ l) (sym eq) ∙ sym h.1) ∙ e) (ok_apart tree rest) eq begins)
 
+    -- what is refused at a token would be refused at the end as well
+    none_by : (m : ℕ) (pre : List Token) (x : Token) (more : List Token) (b : A) → reading m (pre ++ x ∷ more) ≡ Err (unexpected, x ∷ more) → spells b pre → depth_of b ≤ m → ⊥
+    none_by m pre x more b e spelled fits =
+        let P : Outcome A → Type 0 = λ o. Plain o in
+        let read = whole b m pre spelled fits in
+        let here = (steadies m).steady pre x more [] (ap rest_of e) (subst P (sym e) tt) ∙ ap (with_rest (the_end ∷ [])) e in
+        let same : ◌≡◌ {A = Outcome A} (Ok (b, the_end ∷ [])) (Err (unexpected, the_end ∷ [])) = sym read ∙ here in
+        cc
+
+    is_none : (n : ℕ) (pre : List Token) (x : Token) (more : List Token) → reading n (pre ++ x ∷ more) ≡ Err (unexpected, x ∷ more) → SpellsNone spells pre
+    is_none n pre x more e b spelled =
+        let m = max n (depth_of b) in
+        elim (agrees n m (omega arith) (pre ++ x ∷ more)) [
+          | inl f ↦ none_by m pre x more b (sym f ∙ e) spelled (omega arith)
+          | inr f ↦ fault_apart (x ∷ more) f.0 (sym e ∙ f.1)
+        ]
+
     pub refuses_right : RefusesRight spells depth_of reading
-    refuses_right n ts rest e =
+    refuses_right n ts x rest e =
         let h = subst (λ o. Explained true (In true n) ts o) e (explained true n ts) in
-        (h.0, h.3, (h.1, h.2, h.4.0, h.4.1), λ x more eq begins. nothing_begins n h.0 x more _ (ap (reading n) (ap (λ l. h.0 ++ l) (sym eq) ∙ sym h.3) ∙ e) (fault_apart rest) eq begins)
+        let read : reading n (h.0 ++ x ∷ rest) ≡ Err (unexpected, x ∷ rest) = ap (reading n) (sym h.3) ∙ e in
+        (h.0, h.3, (h.1, h.2, h.4.0, h.4.1), is_none n h.0 x rest read, λ y more eq begins. nothing_begins n h.0 y more _ (ap (reading n) (ap (λ l. h.0 ++ l) (sym eq) ∙ sym h.3) ∙ e) (fault_apart (x ∷ rest)) eq begins)
 
     deep_by : (n : ℕ) (ts rest : List Token) → reading n ts ≡ Err (too_deep, rest) → Explained true (In true n) ts (Err (too_deep, rest)) → Explained false (In false n) ts (Err (too_deep, rest)) → IsTooDeep spells depth_of n ts rest
     deep_by n ts [] e h g = absurd h.5
@@ -85,19 +100,19 @@ module _ {A : Type 0} (spells : A → List Token → Type 0) (depth_of : A → �
     is_one ts b c one two =
         let n = max (depth_of b) (depth_of c) in
         let e = sym (whole b n ts one (omega arith)) ∙ whole c n ts two (omega arith) in
-        let f : ◌≡◌ {A = A × List Token} (b, an_end ∷ []) (c, an_end ∷ []) = cc in
+        let f : ◌≡◌ {A = A × List Token} (b, the_end ∷ []) (c, the_end ∷ []) = cc in
         ap (λ p. p.0) f
 
 -- ---- the three readings
 
-seq_whole : (b : t.Seq) (n : ℕ) (ts : List Token) → SpellsSeq b ts → seq_depth b ≤ n → seq n (ts ++ an_end ∷ []) ≡ Ok (b, an_end ∷ [])
-seq_whole b n ts h d = complete_seq b n ts an_end [] h d (end_stops an_end refl)
+seq_whole : (b : t.Seq) (n : ℕ) (ts : List Token) → SpellsSeq b ts → seq_depth b ≤ n → seq n (ts ++ the_end ∷ []) ≡ Ok (b, the_end ∷ [])
+seq_whole b n ts h d = complete_seq b n ts the_end [] h d (last_stops the_end refl)
 
-expr_whole : (e : t.Expr) (n : ℕ) (ts : List Token) → Spells e ts → depth e ≤ n → expr n (ts ++ an_end ∷ []) ≡ Ok (e, an_end ∷ [])
-expr_whole e n ts h d = as_expr n (ts ++ an_end ∷ []) an_end [] e (to_expr an_end (end_stops an_end refl)) (complete e n ts an_end [] h d)
+expr_whole : (e : t.Expr) (n : ℕ) (ts : List Token) → Spells e ts → depth e ≤ n → expr n (ts ++ the_end ∷ []) ≡ Ok (e, the_end ∷ [])
+expr_whole e n ts h d = as_expr n (ts ++ the_end ∷ []) the_end [] e (to_expr the_end (last_stops the_end refl)) (complete e n ts the_end [] h d)
 
-infix_whole : (e : t.Expr) (n : ℕ) (ts : List Token) → SpellsInfix e ts → depth e ≤ n → infix_ n (ts ++ an_end ∷ []) ≡ Ok (e, an_end ∷ [])
-infix_whole e n ts h d = as_infix n (ts ++ an_end ∷ []) an_end [] e h.0 (to_infix an_end (to_expr an_end (end_stops an_end refl))) (complete e n ts an_end [] h.1 d)
+infix_whole : (e : t.Expr) (n : ℕ) (ts : List Token) → SpellsInfix e ts → depth e ≤ n → infix_ n (ts ++ the_end ∷ []) ≡ Ok (e, the_end ∷ [])
+infix_whole e n ts h d = as_infix n (ts ++ the_end ∷ []) the_end [] e h.0 (to_infix the_end (to_expr the_end (last_stops the_end refl))) (complete e n ts the_end [] h.1 d)
 
 seq_ahead : (n : ℕ) → Local (seq n)
 seq_ahead n = (good_seq n (inner n) (good_inner n)).local
@@ -107,6 +122,15 @@ expr_ahead n = (good_expr n (inner n) (good_inner n)).local
 
 infix_ahead : (n : ℕ) → Local (infix_ n)
 infix_ahead n = (good_infix n (inner n) (good_inner n)).local
+
+seq_steady : (n : ℕ) → Steady (seq n)
+seq_steady n = (fine_seq n (inner n) (fine_inner n) (good_inner n)).steady
+
+expr_steady : (n : ℕ) → Steady (expr n)
+expr_steady n = (fine_expr n (inner n) (fine_inner n) (good_inner n)).steady
+
+infix_steady : (n : ℕ) → Steady (infix_ n)
+infix_steady n = (fine_infix n (inner n) (fine_inner n) (good_inner n)).steady
 
 seqs_agree : (n m : ℕ) → n ≤ m → Agrees (seq n) (seq m)
 seqs_agree n m le = seq_agrees n m le (inner n) (inner m) (inner_agrees n m le)
@@ -127,34 +151,34 @@ infixes_explained : (u : Bool) (n : ℕ) (ts : List Token) → Explained u (In S
 infixes_explained u n ts = explained_weaker u (InfixIn u n) (In SpellsInfix depth infix_ u n) ts (infix_ n ts) (λ e a h. ((h.0, h.1), h.2)) (explained_infix u n (inner n) (explained_inner u n) ts)
 
 pub seq_reads : SeqReadsRight
-seq_reads = reads_right SpellsSeq seq_depth seq seq_whole seq_ahead seqs_agree seqs_explained
+seq_reads = reads_right SpellsSeq seq_depth seq seq_whole seq_ahead seq_steady seqs_agree seqs_explained
 
 pub seq_refuses : SeqRefusesRight
-seq_refuses = refuses_right SpellsSeq seq_depth seq seq_whole seq_ahead seqs_agree seqs_explained
+seq_refuses = refuses_right SpellsSeq seq_depth seq seq_whole seq_ahead seq_steady seqs_agree seqs_explained
 
 pub seq_deep : SeqDeepRight
-seq_deep = deep_right SpellsSeq seq_depth seq seq_whole seq_ahead seqs_agree seqs_explained
+seq_deep = deep_right SpellsSeq seq_depth seq seq_whole seq_ahead seq_steady seqs_agree seqs_explained
 
 pub seq_one : SeqIsOne
-seq_one = is_one SpellsSeq seq_depth seq seq_whole seq_ahead seqs_agree seqs_explained
+seq_one = is_one SpellsSeq seq_depth seq seq_whole seq_ahead seq_steady seqs_agree seqs_explained
 
 pub expr_reads : ExprReadsRight
-expr_reads = reads_right Spells depth expr expr_whole expr_ahead exprs_agree exprs_explained
+expr_reads = reads_right Spells depth expr expr_whole expr_ahead expr_steady exprs_agree exprs_explained
 
 pub expr_refuses : ExprRefusesRight
-expr_refuses = refuses_right Spells depth expr expr_whole expr_ahead exprs_agree exprs_explained
+expr_refuses = refuses_right Spells depth expr expr_whole expr_ahead expr_steady exprs_agree exprs_explained
 
 pub expr_deep : ExprDeepRight
-expr_deep = deep_right Spells depth expr expr_whole expr_ahead exprs_agree exprs_explained
+expr_deep = deep_right Spells depth expr expr_whole expr_ahead expr_steady exprs_agree exprs_explained
 
 pub expr_one : ExprIsOne
-expr_one = is_one Spells depth expr expr_whole expr_ahead exprs_agree exprs_explained
+expr_one = is_one Spells depth expr expr_whole expr_ahead expr_steady exprs_agree exprs_explained
 
 pub infix_reads : InfixReadsRight
-infix_reads = reads_right SpellsInfix depth infix_ infix_whole infix_ahead infixes_agree infixes_explained
+infix_reads = reads_right SpellsInfix depth infix_ infix_whole infix_ahead infix_steady infixes_agree infixes_explained
 
 pub infix_refuses : InfixRefusesRight
-infix_refuses = refuses_right SpellsInfix depth infix_ infix_whole infix_ahead infixes_agree infixes_explained
+infix_refuses = refuses_right SpellsInfix depth infix_ infix_whole infix_ahead infix_steady infixes_agree infixes_explained
 
 pub infix_deep : InfixDeepRight
-infix_deep = deep_right SpellsInfix depth infix_ infix_whole infix_ahead infixes_agree infixes_explained
+infix_deep = deep_right SpellsInfix depth infix_ infix_whole infix_ahead infix_steady infixes_agree infixes_explained

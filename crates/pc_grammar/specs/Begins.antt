@@ -12,6 +12,10 @@ module _ {A : Type 0} (spells : A → List Token → Type 0) where
   abbrev pub IsStopped : List Token → List Token → Type 0
   IsStopped pre rest = (x : Token) (more : List Token) → rest ≡ x ∷ more → Begins (pre ++ x ∷ []) → ⊥
 
+  -- no tree is spelled
+  abbrev pub SpellsNone : List Token → Type 0
+  SpellsNone ts = (tree : A) → spells tree ts → ⊥
+
   -- at most one tree is spelled
   abbrev pub IsOne : Type 0
   IsOne = (ts : List Token) (one other : A) → spells one ts → spells other ts → one ≡ other
@@ -25,9 +29,9 @@ module _ {A : Type 0} (spells : A → List Token → Type 0) where
     abbrev pub IsRead : List Token → A → List Token → Type 0
     IsRead ts tree rest = (pre : List Token) × (ts ≡ pre ++ rest) × spells tree pre × (depth tree ≤ n) × IsStopped pre rest
 
-    -- The tokens up to `rest` begin a tree within the levels, and with the next one nothing begins.
+    -- The tokens up to `rest` begin a tree within the levels and are none, and with the next one nothing begins.
     abbrev pub IsRefused : List Token → List Token → Type 0
-    IsRefused ts rest = (pre : List Token) × (ts ≡ pre ++ rest) × BeginsWithin pre × IsStopped pre rest
+    IsRefused ts rest = (pre : List Token) × (ts ≡ pre ++ rest) × BeginsWithin pre × SpellsNone pre × IsStopped pre rest
 
     -- The tokens up to `rest` begin a tree within the levels; with the next one a tree begins, but none within the levels.
     abbrev pub IsTooDeep : List Token → List Token → Type 0

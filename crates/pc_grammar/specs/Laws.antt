@@ -1,5 +1,5 @@
 -- What the reading says of the tokens, and that nothing is spelled in two ways.
-use Rattle.std.specs.Prelude.{◌≡◌, ℕ, List, Ok, Err}
+use Rattle.std.specs.Prelude.{◌≡◌, ℕ, List, ◌∷◌, Ok, Err}
 use Rattle.pc_tree.specs.Measures.{depth, seq_depth}
 use Rattle.pc_token.specs.declared.kinds.Token.{Token}
 use Rattle.pc_grammar.specs.Spells.{Spells, SpellsInfix, SpellsSeq}
@@ -11,9 +11,9 @@ module _ {A : Type 0} (spells : A → List Token → Type 0) (depth_of : A → �
   abbrev pub ReadsRight : Type 0
   ReadsRight = (n : ℕ) (ts rest : List Token) (tree : A) → reading n ts ≡ Ok (tree, rest) → IsRead spells depth_of n ts tree rest
 
-  -- Where a token is unexpected, those before begin a tree within the levels, and with it nothing begins.
+  -- Where a token is unexpected, those before begin a tree within the levels and are none, and with it nothing begins.
   abbrev pub RefusesRight : Type 0
-  RefusesRight = (n : ℕ) (ts rest : List Token) → reading n ts ≡ Err (unexpected, rest) → IsRefused spells depth_of n ts rest
+  RefusesRight = (n : ℕ) (ts : List Token) (x : Token) (rest : List Token) → reading n ts ≡ Err (unexpected, x ∷ rest) → IsRefused spells depth_of n ts (x ∷ rest)
 
   -- Where a token opens a level too many, those before begin a tree within the levels, and with it only deeper ones begin.
   abbrev pub DeepRight : Type 0

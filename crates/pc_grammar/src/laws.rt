@@ -1,9 +1,9 @@
 ghost use Rattle.pc_grammar.specs.Laws.{SeqIsOne, SeqReadsRight, SeqRefusesRight, SeqDeepRight, ExprIsOne, ExprReadsRight, ExprRefusesRight, ExprDeepRight, InfixReadsRight, InfixRefusesRight, InfixDeepRight};
 
-/// Reading a sequence with one token ahead is right: what is read is spelled by the tokens that are gone, within the levels,
-/// and the next token does not go on with it; a token is unexpected exactly where those before it begin a sequence within
-/// the levels and with it nothing begins; a token opens a level too many exactly where with it a sequence begins, and only
-/// deeper ones do; and a list of tokens spells at most one sequence.
+/// Reading a sequence with one token ahead is right. What is read is spelled by the tokens that are gone, within the levels,
+/// and the next token does not go on with it. Where a token is unexpected, those before it begin a sequence within the
+/// levels and are none, and with it nothing begins. Where a token opens a level too many, those before it begin a sequence
+/// within the levels, and with it only deeper ones begin. And a list of tokens spells at most one sequence.
 pub fn sequences_are_read()
     ensures reads { SeqReadsRight }
     ensures refuses { SeqRefusesRight }

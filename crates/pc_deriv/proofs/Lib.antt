@@ -1,0 +1,7 @@
+pub mod NameSteps
+pub mod Digits
+pub mod NumberReading
+pub mod NameReading
+pub mod LineReading
+pub mod Reached
+pub mod Outcome

@@ -1,0 +1,183 @@
+-- The outcome of a text, and that there is one.
+use Rattle.std.proofs.Common.{◌≡◌, ℕ, zero, suc, ◌+◌, ◌<◌, ◌≤◌, Bool, true, false, cond, ◌&&◌, List, [], ◌∷◌, ◌++◌, Option, Some, None, Ok, Err, length, refl, sym, ap, ◌∙◌, subst, inl, inr, ◌⊎◌, arith, append_assoc, append-nil}
+use Rattle.std.specs.Prelude.{Result, IfOk, IfErr, nat_lt, nat_le}
+use Rattle.std.specs.List.{AllByRecursion}
+use Rattle.std.proofs.lemmas.Bool.Decides.{nat_tests}
+use Rattle.pc_caps.specs.declared.capability.Cap.{Cap}
+use Rattle.pc_ann.specs.declared.annotation.Note.{Note}
+use Rattle.pc_ann.specs.declared.annotation.Ann.{Ann}
+use Rattle.pc_deriv.specs.declared.fault.DerivFault.{DerivFault}
+use Rattle.pc_deriv.specs.declared.fault.DerivFault.TheVariants as fault
+use Rattle.pc_deriv.specs.Limits.{slot_limit, node_limit}
+use Rattle.pc_deriv.specs.Text.{head_line, slot_line, note_line, lines, deriv_text, CountsFit, SlotFits, NoteFits}
+use Rattle.pc_deriv.specs.Reading.{head_at, slot_at, note_at}
+use Rattle.pc_deriv.specs.Faults.{Within, IsText, Begins, NoLine, BeginsHead, IsBadLine, bad_head, bad_slot, bad_node, bad_end, IsTooMany, IsFault, Refuses}
+use Rattle.pc_deriv.specs.Answers.{Answers}
+use Rattle.pc_deriv.proofs.NumberReading.{none_some}
+use Rattle.pc_deriv.proofs.LineReading.{Reads, head_reads, slot_reads, note_reads}
+
+-- one more, and those behind it
+abbrev one_more : {A : Type 0} → List ℕ → (List ℕ → List A × List ℕ) → Option (A × List ℕ) → List A × List ℕ
+one_more text more None = ([], text)
+one_more text more (Some (x, rest)) = (x ∷ (more rest).0, (more rest).1)
+
+-- as many as can be read, and not more than so many
+abbrev many : {A : Type 0} → (List ℕ → Option (A × List ℕ)) → ℕ → List ℕ → List A × List ℕ
+many read zero text = ([], text)
+many read (suc n) text = one_more text (many read n) (read text)
+
+none_by : {A : Type 0} (read : List ℕ → Option (A × List ℕ)) (line : A → List ℕ) (Fits : A → Type 0) → Reads read (λ x rest. line x ++ rest) Fits → (text : List ℕ) (o : Option (A × List ℕ))
+    → NoLine line Fits text → read text ≡ o → read text ≡ None
+none_by read line Fits reads text None h e = e
+none_by read line Fits reads text (Some (x, rest)) h e = let r = reads.sound text x rest e in absurd (h x rest r.0 r.1)
+
+module _ {A : Type 0} (read : List ℕ → Option (A × List ℕ)) (line : A → List ℕ) (Fits : A → Type 0) (reads : Reads read (λ x rest. line x ++ rest) Fits) where
+  no_read : (text : List ℕ) → NoLine line Fits text → read text ≡ None
+  no_read text h = none_by read line Fits reads text (read text) h refl
+
+  many_are : (xs : List A) (n : ℕ) (text rest : List ℕ) → AllByRecursion Fits xs → text ≡ lines line xs ++ rest → length xs ≤ n → (length xs ≡ n) ⊎ (read rest ≡ None) → many read n text ≡ (xs, rest)
+  many_are [] zero text rest fit cut less ends = ap (λ (l : List ℕ). ([], l)) cut
+  many_are [] (suc n) text rest fit cut less (inl e) = absurd (omega (arith, e))
+  many_are [] (suc n) text rest fit cut less (inr e) = ap (λ l. one_more l (many read n) (read l)) cut ∙ ap (one_more rest (many read n)) e
+  many_are (x ∷ xs) zero text rest fit cut less ends = absurd (omega (arith, less))
+  many_are (x ∷ xs) (suc n) text rest fit cut less ends =
+      let after = lines line xs ++ rest in
+      let first : read text ≡ Some (x, after) = ap read (cut ∙ append_assoc (line x) (lines line xs) rest) ∙ reads.own x after fit.0 in
+      let more : (length xs ≡ n) ⊎ (read rest ≡ None) = shorter ends in
+      ap (one_more text (many read n)) first ∙ ap (λ (r : List A × List ℕ). (x ∷ r.0, r.1)) (many_are xs n after rest fit.1 refl (omega (arith, less)) more)
+    where
+      shorter : (suc (length xs) ≡ suc n) ⊎ (read rest ≡ None) → (length xs ≡ n) ⊎ (read rest ≡ None)
+      shorter (inl e) = inl (omega (arith, e))
+      shorter (inr e) = inr e
+
+  some_read : (n : ℕ) (text : List ℕ) (xs : List A) (rest : List ℕ) → Begins line Fits text xs rest → length xs ≡ n → many read n text ≡ (xs, rest)
+  some_read n text xs rest so e = many_are xs n text rest so.fit so.cut (omega (arith, e)) (inl e)
+
+  few_read : (n : ℕ) (text : List ℕ) (xs : List A) (rest : List ℕ) → Begins line Fits text xs rest → length xs < n → NoLine line Fits rest → many read n text ≡ (xs, rest)
+  few_read n text xs rest so e h = many_are xs n text rest so.fit so.cut (omega (arith, e)) (inr (no_read rest h))
+
+abbrev end_on : ℕ × ℕ → List (ℕ × Cap) → List Note → List ℕ → Result Ann DerivFault
+end_on counts slots notes [] = Ok (record { slots = slots; notes = notes })
+end_on counts slots notes (b ∷ bs) = Err (fault.BadLine (counts.0 + counts.1 + 2))
+
+abbrev notes_on : ℕ × ℕ → List (ℕ × Cap) → List Note × List ℕ → Result Ann DerivFault
+notes_on counts slots r = cond (nat_lt (length r.0) counts.1) (Err (fault.BadLine (counts.0 + length r.0 + 2))) (end_on counts slots r.0 r.1)
+
+abbrev slots_on : ℕ × ℕ → List (ℕ × Cap) × List ℕ → Result Ann DerivFault
+slots_on counts r = cond (nat_lt (length r.0) counts.0) (Err (fault.BadLine (length r.0 + 2))) (notes_on counts r.0 (many note_at counts.1 r.1))
+
+abbrev head_on : Option ((ℕ × ℕ) × List ℕ) → Result Ann DerivFault
+head_on None = Err (fault.BadLine 1)
+head_on (Some (counts, text)) = cond (nat_le counts.0 slot_limit && nat_le counts.1 node_limit) (slots_on counts (many slot_at counts.0 text)) (Err fault.TooMany)
+
+-- what a text is read as
+abbrev outcome : List ℕ → Result Ann DerivFault
+outcome bytes = head_on (head_at bytes)
+
+not_less : (n m : ℕ) → n ≡ m → nat_lt n m ≡ false
+not_less n m e = grind (arith, nat_tests)
+
+less : (n m : ℕ) → n < m → nat_lt n m ≡ true
+less n m h = grind (arith, nat_tests)
+
+both_within : (a b : ℕ) → a ≤ slot_limit → b ≤ node_limit → (nat_le a slot_limit && nat_le b node_limit) ≡ true
+both_within a b p q = grind (arith, nat_tests)
+
+not_within_by : (a b : ℕ) (t : Bool) → (nat_le a slot_limit && nat_le b node_limit) ≡ t → (Within (a, b) → ⊥) → t ≡ false
+not_within_by a b false e h = refl
+not_within_by a b true e h =
+    let p : a ≤ slot_limit = grind (arith, nat_tests) in
+    let q : b ≤ node_limit = grind (arith, nat_tests) in
+    absurd (h (p, q))
+
+module _ (bytes : List ℕ) (a b : ℕ) (text : List ℕ) (head : BeginsHead bytes (a, b) text) where
+  head_read : outcome bytes ≡ head_on (Some ((a, b), text))
+  head_read = ap head_on (ap head_at head.1 ∙ head_reads.own (a, b) text head.0)
+
+  over : (Within (a, b) → ⊥) → outcome bytes ≡ Err fault.TooMany
+  over h = head_read ∙ ap (λ t. cond t (slots_on (a, b) (many slot_at a text)) (Err fault.TooMany)) (not_within_by a b (nat_le a slot_limit && nat_le b node_limit) refl h)
+
+  module _ (w : Within (a, b)) where
+    under : outcome bytes ≡ slots_on (a, b) (many slot_at a text)
+    under = head_read ∙ ap (λ t. cond t (slots_on (a, b) (many slot_at a text)) (Err fault.TooMany)) (both_within a b w.0 w.1)
+
+    module _ (slots : List (ℕ × Cap)) (mid : List ℕ) (so : Begins slot_line SlotFits text slots mid) where
+      slot_bad : length slots < a → NoLine slot_line SlotFits mid → outcome bytes ≡ Err (fault.BadLine (length slots + 2))
+      slot_bad h none =
+          under ∙ ap (slots_on (a, b)) (few_read slot_at slot_line SlotFits slot_reads a text slots mid so h none)
+          ∙ ap (λ t. cond t (Err (fault.BadLine (length slots + 2))) (notes_on (a, b) slots (many note_at b mid))) (less (length slots) a h)
+
+      module _ (full : length slots ≡ a) where
+        slots_read : outcome bytes ≡ notes_on (a, b) slots (many note_at b mid)
+        slots_read =
+            under ∙ ap (slots_on (a, b)) (some_read slot_at slot_line SlotFits slot_reads a text slots mid so full)
+            ∙ ap (λ t. cond t (Err (fault.BadLine (length slots + 2))) (notes_on (a, b) slots (many note_at b mid))) (not_less (length slots) a full)
+
+        module _ (notes : List Note) (rest : List ℕ) (on : Begins note_line NoteFits mid notes rest) where
+          note_bad : length notes < b → NoLine note_line NoteFits rest → outcome bytes ≡ Err (fault.BadLine (a + length notes + 2))
+          note_bad h none =
+              slots_read ∙ ap (notes_on (a, b) slots) (few_read note_at note_line NoteFits note_reads b mid notes rest on h none)
+              ∙ ap (λ t. cond t (Err (fault.BadLine (a + length notes + 2))) (end_on (a, b) slots notes rest)) (less (length notes) b h)
+
+          notes_read : length notes ≡ b → outcome bytes ≡ end_on (a, b) slots notes rest
+          notes_read all =
+              slots_read ∙ ap (notes_on (a, b) slots) (some_read note_at note_line NoteFits note_reads b mid notes rest on all)
+              ∙ ap (λ t. cond t (Err (fault.BadLine (a + length notes + 2))) (end_on (a, b) slots notes rest)) (not_less (length notes) b all)
+
+end_bad : (counts : ℕ × ℕ) (slots : List (ℕ × Cap)) (notes : List Note) (rest : List ℕ) → 0 < length rest → end_on counts slots notes rest ≡ Err (fault.BadLine (counts.0 + counts.1 + 2))
+end_bad counts slots notes [] h = absurd (omega (arith, h))
+end_bad counts slots notes (b ∷ bs) h = refl
+
+pub text_outcome : (bytes : List ℕ) (ann : Ann) → IsText bytes ann → outcome bytes ≡ Ok ann
+text_outcome bytes ann is =
+    let a = length ann.slots in
+    let b = length ann.notes in
+    let mid = lines note_line ann.notes in
+    let fits : CountsFit (a, b) = (omega (arith, is.within.0), omega (arith, is.within.1)) in
+    notes_read bytes a b (lines slot_line ann.slots ++ mid) (fits, is.same) is.within ann.slots mid (record { fit = is.slots; cut = refl }) refl ann.notes [] (record { fit = is.notes; cut = sym (append-nil mid) }) refl
+
+bad_outcome : (bytes : List ℕ) (n : ℕ) → IsBadLine bytes n → outcome bytes ≡ Err (fault.BadLine n)
+bad_outcome bytes n (bad_head none e) =
+    ap head_on (no_read head_at head_line CountsFit head_reads bytes none) ∙ ap (λ m. Err (fault.BadLine m)) (sym e)
+bad_outcome bytes n (bad_slot {counts = counts} {text = text} {rest = rest} {slots = slots} head w so h none e) =
+    slot_bad bytes counts.0 counts.1 text head w slots rest so h none ∙ ap (λ m. Err (fault.BadLine m)) (sym e)
+bad_outcome bytes n (bad_node {counts = counts} {text = text} {mid = mid} {rest = rest} {slots = slots} {notes = notes} head w so full on h none e) =
+    note_bad bytes counts.0 counts.1 text head w slots mid so full notes rest on h none ∙ ap (λ m. Err (fault.BadLine m)) (sym e)
+bad_outcome bytes n (bad_end {counts = counts} {text = text} {mid = mid} {rest = rest} {slots = slots} {notes = notes} head w so full on all some e) =
+    notes_read bytes counts.0 counts.1 text head w slots mid so full notes rest on all ∙ end_bad counts slots notes rest some ∙ ap (λ m. Err (fault.BadLine m)) (sym e)
+
+pub fault_outcome : (bytes : List ℕ) (f : DerivFault) → IsFault bytes f → outcome bytes ≡ Err f
+fault_outcome bytes (fault.BadLine n) is = bad_outcome bytes n is
+fault_outcome bytes fault.TooMany is = over bytes is.0.0 is.0.1 is.1 is.2 is.3
+fault_outcome bytes fault.Memory is = absurd is
+
+ok_one : (r : Result Ann DerivFault) (a b : Ann) → r ≡ Ok a → r ≡ Ok b → a ≡ b
+ok_one r a b p q = cc
+
+err_one : (r : Result Ann DerivFault) (f g : DerivFault) → r ≡ Err f → r ≡ Err g → f ≡ g
+err_one r f g p q = cc
+
+ok_err : (r : Result Ann DerivFault) (a : Ann) (f : DerivFault) → r ≡ Ok a → r ≡ Err f → ⊥
+ok_err r a f p q = cc
+
+pub one_annotation : (bytes : List ℕ) (a b : Ann) → IsText bytes a → IsText bytes b → a ≡ b
+one_annotation bytes a b p q = ok_one (outcome bytes) a b (text_outcome bytes a p) (text_outcome bytes b q)
+
+pub one_fault : (bytes : List ℕ) (f g : DerivFault) → IsFault bytes f → IsFault bytes g → f ≡ g
+one_fault bytes f g p q = err_one (outcome bytes) f g (fault_outcome bytes f p) (fault_outcome bytes g q)
+
+pub no_fault : (bytes : List ℕ) (ann : Ann) (f : DerivFault) → IsText bytes ann → IsFault bytes f → ⊥
+no_fault bytes ann f p q = ok_err (outcome bytes) ann f (text_outcome bytes ann p) (fault_outcome bytes f q)
+
+-- what is answered, where the bytes are a text, and where they have a fault
+pub answers_text : (bytes : List ℕ) (result : Result Ann DerivFault) (ann : Ann) → IfOk result (IsText bytes) → IfErr result (Refuses bytes) → IsText bytes ann → Answers result (Ok ann)
+answers_text bytes (Ok other) ann ok err is = inl (ap Ok (one_annotation bytes other ann ok is))
+answers_text bytes (Err fault.Memory) ann ok err is = inr refl
+answers_text bytes (Err fault.TooMany) ann ok err is = absurd (no_fault bytes ann fault.TooMany is err)
+answers_text bytes (Err (fault.BadLine n)) ann ok err is = absurd (no_fault bytes ann (fault.BadLine n) is err)
+
+pub answers_fault : (bytes : List ℕ) (result : Result Ann DerivFault) (f : DerivFault) → IfOk result (IsText bytes) → IfErr result (Refuses bytes) → IsFault bytes f → Answers result (Err f)
+answers_fault bytes (Ok other) f ok err is = absurd (no_fault bytes other f ok is)
+answers_fault bytes (Err fault.Memory) f ok err is = inr refl
+answers_fault bytes (Err fault.TooMany) f ok err is = inl (ap Err (one_fault bytes fault.TooMany f err is))
+answers_fault bytes (Err (fault.BadLine n)) f ok err is = inl (ap Err (one_fault bytes (fault.BadLine n) f err is))

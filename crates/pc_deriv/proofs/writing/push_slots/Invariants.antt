@@ -1,0 +1,6 @@
+use Rattle.std.proofs.Common.{◌≡◌, ◌++◌, drop}
+use Rattle.pc_deriv.specs.Text.{lines, slot_line}
+use Rattle.pc_deriv.proofs.writing.push_slots.Given as goal
+
+abbrev pub invariant-loop-slot : goal.invariant-loop-slot
+invariant-loop-slot l = l.out.items ++ lines slot_line (drop l.slot-index l.slots) ≡ l.initial.out.items ++ lines slot_line l.slots

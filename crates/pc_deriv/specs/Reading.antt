@@ -1,0 +1,116 @@
+-- How the front of a text is read: a value, and what follows it.
+use Rattle.std.specs.Prelude.{ℕ, ◌+◌, ◌-◌, ◌*◌, ◌^◌, nat_lt, nat_le, nat_eq, Bool, ◌&&◌, ◌==◌, List, [], ◌∷◌, ◌++◌, length, drop, Option, Some, None, if◌then◌else◌, codes}
+use Rattle.std.specs.List.{starts_with}
+use Rattle.std.specs.Char.{is_ascii_digit, is_ascii_lowercase}
+use Rattle.pc_caps.specs.declared.capability.Cap.{Cap}
+use Rattle.pc_caps.specs.declared.capability.Form.{Form}
+use Rattle.pc_ann.specs.declared.mask.Mask.{Mask}
+use Rattle.pc_ann.specs.declared.annotation.Rule.{Rule}
+use Rattle.pc_ann.specs.declared.annotation.Note.{Note}
+use Rattle.pc_deriv.specs.declared.names.TheConstants.{RULES, CAPS, FORMS}
+use Rattle.pc_deriv.specs.Names.{rule_name, cap_name, form_name}
+
+-- one reading behind the other
+infixl 10 ◌>>=◌
+abbrev pub ◌>>=◌ : {A B : Type 0} → Option A → (A → Option B) → Option B
+None >>= f = None
+(Some x) >>= f = f x
+
+-- what follows these bytes
+unfoldable pub after : List ℕ → List ℕ → Option (List ℕ)
+after word text = if starts_with nat_eq text word then Some (drop (length word) text) else None
+
+-- what follows a word and the byte that ends it
+unfoldable pub after_word : List ℕ → ℕ → List ℕ → Option (List ℕ)
+after_word word end text = after word text >>= after (end ∷ [])
+
+-- the first reading, or else the second
+abbrev pub or_else : {A : Type 0} → Option A → Option A → Option A
+or_else None other = other
+or_else (Some x) other = Some x
+
+-- a thing, and what follows it
+abbrev pub beside : {A : Type 0} → A → Option (List ℕ) → Option (A × List ℕ)
+beside x None = None
+beside x (Some rest) = Some (x, rest)
+
+-- the first of some things whose name and end stand at the front
+abbrev pub named_at : {A : Type 0} → (A → List ℕ) → ℕ → List A → List ℕ → Option (A × List ℕ)
+named_at name end [] text = None
+named_at name end (x ∷ xs) text = or_else (beside x (after_word (name x) end text)) (named_at name end xs text)
+
+unfoldable pub rule_at : List ℕ → Option (Rule × List ℕ)
+rule_at = named_at rule_name 32 RULES
+
+unfoldable pub cap_at : List ℕ → Option (Cap × List ℕ)
+cap_at = named_at cap_name 10 CAPS
+
+unfoldable pub form_at : List ℕ → Option (Form × List ℕ)
+form_at = named_at form_name 32 FORMS
+
+-- the digit that a byte is
+abbrev pub digit_of : ℕ → ℕ → Option ℕ
+digit_of base b = if is_ascii_digit b && nat_lt (b - 48) base then Some (b - 48) else (if is_ascii_lowercase b && nat_lt (b - 97 + 10) base then Some (b - 97 + 10) else None)
+
+-- a number that is at most this large
+abbrev pub at_most : ℕ → ℕ → Option ℕ
+at_most most n = if nat_le n most then Some n else None
+
+-- the number with one digit more
+abbrev pub with_digit : ℕ → ℕ → ℕ → ℕ → Option ℕ
+with_digit base most value b = if value == 0 then None else (digit_of base b >>= (λ d. at_most most (value * base + d)))
+
+-- the number whose first digits have been read, and what follows its end
+abbrev pub digits_on : ℕ → ℕ → ℕ → ℕ → List ℕ → Option (ℕ × List ℕ)
+digits_on base most end value [] = None
+digits_on base most end value (b ∷ bs) = if b == end then Some (value, bs) else (with_digit base most value b >>= (λ v. digits_on base most end v bs))
+
+abbrev pub number_at : ℕ → ℕ → ℕ → List ℕ → Option (ℕ × List ℕ)
+number_at base most end [] = None
+number_at base most end (b ∷ bs) = digit_of base b >>= (λ d. digits_on base most end d bs)
+
+unfoldable pub decimal_at : ℕ → List ℕ → Option (ℕ × List ℕ)
+decimal_at end text = number_at 10 (2 ^ 32 - 1) end text
+
+unfoldable pub mask_at : ℕ → List ℕ → Option (Mask × List ℕ)
+mask_at end text = do
+  n ← number_at 16 (2 ^ 64 - 1) end text
+  Some (record { 0 = n.0 }, n.1)
+
+unfoldable pub head_at : List ℕ → Option ((ℕ × ℕ) × List ℕ)
+head_at text = do
+  t ← after (codes "rcap-derivation 1 ") text
+  a ← decimal_at 32 t
+  b ← decimal_at 10 a.1
+  Some ((a.0, b.0), b.1)
+
+unfoldable pub slot_at : List ℕ → Option ((ℕ × Cap) × List ℕ)
+slot_at text = do
+  t ← after (codes "s ") text
+  e ← decimal_at 32 t
+  k ← cap_at e.1
+  Some ((e.0, k.0), k.1)
+
+unfoldable pub some_type_at : List ℕ → Option (Option (ℕ × Form) × List ℕ)
+some_type_at text = do
+  e ← decimal_at 32 text
+  f ← form_at e.1
+  Some (Some (e.0, f.0), f.1)
+
+unfoldable pub type_at : List ℕ → Option (Option (ℕ × Form) × List ℕ)
+type_at text = or_else (beside None (after (codes "- ") text)) (some_type_at text)
+
+unfoldable pub masks_at : ℕ → List ℕ → Option ((Mask × Mask) × List ℕ)
+masks_at end text = do
+  l ← mask_at 32 text
+  s ← mask_at end l.1
+  Some ((l.0, s.0), s.1)
+
+unfoldable pub note_at : List ℕ → Option (Note × List ℕ)
+note_at text = do
+  t ← after (codes "n ") text
+  r ← rule_at t
+  ty ← type_at r.1
+  b ← masks_at 32 ty.1
+  a ← masks_at 10 b.1
+  Some (record { rule = r.0; ty = ty.0; live_before = b.0.0; set_before = b.0.1; live_after = a.0.0; set_after = a.0.1 }, a.1)

@@ -1,0 +1,70 @@
+-- The derivation text of an annotation.
+use Rattle.std.specs.Prelude.{ℕ, ◌<◌, ◌^◌, false, List, [], ◌∷◌, ◌++◌, length, Option, None, Some, codes, decimal, ⊤}
+use Rattle.std.specs.Fmt.{digits}
+use Rattle.pc_caps.specs.declared.capability.Cap.{Cap}
+use Rattle.pc_caps.specs.declared.capability.Form.{Form}
+use Rattle.pc_ann.specs.declared.mask.Mask.{Mask}
+use Rattle.pc_ann.specs.declared.annotation.Note.{Note}
+use Rattle.pc_ann.specs.declared.annotation.Ann.{Ann}
+use Rattle.pc_deriv.specs.Names.{rule_name, cap_name, form_name}
+
+abbrev pub line_end : List ℕ
+line_end = 10 ∷ []
+
+abbrev pub blank : List ℕ
+blank = 32 ∷ []
+
+-- the first line: the format's name and version, the number of slots and that of nodes
+abbrev pub head_line : ℕ × ℕ → List ℕ
+head_line (slots, nodes) = codes "rcap-derivation 1 " ++ (decimal slots ++ (blank ++ (decimal nodes ++ line_end)))
+
+-- the line of a slot: the number of its entity and its capability
+abbrev pub slot_line : ℕ × Cap → List ℕ
+slot_line (entity, cap) = codes "s " ++ (decimal entity ++ (blank ++ (cap_name cap ++ line_end)))
+
+-- the type of a node: the number of its entity and its form, or `-` for none
+abbrev pub type_text : Option (ℕ × Form) → List ℕ
+type_text None = codes "-"
+type_text (Some (entity, form)) = decimal entity ++ (blank ++ form_name form)
+
+-- a mask in hexadecimal
+abbrev pub mask_text : Mask → List ℕ
+mask_text mask = digits 16 false mask.0
+
+-- the masks of a node: live and set before it, live and set after it
+abbrev pub masks_text : Note → List ℕ
+masks_text note = blank ++ (mask_text note.live_before ++ (blank ++ (mask_text note.set_before ++ (blank ++ (mask_text note.live_after ++ (blank ++ (mask_text note.set_after ++ line_end)))))))
+
+-- the line of a node: its rule, its type and its masks
+abbrev pub note_line : Note → List ℕ
+note_line note = codes "n " ++ (rule_name note.rule ++ (blank ++ (type_text note.ty ++ masks_text note)))
+
+-- the lines of some things, one behind the other
+abbrev pub lines : {A : Type 0} → (A → List ℕ) → List A → List ℕ
+lines line [] = []
+lines line (x ∷ xs) = line x ++ lines line xs
+
+-- the whole text
+abbrev pub deriv_text : Ann → List ℕ
+deriv_text ann = head_line (length ann.slots, length ann.notes) ++ (lines slot_line ann.slots ++ lines note_line ann.notes)
+
+-- What has a text: counts and entities' numbers are below 2^32, masks below 2^64.
+abbrev pub CountsFit : ℕ × ℕ → Type 0
+CountsFit (slots, nodes) = (slots < 2 ^ 32) × (nodes < 2 ^ 32)
+
+abbrev pub SlotFits : ℕ × Cap → Type 0
+SlotFits (entity, cap) = entity < 2 ^ 32
+
+abbrev pub TypeFits : Option (ℕ × Form) → Type 0
+TypeFits None = ⊤
+TypeFits (Some (entity, form)) = entity < 2 ^ 32
+
+abbrev pub MaskFits : Mask → Type 0
+MaskFits mask = mask.0 < 2 ^ 64
+
+pub record NoteFits (note : Note) : Type 0 where
+  pub ty : TypeFits note.ty
+  pub live_before : MaskFits note.live_before
+  pub set_before : MaskFits note.set_before
+  pub live_after : MaskFits note.live_after
+  pub set_after : MaskFits note.set_after

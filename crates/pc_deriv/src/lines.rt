@@ -1,0 +1,84 @@
+//! The lines of a derivation text, as they are read.
+ghost use Rattle.std.specs.Prelude.{◌≡◌, option_map};
+ghost use Rattle.pc_deriv.specs.Reading as reading;
+
+use crate::names::{after, cap_at, form_at, rule_at};
+use crate::numbers::{decimal_at, mask_at};
+use pc_ann::{Mask, Note};
+use pc_caps::{Cap, Form};
+
+/// The counts of slots and of nodes in the first line, and what follows the line.
+#[tactic(auto, unfolding(crate::specs::Reading::head_at))]
+pub fn head_at(text: &[u8]) -> Option<((u32, u32), &[u8])>
+    ensures { option_map (λ r. (r.0, r.1.now)) result ≡ reading.head_at text.now }
+{
+    let text = after(text, b"rcap-derivation 1 ")?;
+    let (slots, text) = decimal_at(text, b' ')?;
+    let (nodes, text) = decimal_at(text, b'\n')?;
+    Some(((slots, nodes), text))
+}
+
+/// The entity and the capability in the line of a slot, and what follows the line.
+#[tactic(auto, unfolding(crate::specs::Reading::slot_at))]
+pub fn slot_at(text: &[u8]) -> Option<((u32, Cap), &[u8])>
+    ensures { option_map (λ r. (r.0, r.1.now)) result ≡ reading.slot_at text.now }
+{
+    let text = after(text, b"s ")?;
+    let (entity, text) = decimal_at(text, b' ')?;
+    let (cap, text) = cap_at(text)?;
+    Some(((entity, cap), text))
+}
+
+/// An entity and a form.
+#[tactic(auto, unfolding(crate::specs::Reading::some_type_at))]
+fn some_type_at(text: &[u8]) -> Option<(Option<(u32, Form)>, &[u8])>
+    ensures { option_map (λ r. (r.0, r.1.now)) result ≡ reading.some_type_at text.now }
+{
+    let (entity, text) = decimal_at(text, b' ')?;
+    let (form, text) = form_at(text)?;
+    Some((Some((entity, form)), text))
+}
+
+/// The type of a node, or `-` for none.
+#[tactic(auto, unfolding(crate::specs::Reading::type_at))]
+fn type_at(text: &[u8]) -> Option<(Option<(u32, Form)>, &[u8])>
+    ensures { option_map (λ r. (r.0, r.1.now)) result ≡ reading.type_at text.now }
+{
+    match after(text, b"- ") {
+        Some(rest) => Some((None, rest)),
+        None => some_type_at(text),
+    }
+}
+
+/// The live and the set mask.
+#[tactic(auto, unfolding(crate::specs::Reading::masks_at))]
+fn masks_at(text: &[u8], end: u8) -> Option<((Mask, Mask), &[u8])>
+    ensures { option_map (λ r. (r.0, r.1.now)) result ≡ reading.masks_at end text.now }
+{
+    let (live, text) = mask_at(text, b' ')?;
+    let (set, text) = mask_at(text, end)?;
+    Some(((live, set), text))
+}
+
+/// The note in the line of a node, and what follows the line.
+#[tactic(auto, unfolding(crate::specs::Reading::note_at))]
+pub fn note_at(text: &[u8]) -> Option<(Note, &[u8])>
+    ensures { option_map (λ r. (r.0, r.1.now)) result ≡ reading.note_at text.now }
+{
+    let text = after(text, b"n ")?;
+    let (rule, text) = rule_at(text)?;
+    let (ty, text) = type_at(text)?;
+    let ((live_before, set_before), text) = masks_at(text, b' ')?;
+    let ((live_after, set_after), text) = masks_at(text, b'\n')?;
+    Some((
+        Note {
+            rule,
+            ty,
+            live_before,
+            set_before,
+            live_after,
+            set_after,
+        },
+        text,
+    ))
+}

@@ -1,0 +1,207 @@
+//! The names of rules, capabilities and forms.
+ghost use Rattle.std.specs.Prelude.{◌≡◌, option_map};
+ghost use Rattle.pc_deriv.specs.Names as names;
+ghost use Rattle.pc_deriv.specs.Reading as reading;
+
+use pc_ann::Rule;
+use pc_caps::{Cap, Form};
+
+const RULES: [Rule; 31] = [
+    Rule::Number,
+    Rule::Truth,
+    Rule::Text,
+    Rule::Prim,
+    Rule::This,
+    Rule::Local,
+    Rule::Consume,
+    Rule::Get,
+    Rule::GetOwn,
+    Rule::Put,
+    Rule::PutOwn,
+    Rule::Define,
+    Rule::Assign,
+    Rule::New,
+    Rule::Spawn,
+    Rule::Call,
+    Rule::CallRecover,
+    Rule::Send,
+    Rule::Builtin,
+    Rule::Arith,
+    Rule::Compare,
+    Rule::Equal,
+    Rule::Join,
+    Rule::Logic,
+    Rule::Lazy,
+    Rule::Identity,
+    Rule::Seq,
+    Rule::If,
+    Rule::While,
+    Rule::Recover,
+    Rule::Body,
+];
+
+const CAPS: [Cap; 6] = [Cap::Iso, Cap::Trn, Cap::Ref, Cap::Val, Cap::Box, Cap::Tag];
+
+const FORMS: [Form; 8] = [
+    Form::IsoE,
+    Form::TrnE,
+    Form::Iso,
+    Form::Trn,
+    Form::Ref,
+    Form::Val,
+    Form::Box,
+    Form::Tag,
+];
+
+/// The name of a rule in the text.
+pub fn rule_name(rule: Rule) -> &'static str
+    ensures { result.now ≡ names.rule_name rule }
+{
+    match rule {
+        Rule::Number => "number",
+        Rule::Truth => "truth",
+        Rule::Text => "text",
+        Rule::Prim => "prim",
+        Rule::This => "this",
+        Rule::Local => "local",
+        Rule::Consume => "consume",
+        Rule::Get => "get",
+        Rule::GetOwn => "getown",
+        Rule::Put => "put",
+        Rule::PutOwn => "putown",
+        Rule::Define => "define",
+        Rule::Assign => "assign",
+        Rule::New => "new",
+        Rule::Spawn => "spawn",
+        Rule::Call => "call",
+        Rule::CallRecover => "callrecover",
+        Rule::Send => "send",
+        Rule::Builtin => "builtin",
+        Rule::Arith => "arith",
+        Rule::Compare => "compare",
+        Rule::Equal => "equal",
+        Rule::Join => "join",
+        Rule::Logic => "logic",
+        Rule::Lazy => "lazy",
+        Rule::Identity => "identity",
+        Rule::Seq => "seq",
+        Rule::If => "if",
+        Rule::While => "while",
+        Rule::Recover => "recover",
+        Rule::Body => "body",
+    }
+}
+
+/// The name of a capability.
+pub fn cap_name(cap: Cap) -> &'static str
+    ensures { result.now ≡ names.cap_name cap }
+{
+    match cap {
+        Cap::Iso => "iso",
+        Cap::Trn => "trn",
+        Cap::Ref => "ref",
+        Cap::Val => "val",
+        Cap::Box => "box",
+        Cap::Tag => "tag",
+    }
+}
+
+/// The name of a form.
+pub fn form_name(form: Form) -> &'static str
+    ensures { result.now ≡ names.form_name form }
+{
+    match form {
+        Form::IsoE => "iso^",
+        Form::TrnE => "trn^",
+        Form::Iso => "iso",
+        Form::Trn => "trn",
+        Form::Ref => "ref",
+        Form::Val => "val",
+        Form::Box => "box",
+        Form::Tag => "tag",
+    }
+}
+
+/// What follows these bytes.
+#[tactic(auto, unfolding(crate::specs::Reading::after))]
+pub fn after<'a>(text: &'a [u8], word: &[u8]) -> Option<&'a [u8]>
+    ensures { option_map (λ r. r.now) result ≡ reading.after word.now text.now }
+{
+    if text.starts_with(word) {
+        Some(&text[word.len()..])
+    } else {
+        None
+    }
+}
+
+/// What follows a word and the byte that ends it.
+#[tactic(auto, unfolding(crate::specs::Reading::after_word))]
+fn after_word<'a>(text: &'a [u8], word: &str, end: u8) -> Option<&'a [u8]>
+    ensures { option_map (λ r. r.now) result ≡ reading.after_word word.now end text.now }
+{
+    let rest = after(text, word.as_bytes())?;
+    after(rest, &[end])
+}
+
+// The first of these whose name stands at the front, with what ends it.
+#[tactic(auto, using(crate::proofs::NameSteps::named_here, crate::proofs::NameSteps::named_on))]
+fn first_rule<'a>(rules: &[Rule], text: &'a [u8]) -> Option<(Rule, &'a [u8])>
+    ensures { option_map (λ r. (r.0, r.1.now)) result ≡ reading.named_at names.rule_name 32 rules.now text.now }
+{
+    for rule in rules {
+        if let Some(rest) = after_word(text, rule_name(*rule), b' ') {
+            return Some((*rule, rest));
+        }
+    }
+    None
+}
+
+/// The rule with whose name and a blank the text begins, and what follows.
+#[tactic(auto, unfolding(crate::specs::Reading::rule_at))]
+pub fn rule_at(text: &[u8]) -> Option<(Rule, &[u8])>
+    ensures { option_map (λ r. (r.0, r.1.now)) result ≡ reading.rule_at text.now }
+{
+    first_rule(&RULES, text)
+}
+
+// The first of these whose name stands at the front, with what ends it.
+#[tactic(auto, using(crate::proofs::NameSteps::named_here, crate::proofs::NameSteps::named_on))]
+fn first_cap<'a>(caps: &[Cap], text: &'a [u8]) -> Option<(Cap, &'a [u8])>
+    ensures { option_map (λ r. (r.0, r.1.now)) result ≡ reading.named_at names.cap_name 10 caps.now text.now }
+{
+    for cap in caps {
+        if let Some(rest) = after_word(text, cap_name(*cap), b'\n') {
+            return Some((*cap, rest));
+        }
+    }
+    None
+}
+
+/// The capability with whose name and a line end the text begins, and what follows.
+#[tactic(auto, unfolding(crate::specs::Reading::cap_at))]
+pub fn cap_at(text: &[u8]) -> Option<(Cap, &[u8])>
+    ensures { option_map (λ r. (r.0, r.1.now)) result ≡ reading.cap_at text.now }
+{
+    first_cap(&CAPS, text)
+}
+
+// The first of these whose name stands at the front, with what ends it.
+#[tactic(auto, using(crate::proofs::NameSteps::named_here, crate::proofs::NameSteps::named_on))]
+fn first_form<'a>(forms: &[Form], text: &'a [u8]) -> Option<(Form, &'a [u8])>
+    ensures { option_map (λ r. (r.0, r.1.now)) result ≡ reading.named_at names.form_name 32 forms.now text.now }
+{
+    for form in forms {
+        if let Some(rest) = after_word(text, form_name(*form), b' ') {
+            return Some((*form, rest));
+        }
+    }
+    None
+}
+
+/// The form with whose name and a blank the text begins, and what follows.
+#[tactic(auto, unfolding(crate::specs::Reading::form_at))]
+pub fn form_at(text: &[u8]) -> Option<(Form, &[u8])>
+    ensures { option_map (λ r. (r.0, r.1.now)) result ≡ reading.form_at text.now }
+{
+    first_form(&FORMS, text)
+}

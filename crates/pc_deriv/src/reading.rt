@@ -1,0 +1,107 @@
+//! Reading a derivation text.
+ghost use Rattle.std.specs.Prelude.{◌≡◌, ◌<◌, ◌≤◌, ◌+◌, length, Ok, Err, IfOk, IfErr};
+ghost use Rattle.pc_ann.specs.declared.annotation.Ann.{Ann};
+ghost use Rattle.pc_deriv.specs.declared.fault.DerivFault.{DerivFault};
+ghost use Rattle.pc_deriv.specs.Limits.{slot_limit, node_limit};
+ghost use Rattle.pc_deriv.specs.Text.{slot_line, note_line, SlotFits, NoteFits};
+ghost use Rattle.pc_deriv.specs.Faults.{IsText, IsFault, Refuses, Begins};
+ghost use Rattle.pc_deriv.specs.Stops.{SlotsStop, NotesStop};
+ghost use Rattle.pc_deriv.specs.Answers.{Answers};
+
+use crate::fault::DerivFault;
+use crate::lines::{head_at, note_at, slot_at};
+use pc_ann::{Ann, Note};
+use pc_caps::{Cap, List};
+use std::alloc::Global;
+
+/// The most slots of an annotation that is read.
+const SLOT_LIMIT: u32 = 640_000;
+
+/// The most nodes.
+const NODE_LIMIT: u32 = 200_000;
+
+/// Reads so many lines of slots.
+#[tactic(auto, using(crate::proofs::Reached::no_slot, crate::proofs::Reached::slot_more, crate::proofs::Reached::slot_stops))]
+fn read_slots<'a>(
+    alloc: Global,
+    text: &'a [u8],
+    count: u32,
+) -> Result<(List<(u32, Cap)>, &'a [u8]), DerivFault>
+    requires { count ≤ slot_limit }
+    ensures ok { IfOk result (λ r. Begins slot_line SlotFits text.now r.0 r.1.now × (length r.0 ≡ count)) }
+    ensures err { IfErr result (SlotsStop text.now count) }
+{
+    let mut slots: List<(u32, Cap)> = List::new(alloc);
+    let mut rest = text;
+    while slots.len() < count as usize {
+        let (slot, next) = match slot_at(rest) {
+            Some(read) => read,
+            None => return Err(DerivFault::BadLine(slots.len() as u32 + 2)),
+        };
+        slots.push(slot)?;
+        rest = next;
+    }
+    Ok((slots, rest))
+}
+
+/// Reads so many lines of nodes behind those of so many slots.
+#[tactic(auto, using(crate::proofs::Reached::no_note, crate::proofs::Reached::note_more, crate::proofs::Reached::note_stops))]
+fn read_notes<'a>(
+    alloc: Global,
+    text: &'a [u8],
+    slots: u32,
+    count: u32,
+) -> Result<(List<Note>, &'a [u8]), DerivFault>
+    requires { (slots ≤ slot_limit) × (count ≤ node_limit) }
+    ensures ok { IfOk result (λ r. Begins note_line NoteFits text.now r.0 r.1.now × (length r.0 ≡ count)) }
+    ensures err { IfErr result (NotesStop text.now slots count) }
+{
+    let mut notes: List<Note> = List::new(alloc);
+    let mut rest = text;
+    while notes.len() < count as usize {
+        let (note, next) = match note_at(rest) {
+            Some(read) => read,
+            None => return Err(DerivFault::BadLine(slots + notes.len() as u32 + 2)),
+        };
+        notes.push(note)?;
+        rest = next;
+    }
+    Ok((notes, rest))
+}
+
+/// Reads the whole text line by line.
+fn read_lines(alloc: Global, bytes: &[u8]) -> Result<Ann, DerivFault>
+    ensures ok { IfOk result (IsText bytes.now) }
+    ensures err { IfErr result (Refuses bytes.now) }
+{
+    let ((slot_count, node_count), text) = match head_at(bytes) {
+        Some(head) => head,
+        None => return Err(DerivFault::BadLine(1)),
+    };
+    if slot_count > SLOT_LIMIT || node_count > NODE_LIMIT {
+        return Err(DerivFault::TooMany);
+    }
+    let (slots, text) = read_slots(alloc, text, slot_count)?;
+    let (notes, text) = read_notes(alloc, text, slot_count, node_count)?;
+    if !text.is_empty() {
+        return Err(DerivFault::BadLine(slot_count + node_count + 2));
+    }
+    Ok(Ann { slots, notes })
+}
+
+/// The annotation whose derivation text the bytes are, of at most 640,000 slots and 200,000 nodes.
+///
+/// `BadLine` has the number of the first line that is not of its form, `TooMany` says that the first line is of its
+/// form and a count in it passes its limit.
+pub fn read(alloc: Global, bytes: &[u8]) -> Result<Ann, DerivFault>
+    // The bytes are the annotation's text.
+    ensures ok { IfOk result (IsText bytes.now) }
+    // The fault is that of the bytes, or memory ran out.
+    ensures err { IfErr result (Refuses bytes.now) }
+    // Where the bytes are the text of an annotation within the limits, it is the answer, unless memory ran out.
+    ensures texts { (ann : Ann) → IsText bytes.now ann → Answers result (Ok ann) }
+    // Where the bytes have a fault, it is the answer, unless memory ran out.
+    ensures faults { (fault : DerivFault) → IsFault bytes.now fault → Answers result (Err fault) }
+{
+    read_lines(alloc, bytes)
+}

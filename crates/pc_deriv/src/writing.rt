@@ -1,0 +1,106 @@
+//! Writing the derivation text.
+ghost use Rattle.std.specs.Prelude.{◌≡◌, ◌≤◌, ◌++◌, length, IfOk, OnOk};
+ghost use Rattle.std.specs.Fmt.{digits};
+ghost use Rattle.pc_deriv.specs.Text as text;
+ghost use Rattle.pc_deriv.specs.Limits.{slot_limit, node_limit};
+
+use crate::names::{cap_name, form_name, rule_name};
+use pc_ann::{Ann, Note};
+use pc_caps::{Cap, Form, List};
+use std::alloc::{AllocError, Global};
+
+/// Puts the first line at the end.
+fn push_head(alloc: Global, out: &mut Vec<u8>, slots: usize, nodes: usize) -> Result<(), AllocError>
+    ensures { OnOk result (out.new.items ≡ out.old.items ++ text.head_line (slots, nodes)) }
+{
+    let line = format!(in alloc; "rcap-derivation 1 {slots} {nodes}\n")?;
+    out.extend_from_slice(line.as_bytes())?;
+    Ok(())
+}
+
+/// Puts the line of a slot at the end.
+fn push_slot(alloc: Global, out: &mut Vec<u8>, slot: (u32, Cap)) -> Result<(), AllocError>
+    ensures { OnOk result (out.new.items ≡ out.old.items ++ text.slot_line slot) }
+{
+    let (entity, cap) = slot;
+    let cap = cap_name(cap);
+    let line = format!(in alloc; "s {entity} {cap}\n")?;
+    out.extend_from_slice(line.as_bytes())?;
+    Ok(())
+}
+
+/// Puts the type of a node at the end.
+fn push_type(alloc: Global, out: &mut Vec<u8>, ty: Option<(u32, Form)>) -> Result<(), AllocError>
+    ensures { OnOk result (out.new.items ≡ out.old.items ++ text.type_text ty) }
+{
+    match ty {
+        None => {
+            out.push(b'-')?;
+            Ok(())
+        }
+        Some((entity, form)) => {
+            let form = form_name(form);
+            let pair = format!(in alloc; "{entity} {form}")?;
+            out.extend_from_slice(pair.as_bytes())?;
+            Ok(())
+        }
+    }
+}
+
+/// Puts the masks of a node at the end.
+fn push_masks(alloc: Global, out: &mut Vec<u8>, note: &Note) -> Result<(), AllocError>
+    ensures { OnOk result (out.new.items ≡ out.old.items ++ text.masks_text note.now) }
+{
+    let live_before = note.live_before.0;
+    let set_before = note.set_before.0;
+    let live_after = note.live_after.0;
+    let set_after = note.set_after.0;
+    let masks = format!(in alloc;
+        " {live_before:x} {set_before:x} {live_after:x} {set_after:x}\n"
+    )?;
+    out.extend_from_slice(masks.as_bytes())?;
+    Ok(())
+}
+
+/// Puts the line of a node at the end.
+fn push_note(alloc: Global, out: &mut Vec<u8>, note: &Note) -> Result<(), AllocError>
+    ensures { OnOk result (out.new.items ≡ out.old.items ++ text.note_line note.now) }
+{
+    let rule = rule_name(note.rule);
+    let front = format!(in alloc; "n {rule} ")?;
+    out.extend_from_slice(front.as_bytes())?;
+    push_type(alloc, out, note.ty)?;
+    push_masks(alloc, out, note)
+}
+
+/// Puts the lines of slots at the end.
+fn push_slots(alloc: Global, out: &mut Vec<u8>, slots: &[(u32, Cap)]) -> Result<(), AllocError>
+    ensures { OnOk result (out.new.items ≡ out.old.items ++ text.lines text.slot_line slots.now) }
+{
+    for slot in slots {
+        push_slot(alloc, out, *slot)?;
+    }
+    Ok(())
+}
+
+/// Puts the lines of nodes at the end.
+fn push_notes(alloc: Global, out: &mut Vec<u8>, notes: &[Note]) -> Result<(), AllocError>
+    ensures { OnOk result (out.new.items ≡ out.old.items ++ text.lines text.note_line notes.now) }
+{
+    for note in notes {
+        push_note(alloc, out, note)?;
+    }
+    Ok(())
+}
+
+/// The derivation text of an annotation of at most 640,000 slots and 200,000 nodes.
+pub fn write(alloc: Global, ann: &Ann) -> Result<List<u8>, AllocError>
+    requires { (length ann.now.slots ≤ slot_limit) × (length ann.now.notes ≤ node_limit) }
+    ensures { IfOk result (λ bytes. bytes ≡ text.deriv_text ann.now) }
+{
+    let mut out: Vec<u8> = Vec::new(alloc);
+    push_head(alloc, &mut out, ann.slots.len(), ann.notes.len())?;
+    push_slots(alloc, &mut out, ann.slots.as_slice())?;
+    push_notes(alloc, &mut out, ann.notes.as_slice())?;
+    Ok(List::from_vec(out))
+}
