@@ -5,3 +5,4 @@ pub mod NameReading
 pub mod LineReading
 pub mod Reached
 pub mod Outcome
+pub mod Fitting

@@ -208,7 +208,7 @@ note_sound bytes x rest e =
     let m = both_sound (note_of r.0.0 ty.0.0) (masks_reads 32 refl) (masks_reads 10 refl) ty.0.1 x rest ty.2 in
     let t = type_reads.sound r.0.1 ty.0.0 ty.0.1 ty.1 in
     let n = note_of r.0.0 ty.0.0 m.0 m.1 in
-    let fits : NoteFits n = record { ty = t.0; live_before = m.3.0; set_before = m.3.1; live_after = m.4.0; set_after = m.4.1 } in (
+    let fits : NoteFits n = (t.0, (m.3, m.4)) in (
       subst NoteFits m.2 fits,
       after_sound w bytes h.0 h.1
           ∙ ap (λ l. w ++ l) (rule_sound h.0 r.0.0 r.0.1 r.1 ∙ ap (λ l. rule_name r.0.0 ++ (32 ∷ l)) (t.1 ∙ ap (λ l. type_text ty.0.0 ++ (32 ∷ l)) m.5))
@@ -228,8 +228,8 @@ note_own x rest f =
     ap note_at (flat_note w (rule_name x.rule) (type_text x.ty) (mask_text x.live_before) (mask_text x.set_before) (mask_text x.live_after) (mask_text x.set_after) rest)
     ∙ bind_own (after w (w ++ r)) rule_on r (Some (x, rest)) (after_own w r)
     (bind_own (rule_at r) (λ r. type_on r.0 r.1) (x.rule, ty) (Some (x, rest)) (rule_own x.rule ty)
-    (bind_own (type_at ty) (λ ty. masks_on x.rule ty.0 ty.1) (x.ty, m) (Some (x, rest)) (type_own x.ty m f.ty)
-    (both_own (note_of x.rule x.ty) (masks_reads 32 refl) (masks_reads 10 refl) before after_it rest (f.live_before, f.set_before) (f.live_after, f.set_after))))
+    (bind_own (type_at ty) (λ ty. masks_on x.rule ty.0 ty.1) (x.ty, m) (Some (x, rest)) (type_own x.ty m f.0)
+    (both_own (note_of x.rule x.ty) (masks_reads 32 refl) (masks_reads 10 refl) before after_it rest f.1.0 f.1.1)))
 
 pub note_reads : Reads note_at (λ x rest. note_line x ++ rest) NoteFits
 note_reads = record { sound = note_sound; own = note_own }

@@ -62,9 +62,8 @@ TypeFits (Some (entity, form)) = entity < 2 ^ 32
 abbrev pub MaskFits : Mask → Type 0
 MaskFits mask = mask.0 < 2 ^ 64
 
-pub record NoteFits (note : Note) : Type 0 where
-  pub ty : TypeFits note.ty
-  pub live_before : MaskFits note.live_before
-  pub set_before : MaskFits note.set_before
-  pub live_after : MaskFits note.live_after
-  pub set_after : MaskFits note.set_after
+abbrev pub MasksFit : Note → Type 0
+MasksFit note = (MaskFits note.live_before × MaskFits note.set_before) × (MaskFits note.live_after × MaskFits note.set_after)
+
+abbrev pub NoteFits : Note → Type 0
+NoteFits note = TypeFits note.ty × MasksFit note

@@ -1,7 +1,9 @@
 //! Writing the derivation text.
 ghost use Rattle.std.specs.Prelude.{◌≡◌, ◌≤◌, ◌++◌, length, IfOk, OnOk};
 ghost use Rattle.std.specs.Fmt.{digits};
+ghost use Rattle.std.specs.List.{AllByRecursion};
 ghost use Rattle.pc_deriv.specs.Text as text;
+ghost use Rattle.pc_deriv.specs.Faults.{IsText};
 ghost use Rattle.pc_deriv.specs.Limits.{slot_limit, node_limit};
 
 use crate::names::{cap_name, form_name, rule_name};
@@ -20,7 +22,8 @@ fn push_head(alloc: Global, out: &mut Vec<u8>, slots: usize, nodes: usize) -> Re
 
 /// Puts the line of a slot at the end.
 fn push_slot(alloc: Global, out: &mut Vec<u8>, slot: (u32, Cap)) -> Result<(), AllocError>
-    ensures { OnOk result (out.new.items ≡ out.old.items ++ text.slot_line slot) }
+    ensures puts { OnOk result (out.new.items ≡ out.old.items ++ text.slot_line slot) }
+    ensures fits { text.SlotFits slot }
 {
     let (entity, cap) = slot;
     let cap = cap_name(cap);
@@ -31,7 +34,8 @@ fn push_slot(alloc: Global, out: &mut Vec<u8>, slot: (u32, Cap)) -> Result<(), A
 
 /// Puts the type of a node at the end.
 fn push_type(alloc: Global, out: &mut Vec<u8>, ty: Option<(u32, Form)>) -> Result<(), AllocError>
-    ensures { OnOk result (out.new.items ≡ out.old.items ++ text.type_text ty) }
+    ensures puts { OnOk result (out.new.items ≡ out.old.items ++ text.type_text ty) }
+    ensures fits { text.TypeFits ty }
 {
     match ty {
         None => {
@@ -48,8 +52,9 @@ fn push_type(alloc: Global, out: &mut Vec<u8>, ty: Option<(u32, Form)>) -> Resul
 }
 
 /// Puts the masks of a node at the end.
-fn push_masks(alloc: Global, out: &mut Vec<u8>, note: &Note) -> Result<(), AllocError>
-    ensures { OnOk result (out.new.items ≡ out.old.items ++ text.masks_text note.now) }
+fn push_masks(alloc: Global, out: &mut Vec<u8>, note: Note) -> Result<(), AllocError>
+    ensures puts { OnOk result (out.new.items ≡ out.old.items ++ text.masks_text note) }
+    ensures fits { text.MasksFit note }
 {
     let live_before = note.live_before.0;
     let set_before = note.set_before.0;
@@ -63,8 +68,9 @@ fn push_masks(alloc: Global, out: &mut Vec<u8>, note: &Note) -> Result<(), Alloc
 }
 
 /// Puts the line of a node at the end.
-fn push_note(alloc: Global, out: &mut Vec<u8>, note: &Note) -> Result<(), AllocError>
-    ensures { OnOk result (out.new.items ≡ out.old.items ++ text.note_line note.now) }
+fn push_note(alloc: Global, out: &mut Vec<u8>, note: Note) -> Result<(), AllocError>
+    ensures puts { OnOk result (out.new.items ≡ out.old.items ++ text.note_line note) }
+    ensures fits { OnOk result (text.NoteFits note) }
 {
     let rule = rule_name(note.rule);
     let front = format!(in alloc; "n {rule} ")?;
@@ -75,7 +81,8 @@ fn push_note(alloc: Global, out: &mut Vec<u8>, note: &Note) -> Result<(), AllocE
 
 /// Puts the lines of slots at the end.
 fn push_slots(alloc: Global, out: &mut Vec<u8>, slots: &[(u32, Cap)]) -> Result<(), AllocError>
-    ensures { OnOk result (out.new.items ≡ out.old.items ++ text.lines text.slot_line slots.now) }
+    ensures puts { OnOk result (out.new.items ≡ out.old.items ++ text.lines text.slot_line slots.now) }
+    ensures fit { OnOk result (AllByRecursion text.SlotFits slots.now) }
 {
     for slot in slots {
         push_slot(alloc, out, *slot)?;
@@ -84,23 +91,36 @@ fn push_slots(alloc: Global, out: &mut Vec<u8>, slots: &[(u32, Cap)]) -> Result<
 }
 
 /// Puts the lines of nodes at the end.
+#[tactic(auto, using(crate::proofs::Fitting::fits_more))]
 fn push_notes(alloc: Global, out: &mut Vec<u8>, notes: &[Note]) -> Result<(), AllocError>
-    ensures { OnOk result (out.new.items ≡ out.old.items ++ text.lines text.note_line notes.now) }
+    ensures puts { OnOk result (out.new.items ≡ out.old.items ++ text.lines text.note_line notes.now) }
+    ensures fit { OnOk result (AllByRecursion text.NoteFits notes.now) }
 {
     for note in notes {
-        push_note(alloc, out, note)?;
+        push_note(alloc, out, *note)?;
     }
     Ok(())
 }
 
-/// The derivation text of an annotation of at most 640,000 slots and 200,000 nodes.
-pub fn write(alloc: Global, ann: &Ann) -> Result<List<u8>, AllocError>
-    requires { (length ann.now.slots ≤ slot_limit) × (length ann.now.notes ≤ node_limit) }
-    ensures { IfOk result (λ bytes. bytes ≡ text.deriv_text ann.now) }
+/// All lines of an annotation.
+fn write_lines(alloc: Global, ann: &Ann) -> Result<List<u8>, AllocError>
+    ensures text { IfOk result (λ bytes. bytes ≡ text.deriv_text ann.now) }
+    ensures fits { IfOk result (λ bytes. AllByRecursion text.SlotFits ann.now.slots × AllByRecursion text.NoteFits ann.now.notes) }
 {
     let mut out: Vec<u8> = Vec::new(alloc);
     push_head(alloc, &mut out, ann.slots.len(), ann.notes.len())?;
     push_slots(alloc, &mut out, ann.slots.as_slice())?;
     push_notes(alloc, &mut out, ann.notes.as_slice())?;
     Ok(List::from_vec(out))
+}
+
+/// The derivation text of an annotation of at most 640,000 slots and 200,000 nodes.
+pub fn write(alloc: Global, ann: &Ann) -> Result<List<u8>, AllocError>
+    requires { (length ann.now.slots ≤ slot_limit) × (length ann.now.notes ≤ node_limit) }
+    // The bytes are the annotation's text.
+    ensures text { IfOk result (λ bytes. bytes ≡ text.deriv_text ann.now) }
+    // So they are read as this annotation.
+    ensures read_back { IfOk result (λ bytes. IsText bytes ann.now) }
+{
+    write_lines(alloc, ann)
 }
