@@ -6,13 +6,10 @@ use Rattle.pc_heap.specs.Inside.{or_zero}
 use Rattle.std.specs.declared.cmp.Ordering.{Ordering}
 use Rattle.std.specs.Ordering.{eq_by_cmp, is_eq, nat_cmp}
 use Rattle.std.specs.Cmp.{IsTotalOrder, nat_cmp_total, eq_by_cmp_equiv}
-use Rattle.std.proofs.lemmas.Cmp.{on_total, then_total}
 use Rattle.std.proofs.lemmas.Map.Lookups.{CmpEqualImpliesEq, exact_pairs, exact_unsigned}
 use Rattle.std.specs.FinMap.{FinMap, get, insert, remove, from_entries, get-from_entries, get-insert, get-remove, same_map, find}
 use Rattle.pc_heap.specs.Objects.{address_cmp}
-
-pub addresses_total : IsTotalOrder address_cmp
-addresses_total = then_total (on_total (λ a. a.maker) nat_cmp_total) (on_total (λ a. a.serial) nat_cmp_total)
+pub use Rattle.pc_heap.specs.Addresses.{addresses_total}
 
 pub exact_addresses : CmpEqualImpliesEq address_cmp
 exact_addresses a b h = ap (λ (p : ℕ × ℕ). record { maker = p.0; serial = p.1 }) (exact_pairs nat_cmp nat_cmp exact_unsigned exact_unsigned (a.maker, a.serial) (b.maker, b.serial) h)

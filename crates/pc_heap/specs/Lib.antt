@@ -1,3 +1,4 @@
 pub mod Objects
+pub mod Addresses
 pub mod Heaps
 pub mod Inside

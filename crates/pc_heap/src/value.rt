@@ -24,6 +24,13 @@ pub enum Value {
     At(Address),
 }
 
+/// The number 0, which stands in places of a message that are not used.
+impl Default for Value {
+    fn default() -> Value {
+        Value::Num(0)
+    }
+}
+
 /// An object of a class or of an actor.
 #[derive(Debug, Drop)]
 pub struct Object {

@@ -1,0 +1,14 @@
+pub mod Configurations
+pub mod Around
+pub mod Operators
+pub mod Evaluation
+pub mod Fields
+pub mod Calls
+pub mod Choices
+pub mod Tasks
+pub mod Step
+pub mod Runs
+pub mod Text
+pub mod Safety
+pub mod Programs
+pub mod Examples

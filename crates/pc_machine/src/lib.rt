@@ -1,0 +1,27 @@
+//! What a machine is and does: its configurations, one step of an actor, runs over every schedule, and when a program is
+//! safe. These are definitions, in `specs/`; `docs/machine.md` goes through them. The types of what stands in a
+//! configuration are declared here.
+#![tactic(auto)]
+
+mod access;
+mod actors;
+mod arguments;
+mod frames;
+mod laws;
+mod mailbox;
+mod outcome;
+mod stack;
+
+pub use access::Access;
+pub use actors::Actor;
+pub use arguments::Arguments;
+pub use frames::{Frame, Task};
+pub use laws::{
+    a_constructor_sets_its_fields, a_spawned_actor_has_its_message, a_text_may_be_too_long,
+    a_while_takes_its_turns, each_lack_comes, hello_runs, messages_are_taken_in_order,
+    no_actor_no_step, numbers_wrap, one_branch_is_taken, races_are_seen,
+    the_right_side_is_looked_at_when_needed,
+};
+pub use mailbox::{Mailbox, Message};
+pub use outcome::{Lack, Outcome};
+pub use stack::Stack;
