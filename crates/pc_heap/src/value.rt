@@ -1,3 +1,6 @@
+ghost use Rattle.std.specs.Prelude.{◌≡◌};
+ghost use Rattle.pc_heap.specs.declared.value.Value.TheVariants.{Num};
+
 use pc_caps::List;
 
 /// Where an object stands: the actor that made it, and how many that actor had made before it.
@@ -26,7 +29,9 @@ pub enum Value {
 
 /// The number 0, which stands in places of a message that are not used.
 impl Default for Value {
-    fn default() -> Value {
+    fn default() -> Value
+        ensures { result ≡ Num 0 }
+    {
         Value::Num(0)
     }
 }
