@@ -1,5 +1,5 @@
 -- The faults of the small program's wrong derivations.
-use Rattle.std.specs.Prelude.{◌≡◌, ℕ, zero, suc, ◌<◌, Bool, true, false, List, [], ◌∷◌, length, Option, Some, None, slice_get, refl}
+use Rattle.std.specs.Prelude.{◌≡◌, ℕ, zero, suc, ◌<◌, Bool, true, false, List, [], ◌∷◌, Option, Some, None, slice_get, refl}
 use Rattle.std.proofs.Common.{ap, sym, subst, ◌∙◌, arith}
 use Rattle.std.proofs.lemmas.Option.{same_Some, none-some}
 use Rattle.pc_caps.specs.declared.capability.Cap.{Cap}
@@ -15,14 +15,13 @@ use Rattle.pc_core.specs.declared.nodes.Slot.{Slot}
 use Rattle.pc_core.specs.declared.nodes.SlotKind.TheVariants as slot
 use Rattle.pc_core.specs.Words.{Each}
 use Rattle.pc_core.specs.Entities.{print_method}
-use Rattle.pc_ann.specs.declared.annotation.Ann.{Ann}
 use Rattle.pc_ann.specs.declared.annotation.Note.{Note}
 use Rattle.pc_ann.specs.declared.annotation.Rule.TheVariants as rule
 use Rattle.pc_sub.specs.Declarations.{TakesSendable, Conforms, DeclOk}
 use Rattle.pc_rules.specs.declared.said.Said.{Said}
 use Rattle.pc_rules.specs.Parts.{constructs, full}
 use Rattle.pc_rules.specs.Rules.{Meets, MeetsRule}
-use Rattle.pc_rules.specs.Valid.{KeepsWritten, SetsFields}
+use Rattle.pc_rules.specs.Valid.{KeepsWritten}
 use Rattle.pc_rules.specs.Example.{four_slots, create_c, create_main, at, node_of, noted}
 use Rattle.pc_judge.specs.Faults as spec
 use Rattle.pc_judge.specs.Example as example

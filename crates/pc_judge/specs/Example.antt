@@ -3,7 +3,7 @@
 --     actor Main
 --       new create(env: Env) =>
 --         let a: C iso = C
-use Rattle.std.specs.Prelude.{List, [], Some, slice_set}
+use Rattle.std.specs.Prelude.{[], Some, slice_set}
 use Rattle.pc_caps.specs.declared.capability.Cap.TheVariants as cap
 use Rattle.pc_caps.specs.declared.capability.Form.TheVariants as form
 use Rattle.pc_ann.specs.declared.annotation.Ann.{Ann}
