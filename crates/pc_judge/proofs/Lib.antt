@@ -1,0 +1,5 @@
+pub mod Kept
+pub mod AtNode
+pub mod Bodies
+pub mod Exact
+pub mod Faulty
