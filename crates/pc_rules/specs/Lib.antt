@@ -10,3 +10,7 @@ pub mod Statements
 pub mod Example
 pub mod Trees
 pub mod First
+pub mod Alike
+pub mod Slotted
+pub mod FirstRules
+pub mod Agreeing
