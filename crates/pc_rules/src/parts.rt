@@ -65,7 +65,7 @@ pub(crate) fn reachable(node: &Node, slot: (Slot, (u32, Cap))) -> bool
     slot.0.depth == node.depth || sendable(slot.1.1)
 }
 
-/// Whether a method is a constructor. Takes no memory.
+/// Whether a method of this kind is a constructor. Takes no memory.
 pub fn constructs(kind: MethodKind) -> bool
     ensures { result ≡ spec.constructs kind }
 {
@@ -94,7 +94,7 @@ fn all_of(entity: &EntityDef) -> Mask
     }
 }
 
-/// Whether the set has all fields of the entity. Takes no memory.
+/// Whether a set mask has all fields of the entity. Takes no memory.
 pub fn full(core: &Core, entity: u32, set: Mask) -> bool
     ensures { result ≡ spec.full core.now entity set }
 {
