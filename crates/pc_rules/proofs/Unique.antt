@@ -1,5 +1,5 @@
--- At most one annotation of a core of the first kinds is valid.
-use Rattle.std.specs.Prelude.{◌≡◌, ℕ, zero, suc, ◌+◌, ◌-◌, ◌<◌, ◌≤◌, true, ◌&&◌, nat_eq, List, [], ◌∷◌, map, length, Option, Some, None, slice_get, refl}
+-- At most one annotation of a core is valid.
+use Rattle.std.specs.Prelude.{◌≡◌, ◌⊎◌, ℕ, zero, suc, ◌+◌, ◌-◌, ◌<◌, ◌≤◌, true, false, ◌&&◌, nat_eq, List, [], ◌∷◌, map, length, Option, Some, None, slice_get, refl}
 use Rattle.std.proofs.Common.{inl, inr, ap, sym, subst, ◌∙◌, arith}
 use Rattle.std.proofs.lemmas.Option.{same_Some, none-some}
 use Rattle.std.proofs.lemmas.Bool.{cases_lt, and_parts, eqb-true}
@@ -15,7 +15,7 @@ use Rattle.pc_core.specs.CoreData.{CoreData}
 use Rattle.pc_core.specs.Words.{Each, Follow}
 use Rattle.pc_core.specs.Lookup.{node_end}
 use Rattle.pc_core.specs.Methods.{LocalFits, BodyFits, Uses}
-use Rattle.pc_core.specs.Nodes.{NamesSlot, NamesFit}
+use Rattle.pc_core.specs.Nodes.{HasArity}
 use Rattle.pc_core.specs.Formed.{Formed}
 use Rattle.pc_core.specs.Runs.{get_map, map_get, range_get, run_within, run_around}
 use Rattle.pc_core.specs.Members.{bind_some}
@@ -30,10 +30,10 @@ use Rattle.pc_rules.specs.Values.{same_cap, same_place, defined_type, defines, d
 use Rattle.pc_rules.specs.Control.{start_set, starts_method, result_ok, body_says}
 use Rattle.pc_rules.specs.Rules.{says, said_by, Meets}
 use Rattle.pc_rules.specs.Valid.{Valid}
-use Rattle.pc_rules.specs.Trees.{Tree, Forest, tree, empty, more, body_tree, forest_below}
-use Rattle.pc_rules.specs.First.{is_first, FirstKinds, OneValid}
-use Rattle.pc_rules.specs.FirstRules.{kept, rule_of, first_rule, threads}
-use Rattle.pc_rules.specs.Agreeing.{starts_so, body_starts, body_method, body_says_at, Agree, known_alike, node_step}
+use Rattle.pc_rules.specs.Trees.{Tree, Forest, tree, empty, more, body_tree, tree_le, forest_below}
+use Rattle.pc_rules.specs.Statements.{OneValid}
+use Rattle.pc_rules.specs.Threads.{kept, Threaded, then_way, else_way, is_branch, threads, if_threads, starts_so, first_starts, next_starts}
+use Rattle.pc_rules.specs.Agreeing.{body_starts, body_method, body_says_at, Agree, known_alike, node_step}
 use Rattle.pc_rules.specs.Slotted.{slot_known}
 
 lists_equal : {T : Type 0} → (xs ys : List T) → length xs ≡ length ys → ((k : ℕ) → k < length xs → slice_get xs k ≡ slice_get ys k) → xs ≡ ys
@@ -52,23 +52,64 @@ meets_at core ann n x t v g h =
     let r = v.rules n (get_below core.nodes n x g) in
     subst (λ (y : Node). Meets core ann y t) (same_Some r.0 x (sym r.2 ∙ g)) (subst (λ (s : Note). Meets core ann r.0 s) (same_Some r.1 t (sym r.3 ∙ h)) r.4)
 
-module _ (core : CoreData) (a b : Ann) (formed : Formed core) (kinds : FirstKinds core) (va : Valid core a) (vb : Valid core b) where
+branches : (k : NodeKind) → (is_branch k ≡ false) ⊎ (k ≡ node.If)
+branches node.If = inr refl
+branches k = inl refl
+
+row_end : (core : CoreData) (low high : ℕ) → Forest core low high [] → low ≡ high
+row_end core low high empty = refl
+
+-- A child that is evaluated has a note.
+note_of_child : (ann : Ann) (cs : List ℕ) (m : Masks) (i c : ℕ) → Threaded ann cs m → slice_get cs i ≡ Some c → (t : Note) × (slice_get ann.notes c ≡ Some t)
+note_of_child ann [] m i c h e = absurd (none-some c e)
+note_of_child ann (d ∷ cs) m zero c h e = let a = bind_some (slice_get ann.notes d) _ h.0 h.1 in (a.0, ap (slice_get ann.notes) (sym (same_Some d c e)) ∙ a.1)
+note_of_child ann (d ∷ cs) m (suc i) c h e =
+    let a = bind_some (slice_get ann.notes d) _ h.0 h.1 in
+    let k = kept (starts a.0 m) (through ann cs (after a.0)) h.0 a.2 in
+    note_of_child ann cs (after a.0) i c (h.0, k.1) e
+
+module _ (core : CoreData) (a b : Ann) (formed : Formed core) (va : Valid core a) (vb : Valid core b) where
   -- A node that starts from the same masks in both: what stands in it agrees, and so does it.
   mutual
     same_tree : (low n : ℕ) (s t : Note) → Tree core low n → Agree core a b low → slice_get a.notes n ≡ Some s → slice_get b.notes n ≡ Some t → before s ≡ before t → Agree core a b (n + 1)
     same_tree low n s t (tree x g f) same ga gb m =
-        let p = kinds n x g in
-        let arity = (formed.nodes n x g).arity in
         let ma = meets_at core a n x s va g ga in
         let mb = meets_at core b n x t vb g gb in
-        let ra = first_rule core a x (before s) s.rule x.kind (said_by s) p ma in
-        let rb = first_rule core b x (before t) t.rule x.kind (said_by t) p mb in
-        let ea : says core a x (before s) (rule_of x.kind) x.kind ≡ Some (said_by s) = subst (λ r. says core a x (before s) r x.kind ≡ Some (said_by s)) ra ma in
-        let eb : says core b x (before t) (rule_of x.kind) x.kind ≡ Some (said_by t) = subst (λ r. says core b x (before t) r x.kind ≡ Some (said_by t)) rb mb in
-        let ta = threads core a x (before s) x.kind (said_by s) p arity ea in
-        let tb = threads core b x (before t) x.kind (said_by t) p arity eb in
-        let inside = same_forest low n x.children (before s) ta.0 tb.0 f same ta.1 (subst (λ k. through b x.children k ≡ Some tb.0) (sym m) tb.1) in
-        node_step core a b formed kinds va.written vb.written n x s t g (forest_below core low n x.children f) inside ga gb ma mb m
+        let inside : Agree core a b n = elim (branches x.kind) [
+          | inl plain ↦ let arity = (formed.nodes n x g).arity in
+              let ta = threads core a x (before s) (said_by s) s.rule x.kind plain arity ma in
+              let tb = threads core b x (before t) (said_by t) t.rule x.kind plain arity mb in
+              same_forest low n x.children (before s) ta.0 tb.0 f same ta.1 (subst (λ k. through b x.children k ≡ Some tb.0) (sym m) tb.1)
+          | inr if ↦ let wa = if_threads core a x (before s) (said_by s) s.rule if ma in
+              let wb = if_threads core b x (before t) (said_by t) t.rule if mb in
+              same_branches low n x.children (before s) f (subst (λ k. HasArity k (length x.children)) if (formed.nodes n x g).arity) same wa.0 wa.1 (subst (Threaded b (then_way x.children)) (sym m) wb.0) (subst (Threaded b (else_way x.children)) (sym m) wb.1)
+        ] in
+        node_step core a b formed va.written vb.written n x s t g (forest_below core low n x.children f) inside ga gb ma mb m
+
+    -- Both branches of an `if` follow the condition.
+    same_branches : (low high : ℕ) (cs : List ℕ) (m : Masks) → Forest core low high cs → length cs ≡ 3 → Agree core a b low → Threaded a (then_way cs) m → Threaded a (else_way cs) m → Threaded b (then_way cs) m → Threaded b (else_way cs) m → Agree core a b high
+    same_branches low high [] m f count same ta ea tb eb = absurd (omega (arith, count))
+    same_branches low high (c ∷ []) m f count same ta ea tb eb = absurd (omega (arith, count))
+    same_branches low high (c ∷ d ∷ []) m f count same ta ea tb eb = absurd (omega (arith, count))
+    same_branches low high (c ∷ d ∷ e ∷ []) m (more t f) count same ta ea tb eb =
+        let ca = note_of_child a (c ∷ d ∷ []) m 0 c ta refl in
+        let cb = note_of_child b (c ∷ d ∷ []) m 0 c tb refl in
+        let one = same_tree low c ca.0 cb.0 t same ca.1 cb.1 (first_starts a (c ∷ d ∷ []) m c ca.0 ta refl ca.1 ∙ sym (first_starts b (c ∷ d ∷ []) m c cb.0 tb refl cb.1)) in
+        let eq : ca.0 ≡ cb.0 = same_Some ca.0 cb.0 (sym ca.1 ∙ one.notes c (omega arith) ∙ cb.1) in
+        let da = note_of_child a (c ∷ d ∷ []) m 1 d ta refl in
+        let db = note_of_child b (c ∷ d ∷ []) m 1 d tb refl in
+        let fa = note_of_child a (c ∷ e ∷ []) m 1 e ea refl in
+        let fb = note_of_child b (c ∷ e ∷ []) m 1 e eb refl in
+        same_two (c + 1) high d e da.0 db.0 fa.0 fb.0 f one da.1 db.1 fa.1 fb.1
+        (next_starts a (c ∷ d ∷ []) m 0 c d ca.0 da.0 ta refl refl ca.1 da.1 ∙ ap after eq ∙ sym (next_starts b (c ∷ d ∷ []) m 0 c d cb.0 db.0 tb refl refl cb.1 db.1))
+        (next_starts a (c ∷ e ∷ []) m 0 c e ca.0 fa.0 ea refl refl ca.1 fa.1 ∙ ap after eq ∙ sym (next_starts b (c ∷ e ∷ []) m 0 c e cb.0 fb.0 eb refl refl cb.1 fb.1))
+    same_branches low high (c ∷ d ∷ e ∷ g ∷ cs) m f count same ta ea tb eb = absurd (omega (arith, count))
+
+    same_two : (low high d e : ℕ) (da db fa fb : Note) → Forest core low high (d ∷ e ∷ []) → Agree core a b low → slice_get a.notes d ≡ Some da → slice_get b.notes d ≡ Some db → slice_get a.notes e ≡ Some fa → slice_get b.notes e ≡ Some fb → before da ≡ before db → before fa ≡ before fb → Agree core a b high
+    same_two low high d e da db fa fb (more t f) same gda gdb gfa gfb second third = same_last (d + 1) high e fa fb f (same_tree low d da db t same gda gdb second) gfa gfb third
+
+    same_last : (low high e : ℕ) (fa fb : Note) → Forest core low high (e ∷ []) → Agree core a b low → slice_get a.notes e ≡ Some fa → slice_get b.notes e ≡ Some fb → before fa ≡ before fb → Agree core a b high
+    same_last low high e fa fb (more t f) same gfa gfb third = subst (Agree core a b) (row_end core (e + 1) high f) (same_tree low e fa fb t same gfa gfb third)
 
     same_forest : (low high : ℕ) (cs : List ℕ) (m ma mb : Masks) → Forest core low high cs → Agree core a b low → through a cs m ≡ Some ma → through b cs m ≡ Some mb → Agree core a b high
     same_forest low high [] m ma mb empty same ea eb = same
@@ -91,11 +132,10 @@ module _ (core : CoreData) (a b : Ann) (formed : Formed core) (kinds : FirstKind
       let t = get_within b.notes body (omega (arith, l, nb)) in
       let ma = meets_at core a body fit.root s.0 va fit.is_root s.1 in
       let mb = meets_at core b body fit.root t.0 vb fit.is_root t.1 in
-      let p = kinds body fit.root fit.is_root in
       let own : fit.root.method ≡ m = body_method core m x body is fit in
       let at : slice_get core.methods fit.root.method ≡ Some x = ap (slice_get core.methods) own ∙ g in
-      let ea = body_says_at core a fit.root s.0 fit.is_body p ma in
-      let eb = body_says_at core b fit.root t.0 fit.is_body p mb in
+      let ea = body_says_at core a fit.root s.0 fit.is_body ma in
+      let eb = body_says_at core b fit.root t.0 fit.is_body mb in
       same_tree x.first_node body s.0 t.0 (body_tree core m x body fit) same s.1 t.1 (body_starts core a fit.root (before s.0) (said_by s.0) x ea at ∙ sym (body_starts core b fit.root (before t.0) (said_by t.0) x eb at))
 
   method_alike : (m : ℕ) (x : Method) (o : Option ℕ) → slice_get core.methods m ≡ Some x → x.body ≡ o → Agree core a b x.first_node → Agree core a b (x.first_node + (node_end x.first_node o - x.first_node))
@@ -129,7 +169,7 @@ module _ (core : CoreData) (a b : Ann) (formed : Formed core) (kinds : FirstKind
       let high : k < f.first_slot + f.slots = subst (λ (z : ℕ × ℕ). k < z.0 + z.1) (sym q.2) r.4 in
       let at : f.first_slot + (k - f.first_slot) ≡ k = omega (arith, low) in
       let y = get_within core.slots k l in
-      let known = known_alike core a b formed kinds va.written vb.written (length core.nodes) r.0 (k - f.first_slot) f y.0 all_alike q.1 (ap (slice_get core.slots) at ∙ y.1) (omega (arith, low, high)) (λ fit. get_below core.nodes fit.define fit.definition fit.is_definition) in
+      let known = known_alike core a b formed va.written vb.written (length core.nodes) r.0 (k - f.first_slot) f y.0 all_alike q.1 (ap (slice_get core.slots) at ∙ y.1) (omega (arith, low, high)) (λ fit. get_below core.nodes fit.define fit.definition fit.is_definition) in
       subst (λ z. slice_get a.slots z ≡ slice_get b.slots z) at known
 
   annotations_equal : a ≡ b
@@ -139,4 +179,4 @@ module _ (core : CoreData) (a b : Ann) (formed : Formed core) (kinds : FirstKind
       ap (λ z. record { slots = z; notes = a.notes }) slots ∙ ap (λ z. record { slots = b.slots; notes = z }) notes
 
 pub one_valid : OneValid
-one_valid core a b f k va vb = annotations_equal core a b f k va vb
+one_valid core a b f va vb = annotations_equal core a b f va vb

@@ -1,4 +1,4 @@
--- Two annotations of a core of the first kinds, node by node: where they agree before a node, and start it from the same
+-- Two annotations of a core, node by node: where they agree before a node, and start it from the same
 -- masks, they agree at it.
 use Rattle.std.specs.Prelude.{◌≡◌, ℕ, zero, suc, ◌+◌, ◌-◌, ◌<◌, ◌≤◌, true, ◌&&◌, nat_eq, List, [], ◌∷◌, map, length, Option, Some, None, slice_get, refl}
 use Rattle.std.proofs.Common.{inl, inr, ap, sym, subst, ◌∙◌, arith}
@@ -15,7 +15,7 @@ use Rattle.pc_core.specs.declared.nodes.NodeKind.TheVariants as node
 use Rattle.pc_core.specs.CoreData.{CoreData}
 use Rattle.pc_core.specs.Words.{Each, Follow}
 use Rattle.pc_core.specs.Lookup.{node_end}
-use Rattle.pc_core.specs.Methods.{LocalFits, BodyFits, Uses}
+use Rattle.pc_core.specs.Methods.{LocalFits, BodyFits, Uses, this_slot}
 use Rattle.pc_core.specs.Nodes.{NamesSlot, NamesFit}
 use Rattle.pc_core.specs.Formed.{Formed}
 use Rattle.pc_core.specs.Runs.{get_map, map_get, range_get, run_within, run_around}
@@ -32,10 +32,11 @@ use Rattle.pc_rules.specs.Control.{start_set, starts_method, result_ok, body_say
 use Rattle.pc_rules.specs.Rules.{says, said_by, Meets}
 use Rattle.pc_rules.specs.Valid.{KeepsWritten}
 use Rattle.pc_rules.specs.Trees.{Tree, Forest, tree, empty, more, body_tree}
-use Rattle.pc_rules.specs.First.{is_first, FirstKinds}
-use Rattle.pc_rules.specs.FirstRules.{kept, false_true, rule_of, first_rule}
+use Rattle.pc_rules.specs.Threads.{kept, false_true}
+use Rattle.pc_rules.specs.OneRule.{is_rule_at, define_rule, body_rule}
+use Rattle.pc_rules.specs.Homes.{home, home_method}
 use Rattle.pc_rules.specs.Alike.{LooksAlike, slot_same, says_same, type_same, at_one}
-use Rattle.pc_rules.specs.Slotted.{slot_known}
+use Rattle.pc_rules.specs.Slotted.{slot_known, this_known}
 
 -- ---- equalities
 
@@ -47,9 +48,6 @@ pair x y = (x, y)
 
 pub same_pair : {A B : Type 0} → (a b : A) (c d : B) → a ≡ b → c ≡ d → ◌≡◌ {A = A × B} (a, c) (b, d)
 same_pair {A} {B} a b c d e f = ap (λ (x : A). pair x c) e ∙ ap (λ (y : B). pair b y) f
-
-pub starts_so : (t : Note) (m : Masks) → starts t m ≡ true → before t ≡ m
-starts_so t m e = let p = and_parts _ _ e in same_pair t.live_before m.0 t.set_before m.1 (same_mask t.live_before m.0 p.0) (same_mask t.set_before m.1 p.1)
 
 pub caps_equal : (a b : Cap) → same_cap a b ≡ true → a ≡ b
 caps_equal cap.Iso cap.Iso e = refl
@@ -124,17 +122,15 @@ body_method core m x body is fit =
     let end : body < node_end x.first_node x.body = omega (arith, at) in
     fit.own (body - x.first_node) fit.root (range_get core.nodes x.first_node (node_end x.first_node x.body) body fit.root from end fit.is_root)
 
-pub body_says_at : (core : CoreData) (ann : Ann) (x : Node) (t : Note) → x.kind ≡ node.Body → is_first x.kind ≡ true → Meets core ann x t → body_says core ann x (before t) ≡ Some (said_by t)
-body_says_at core ann x t e p m =
-    let r = first_rule core ann x (before t) t.rule x.kind (said_by t) p m in
-    subst (λ k. says core ann x (before t) (rule_of k) k ≡ Some (said_by t)) e (subst (λ q. says core ann x (before t) q x.kind ≡ Some (said_by t)) r m)
+pub body_says_at : (core : CoreData) (ann : Ann) (x : Node) (t : Note) → x.kind ≡ node.Body → Meets core ann x t → body_says core ann x (before t) ≡ Some (said_by t)
+body_says_at core ann x t e m = body_rule core ann x (before t) t.rule (said_by t) (subst (λ k. says core ann x (before t) t.rule k ≡ Some (said_by t)) e m)
 
 -- They agree on the notes below n, and on the slots that nodes below n define.
 pub record Agree (core : CoreData) (a b : Ann) (n : ℕ) : Type 0 where
   pub notes : (k : ℕ) → k < n → slice_get a.notes k ≡ slice_get b.notes k
   pub slots : (d : ℕ) (y : Node) (s : ℕ) (f : Method) → d < n → slice_get core.nodes d ≡ Some y → y.kind ≡ node.Define s → slice_get core.methods y.method ≡ Some f → slice_get a.slots (f.first_slot + s) ≡ slice_get b.slots (f.first_slot + s)
 
-module _ (core : CoreData) (a b : Ann) (formed : Formed core) (kinds : FirstKinds core) (wa : KeepsWritten core a) (wb : KeepsWritten core b) where
+module _ (core : CoreData) (a b : Ann) (formed : Formed core) (wa : KeepsWritten core a) (wb : KeepsWritten core b) where
   pub slots_within : (m : ℕ) (f : Method) → slice_get core.methods m ≡ Some f → f.first_slot + f.slots ≤ length core.slots
   slots_within m f g = (run_within 0 _ (length core.slots) m (f.first_slot, f.slots) formed.slots_follow (get_map (λ y. (y.first_slot, y.slots)) core.methods m f g)).1
 
@@ -162,31 +158,43 @@ module _ (core : CoreData) (a b : Ann) (formed : Formed core) (kinds : FirstKind
       let y : p.slot.0 ≡ q.slot.0 = same_Some p.slot.0 q.slot.0 (sym pa.0 ∙ pb.0) in
       pa.1 ∙ ap Some (p.ty ∙ ap (λ (z : Slot). defined_type z.written p.value) y ∙ ap (defined_type q.slot.0.written) v ∙ sym q.ty) ∙ sym pb.1
 
-  pub looks_alike : (n : ℕ) (x : Node) (k : NodeKind) (m : Masks) (p q : Said) → Agree core a b n → slice_get core.nodes n ≡ Some x → Each (λ i c. c < n) x.children → x.kind ≡ k → is_first k ≡ true → says core a x m (rule_of k) k ≡ Some p → says core b x m (rule_of k) k ≡ Some q → LooksAlike core a b x.method k
-  looks_alike n x (node.Local s) m p q same g h e r u v = λ i l. subst (λ j. slot_of core a x.method j ≡ slot_of core b x.method j) (same_Some s i l) (slot_same a b core x.method s (used_alike n x s same g (subst (NamesFit core x.method) e (formed.nodes n x g).names) (subst (Uses s) (sym e) refl)))
-  looks_alike n x (node.Consume s) m p q same g h e r u v = λ i l. subst (λ j. slot_of core a x.method j ≡ slot_of core b x.method j) (same_Some s i l) (slot_same a b core x.method s (used_alike n x s same g (subst (NamesFit core x.method) e (formed.nodes n x g).names) (subst (Uses s) (sym e) refl)))
-  looks_alike n x (node.Define s) m p q same g h e r u v = λ i l. subst (λ j. slot_of core a x.method j ≡ slot_of core b x.method j) (same_Some s i l) (slot_same a b core x.method s (define_alike n x s same h (define_inv core a x s m p u) (define_inv core b x s m q v)))
-  looks_alike n x node.This m p q same g h e r u v = absurd (false_true r)
-  looks_alike n x (node.Assign s) m p q same g h e r u v = absurd (false_true r)
-  looks_alike n x k m p q same g h e r u v = λ i l. absurd (none-some i l)
+  this_alike : (n : ℕ) (x : Node) → slice_get core.nodes n ≡ Some x → (f : Method) → slice_get core.methods x.method ≡ Some f → slice_get a.slots (f.first_slot + 0) ≡ slice_get b.slots (f.first_slot + 0)
+  this_alike n x g f i =
+      let h = home core n formed (get_below core.nodes n x g) in
+      let is : f ≡ h.method = same_Some f h.method (sym i ∙ ap (slice_get core.methods) (home_method core n x h g) ∙ h.is_method) in
+      let y = this_known core x.method f h.body formed i (ap (λ (k : Method). k.body) is ∙ h.is_body) in
+      wa (f.first_slot + 0) (this_slot x.method f) y (f.entity, f.receiver) refl ∙ sym (wb (f.first_slot + 0) (this_slot x.method f) y (f.entity, f.receiver) refl)
+
+  looks_at : (x : Node) (s i : ℕ) → Some s ≡ Some i → ((f : Method) → slice_get core.methods x.method ≡ Some f → slice_get a.slots (f.first_slot + s) ≡ slice_get b.slots (f.first_slot + s)) → slot_of core a x.method i ≡ slot_of core b x.method i
+  looks_at x s i l h = subst (λ j. slot_of core a x.method j ≡ slot_of core b x.method j) (same_Some s i l) (slot_same a b core x.method s h)
+
+  use_alike : (n : ℕ) (x : Node) (k : NodeKind) (s : ℕ) → Agree core a b n → slice_get core.nodes n ≡ Some x → x.kind ≡ k → Uses s k → NamesSlot core x.method s → (f : Method) → slice_get core.methods x.method ≡ Some f → slice_get a.slots (f.first_slot + s) ≡ slice_get b.slots (f.first_slot + s)
+  use_alike n x k s same g e u names = used_alike n x s same g names (subst (Uses s) (sym e) u)
+
+  -- What node n looks at is the same in both.
+  pub looks_alike : (n : ℕ) (x : Node) (k : NodeKind) (m : Masks) (r o : Rule) (p q : Said) → Agree core a b n → slice_get core.nodes n ≡ Some x → Each (λ i c. c < n) x.children → x.kind ≡ k → says core a x m r k ≡ Some p → says core b x m o k ≡ Some q → LooksAlike core a b x.method k
+  looks_alike n x node.This m r o p q same g h e u v i l = looks_at x 0 i l (this_alike n x g)
+  looks_alike n x (node.Local s) m r o p q same g h e u v i l = looks_at x s i l (use_alike n x (node.Local s) s same g e refl (subst (NamesFit core x.method) e (formed.nodes n x g).names))
+  looks_alike n x (node.Consume s) m r o p q same g h e u v i l = looks_at x s i l (use_alike n x (node.Consume s) s same g e refl (subst (NamesFit core x.method) e (formed.nodes n x g).names))
+  looks_alike n x (node.Assign s) m r o p q same g h e u v i l = looks_at x s i l (use_alike n x (node.Assign s) s same g e refl (subst (NamesFit core x.method) e (formed.nodes n x g).names))
+  looks_alike n x (node.Define s) m r o p q same g h e u v i l = looks_at x s i l (define_alike n x s same h (define_inv core a x s m p (define_rule core a x m r s p u)) (define_inv core b x s m q (define_rule core b x m o s q v)))
+  looks_alike n x k m r o p q same g h e u v i l = absurd (none-some i l)
 
   -- The note and the slot of node n agree too.
-  pub defined_at : (n : ℕ) (x : Node) (k : NodeKind) (m : Masks) (p q : Said) (s : ℕ) → Agree core a b n → Each (λ i c. c < n) x.children → k ≡ node.Define s → says core a x m (rule_of k) k ≡ Some p → says core b x m (rule_of k) k ≡ Some q → (f : Method) → slice_get core.methods x.method ≡ Some f → slice_get a.slots (f.first_slot + s) ≡ slice_get b.slots (f.first_slot + s)
-  defined_at n x k m p q s same h e u v =
+  pub defined_at : (n : ℕ) (x : Node) (k : NodeKind) (m : Masks) (r o : Rule) (p q : Said) (s : ℕ) → Agree core a b n → Each (λ i c. c < n) x.children → k ≡ node.Define s → says core a x m r k ≡ Some p → says core b x m o k ≡ Some q → (f : Method) → slice_get core.methods x.method ≡ Some f → slice_get a.slots (f.first_slot + s) ≡ slice_get b.slots (f.first_slot + s)
+  defined_at n x k m r o p q s same h e u v =
       define_alike n x s same h
-      (define_inv core a x s m p (subst (λ j. says core a x m (rule_of j) j ≡ Some p) e u))
-      (define_inv core b x s m q (subst (λ j. says core b x m (rule_of j) j ≡ Some q) e v))
+      (define_inv core a x s m p (define_rule core a x m r s p (subst (λ j. says core a x m r j ≡ Some p) e u)))
+      (define_inv core b x s m q (define_rule core b x m o s q (subst (λ j. says core b x m o j ≡ Some q) e v)))
 
   pub node_step : (n : ℕ) (x : Node) (s t : Note) → slice_get core.nodes n ≡ Some x → Each (λ i c. c < n) x.children → Agree core a b n → slice_get a.notes n ≡ Some s → slice_get b.notes n ≡ Some t → Meets core a x s → Meets core b x t → before s ≡ before t → Agree core a b (n + 1)
   node_step n x s t g h same ga gb ma mb m =
-      let p = kinds n x g in
-      let ra = first_rule core a x (before s) s.rule x.kind (said_by s) p ma in
-      let rb = first_rule core b x (before t) t.rule x.kind (said_by t) p mb in
-      let ea : says core a x (before s) (rule_of x.kind) x.kind ≡ Some (said_by s) = subst (λ r. says core a x (before s) r x.kind ≡ Some (said_by s)) ra ma in
-      let eb : says core b x (before s) (rule_of x.kind) x.kind ≡ Some (said_by t) = subst (λ k. says core b x k (rule_of x.kind) x.kind ≡ Some (said_by t)) (sym m) (subst (λ r. says core b x (before t) r x.kind ≡ Some (said_by t)) rb mb) in
-      let looks = looks_alike n x x.kind (before s) (said_by s) (said_by t) same g h refl p ea eb in
-      let said = same_Some (said_by s) (said_by t) (sym ea ∙ says_same core a b x (λ i c e. same.notes c (h i c e)) (rule_of x.kind) x.kind (before s) looks ∙ eb) in
-      let eq = notes_equal s t (ra ∙ sym rb) m said in
+      let eb : says core b x (before s) t.rule x.kind ≡ Some (said_by t) = subst (λ k. says core b x k t.rule x.kind ≡ Some (said_by t)) (sym m) mb in
+      let looks = looks_alike n x x.kind (before s) s.rule t.rule (said_by s) (said_by t) same g h refl ma eb in
+      let ec : says core b x (before s) s.rule x.kind ≡ Some (said_by s) = sym (says_same core a b x (λ i c e. same.notes c (h i c e)) s.rule x.kind (before s) looks) ∙ ma in
+      let rule = is_rule_at core b x (before s) s.rule x.kind (said_by s) formed ec ∙ sym (is_rule_at core b x (before s) t.rule x.kind (said_by t) formed eb) in
+      let said = same_Some (said_by s) (said_by t) (sym ec ∙ ap (λ r. says core b x (before s) r x.kind) rule ∙ eb) in
+      let eq = notes_equal s t rule m said in
       record {
         notes = λ k l. elim (cases_lt k n) [
           | inl below ↦ same.notes k below
@@ -196,6 +204,6 @@ module _ (core : CoreData) (a b : Ann) (formed : Formed core) (kinds : FirstKind
           | inl below ↦ same.slots d y i f below gd kd md
           | inr at ↦ let e : d ≡ n = omega (arith, l, at) in
               let is : y ≡ x = same_Some y x (sym gd ∙ ap (slice_get core.nodes) e ∙ g) in
-              defined_at n x x.kind (before s) (said_by s) (said_by t) i same h (sym (ap (λ (z : Node). z.kind) is) ∙ kd) ea eb f (sym (ap (λ (z : Node). slice_get core.methods z.method) is) ∙ md)
+              defined_at n x x.kind (before s) s.rule t.rule (said_by s) (said_by t) i same h (sym (ap (λ (z : Node). z.kind) is) ∙ kd) ma eb f (sym (ap (λ (z : Node). slice_get core.methods z.method) is) ∙ md)
         ];
       }

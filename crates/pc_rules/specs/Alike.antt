@@ -148,7 +148,7 @@ module _ (a b : Ann) where
       bind_same (slice_get core.slots (f.first_slot + s)) (slice_get core.slots (f.first_slot + s)) _ _ refl (λ y j.
       bind_same (slice_get a.slots (f.first_slot + s)) (slice_get b.slots (f.first_slot + s)) _ _ (k f i) (λ ty g. refl)))
 
-abbrev own_seen : ℕ × FieldInfo → Form → Masks → Option Said
+abbrev pub own_seen : ℕ × FieldInfo → Form → Masks → Option Said
 own_seen f s n = cond (has n.1 f.0) (Some (says_of (Some (f.1.entity, s)) n)) None
 
 -- Two annotations with the same notes of the children of node x.

@@ -12,5 +12,7 @@ pub mod Trees
 pub mod First
 pub mod Alike
 pub mod Slotted
-pub mod FirstRules
+pub mod Threads
+pub mod OneRule
+pub mod Homes
 pub mod Agreeing
