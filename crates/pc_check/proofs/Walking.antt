@@ -35,7 +35,7 @@ use Rattle.pc_rules.specs.Valid.{Valid, KeepsWritten, SetsFields, Reaches, Meets
 use Rattle.pc_rules.specs.Valid.Reaches.{body, first_child, else_branch, next_child}
 use Rattle.pc_rules.specs.Alike.{looked_at, LooksAlike, SameNotes, slot_same, says_same}
 use Rattle.pc_rules.specs.Trees.{tree_le}
-use Rattle.pc_rules.specs.FirstRules.{false_true}
+use Rattle.pc_rules.specs.Threads.{false_true}
 use Rattle.pc_rules.specs.Agreeing.{body_method}
 use Rattle.pc_check.specs.declared.sources.Source.{Source}
 use Rattle.pc_check.specs.declared.sources.Source.TheVariants as source
@@ -43,7 +43,8 @@ use Rattle.pc_check.specs.Sources.{Comes, Placed}
 use Rattle.pc_check.specs.Inference.{masks_in, masks_behind, written_type, first_types, unwritten, slot_type, inferred_slot, with_slot, with_inferred, masks_from, rules_for, note_of, or_else, first_note, is_body, lacks_field, leaves_unset}
 use Rattle.pc_check.specs.Faults.{StopsAt, LeavesUnset}
 use Rattle.pc_check.specs.Walked.{Walked}
-use Rattle.pc_check.proofs.Homes.{Home, home, home_method, home_body, children_before, earlier_body}
+use Rattle.pc_rules.specs.Homes.{Home, home, home_method, home_body, children_before}
+use Rattle.pc_check.proofs.Parents.{earlier_body}
 use Rattle.pc_check.proofs.Definitions.{inferred_inv, other_place}
 
 -- ---- before the first node
