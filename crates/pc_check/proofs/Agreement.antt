@@ -1,5 +1,5 @@
 -- A valid annotation agrees with one that goes up to a node.
-use Rattle.std.specs.Prelude.{◌≡◌, ◌⊎◌, ℕ, zero, suc, ◌+◌, ◌<◌, ◌≤◌, true, false, List, [], ◌∷◌, length, Option, Some, None, slice_get, slice_set, refl}
+use Rattle.std.specs.Prelude.{◌≡◌, ◌⊎◌, ℕ, zero, suc, ◌+◌, ◌<◌, ◌≤◌, false, List, [], ◌∷◌, length, Option, Some, None, slice_get, slice_set, refl}
 use Rattle.std.specs.Prelude.{Result, IfOk, IfErr}
 use Rattle.std.proofs.Common.{Ok, Err, inl, inr, ap, sym, subst, ◌∙◌, arith}
 use Rattle.std.proofs.lemmas.List.{length-set}
@@ -19,7 +19,7 @@ use Rattle.pc_ann.specs.declared.annotation.Note.{Note}
 use Rattle.pc_ann.specs.declared.annotation.Ann.{Ann}
 use Rattle.pc_rules.specs.Parts.{Masks, before, after}
 use Rattle.pc_rules.specs.Rules.{says, said_by, Meets}
-use Rattle.pc_rules.specs.Valid.{Valid, Derivable, KeepsWritten, Reaches, MeetsReached, Infers, DifferAt, NoRule, Unset, is_else}
+use Rattle.pc_rules.specs.Valid.{Valid, KeepsWritten, Reaches, MeetsReached, DifferAt, is_else}
 use Rattle.pc_rules.specs.Valid.Reaches.{body, first_child, else_branch, next_child}
 use Rattle.pc_rules.specs.Trees.{Tree, Forest, tree, empty, more, tree_le}
 use Rattle.pc_rules.specs.Homes.{own_tree, children_of, children_before}
@@ -33,7 +33,6 @@ use Rattle.pc_check.specs.declared.fault.CheckFault.TheVariants as fault_of
 use Rattle.pc_check.specs.Faults.{Refuses, Answers}
 use Rattle.pc_check.specs.Laws.{NoneWithoutRule, NoneWithUnset, NoneWithFault}
 use Rattle.pc_check.proofs.Filling.{low_at, tree_at, low_next, low_behind}
-use Rattle.pc_check.proofs.Definitions.{looked_kind}
 
 -- ---- a tree begins at one place
 

@@ -1,10 +1,9 @@
 -- The parent of a node, and the order of methods.
-use Rattle.std.specs.Prelude.{◌≡◌, ◌⊎◌, ℕ, zero, suc, ◌+◌, ◌-◌, ◌<◌, ◌≤◌, List, [], ◌∷◌, map, length, Some, slice_get, refl}
-use Rattle.std.proofs.Common.{inl, inr, ap, sym, subst, ◌∙◌, arith}
+use Rattle.std.specs.Prelude.{◌≡◌, ◌⊎◌, ℕ, zero, suc, ◌+◌, ◌-◌, ◌<◌, ◌≤◌, List, [], ◌∷◌, map, length, Some, slice_get}
+use Rattle.std.proofs.Common.{inl, inr, ap, subst, ◌∙◌, arith}
 use Rattle.std.proofs.lemmas.Option.{same_Some, none-some}
 use Rattle.std.proofs.lemmas.Bool.{cases_lt}
 use Rattle.pc_core.specs.declared.declarations.Method.{Method}
-use Rattle.pc_core.specs.declared.nodes.Node.{Node}
 use Rattle.pc_core.specs.CoreData.{CoreData}
 use Rattle.pc_core.specs.Words.{Has, Follow}
 use Rattle.pc_core.specs.Lookup.{node_end}
@@ -12,7 +11,7 @@ use Rattle.pc_core.specs.Runs.{get_map, run_within}
 use Rattle.pc_core.specs.Formed.{Formed}
 use Rattle.pc_rules.specs.Trees.{Tree, Forest, tree, empty, more, body_tree}
 use Rattle.pc_rules.specs.Homes.{home}
-use Rattle.pc_check.specs.Sources.{IsBody, IsChild, Known}
+use Rattle.pc_check.specs.Sources.{IsChild, Known}
 
 -- ---- parents
 

@@ -1,5 +1,5 @@
 -- What shows that there is no annotation.
-use Rattle.std.specs.Prelude.{◌≡◌, ◌⊎◌, ℕ, zero, suc, ◌+◌, ◌<◌, ◌≤◌, Bool, true, false, not, ◌&&◌, List, [], ◌∷◌, ◌++◌, length, Option, Some, None, slice_get, slice_set, refl}
+use Rattle.std.specs.Prelude.{◌≡◌, ◌⊎◌, ℕ, zero, suc, ◌+◌, ◌<◌, Bool, true, false, not, List, [], ◌∷◌, length, Option, Some, None, slice_get, slice_set, refl}
 use Rattle.std.proofs.Common.{inl, inr, ap, sym, subst, ◌∙◌, arith}
 use Rattle.std.proofs.lemmas.List.{length-append}
 use Rattle.std.proofs.lemmas.Option.{same_Some, none-some}
@@ -23,10 +23,10 @@ use Rattle.pc_ann.specs.declared.annotation.Rule.{Rule}
 use Rattle.pc_ann.specs.declared.annotation.Rule.TheVariants as rule
 use Rattle.pc_sub.specs.Declarations.{DeclOk}
 use Rattle.pc_rules.specs.declared.said.Said.{Said}
-use Rattle.pc_rules.specs.Parts.{Ty, Masks, constructs, full, before, type_of}
-use Rattle.pc_rules.specs.Values.{defined_type, define_says}
+use Rattle.pc_rules.specs.Parts.{Masks, constructs, full, before}
+use Rattle.pc_rules.specs.Values.{defined_type}
 use Rattle.pc_rules.specs.Rules.{says, Meets}
-use Rattle.pc_rules.specs.Valid.{Reaches, Infers, DifferAt, NoRule, Unset}
+use Rattle.pc_rules.specs.Valid.{Reaches, Infers, DifferAt}
 use Rattle.pc_rules.specs.Alike.{looked_at, LooksAlike, slot_same, says_same}
 use Rattle.pc_rules.specs.Threads.{false_true}
 use Rattle.pc_rules.specs.OneRule.{define_rule}
@@ -38,7 +38,7 @@ use Rattle.pc_check.specs.Faults.{StopsAt, LeavesUnset}
 use Rattle.pc_check.specs.Walked.{Walked}
 use Rattle.pc_rules.specs.Homes.{home, home_method, home_body}
 use Rattle.pc_check.proofs.Parents.{earlier_body}
-use Rattle.pc_check.proofs.Definitions.{slot_follows, looked_kind, defines_below}
+use Rattle.pc_check.proofs.Definitions.{slot_follows, looked_kind}
 use Rattle.pc_check.proofs.Walking.{walked_infer, reached, reaches_infer, noted, note_here, meets_noted, sets_noted, with_notes}
 
 -- ---- no rule
