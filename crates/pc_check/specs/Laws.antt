@@ -1,0 +1,32 @@
+-- What the faults show.
+use Rattle.std.specs.Prelude.{◌≡◌, ℕ, Some}
+use Rattle.pc_core.specs.CoreData.{CoreData}
+use Rattle.pc_core.specs.Formed.{Formed}
+use Rattle.pc_ann.specs.declared.annotation.Ann.{Ann}
+use Rattle.pc_sub.specs.declared.faults.DeclFault.{DeclFault}
+use Rattle.pc_sub.specs.Declarations.{first_fault}
+use Rattle.pc_rules.specs.Valid.{NoRule, Unset, Derivable}
+
+-- A core with a node of which no rule says anything has no valid annotation.
+abbrev pub NoneWithoutRule : Type 0
+NoneWithoutRule = (core : CoreData) (ann : Ann) (n : ℕ) → Formed core → NoRule core ann n → Derivable core → ⊥
+
+-- Nor has one with a constructor that leaves a field unset.
+abbrev pub NoneWithUnset : Type 0
+NoneWithUnset = (core : CoreData) (ann : Ann) (m : ℕ) → Formed core → Unset core ann m → Derivable core → ⊥
+
+-- Nor has one with a declaration that fails.
+abbrev pub NoneWithFault : Type 0
+NoneWithFault = (core : CoreData) (fault : DeclFault) → Formed core → first_fault core ≡ Some fault → Derivable core → ⊥
+
+-- No rule says anything of at most one node.
+abbrev pub OneNode : Type 0
+OneNode = (core : CoreData) (a b : Ann) (n k : ℕ) → Formed core → NoRule core a n → NoRule core b k → n ≡ k
+
+-- At most one constructor is the first that leaves a field unset.
+abbrev pub OneConstructor : Type 0
+OneConstructor = (core : CoreData) (a b : Ann) (m k : ℕ) → Formed core → Unset core a m → Unset core b k → m ≡ k
+
+-- A core does not have both.
+abbrev pub OneKindOfFault : Type 0
+OneKindOfFault = (core : CoreData) (a b : Ann) (n m : ℕ) → Formed core → NoRule core a n → Unset core b m → ⊥

@@ -1,0 +1,5 @@
+pub mod Sources
+pub mod Inference
+pub mod Faults
+pub mod Walked
+pub mod Laws
