@@ -1,0 +1,10 @@
+//! The parser of sequences and expressions.
+#![tactic(auto)]
+
+mod fault;
+mod names;
+mod spans;
+mod stop;
+mod tokens;
+
+pub use fault::ParseFault;
