@@ -1,2 +1,4 @@
 pub mod Ends
 pub mod Lasts
+pub mod Loops
+pub mod Parts

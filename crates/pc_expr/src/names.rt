@@ -129,3 +129,21 @@ pub fn consume(alloc: Global, tokens: &[Token], at: usize) -> Result<(Expr, usiz
     let span = join(opener.span, name.span);
     Ok((Expr::Consume { name, span }, to))
 }
+
+/// A text literal.
+#[tactic(auto, using(pc_tree::proofs::Views::view_text), unfolding(crate::specs::Onto::text_at, pc_grammar::specs::Reading::peek, pc_grammar::specs::Reading::take_if))]
+pub fn text(alloc: Global, tokens: &[Token], at: usize) -> Result<(Expr, usize), Stop>
+    requires { At tokens.now at }
+    ensures gives { Gives expr_view tokens.now result (onto.text_at (drop at tokens.now)) }
+    ensures moves { IfOk result (λ r. Moves tokens.now at r.1) }
+{
+    let token = look(tokens, at);
+    match &token.kind {
+        TokenKind::Text(bytes) => {
+            let bytes = List::from_slice(alloc, bytes.as_slice())?;
+            let span = token.span;
+            Ok((Expr::Text { bytes, span }, at + 1))
+        }
+        _ => Err(Stop::Unexpected(at)),
+    }
+}
