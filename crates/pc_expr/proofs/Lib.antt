@@ -3,3 +3,4 @@ pub mod Lasts
 pub mod Loops
 pub mod Parts
 pub mod Public
+pub mod Exact

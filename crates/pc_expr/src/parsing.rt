@@ -1,10 +1,10 @@
 //! The public calls.
-ghost use Rattle.std.specs.Prelude.{◌≡◌, ◌<◌, ◌≤◌, ◌-◌, IfOk, IfErr, length};
+ghost use Rattle.std.specs.Prelude.{◌<◌, ◌≤◌, ◌-◌, IfOk, IfErr, length};
 ghost use Rattle.pc_tree.specs.View.{expr_view, seq_view};
 ghost use Rattle.pc_tree.specs.Measures as levels;
 ghost use Rattle.pc_grammar.specs.Spells.{Spells, SpellsInfix, SpellsSeq};
 ghost use Rattle.pc_expr.specs.Gives.{EndsWithEnd};
-ghost use Rattle.pc_expr.specs.Answers.{Places, ReadsTo, Refuses, Stands, Names};
+ghost use Rattle.pc_expr.specs.Answers.{Places, ReadsTo, Refuses, IsOnly, Stands, Names};
 
 use crate::fault::ParseFault;
 use crate::rules;
@@ -49,8 +49,12 @@ pub fn seq(
     requires ends { EndsWithEnd tokens.now }
     requires within { at < length tokens.now }
     requires level { level ≤ 200 }
+    // The tree that the tokens spell up to the place, where nothing goes on with it.
     ensures read { IfOk result (λ r. ReadsTo SpellsSeq levels.seq_depth (200 - level) tokens.now at (seq_view r.0) r.1) }
+    // Why there is none, or memory ran out.
     ensures refused { IfErr result (Refuses SpellsSeq levels.seq_depth (200 - level) tokens.now at) }
+    // Whatever answer holds of the tokens is the result, unless memory ran out.
+    ensures exact { IsOnly SpellsSeq levels.seq_depth (200 - level) seq_view tokens.now at result }
 {
     match rules::seq(alloc, tokens, at, LEVELS - level) {
         Ok(read) => Ok(read),
@@ -68,8 +72,12 @@ pub fn expr(
     requires ends { EndsWithEnd tokens.now }
     requires within { at < length tokens.now }
     requires level { level ≤ 200 }
+    // The tree that the tokens spell up to the place, where nothing goes on with it.
     ensures read { IfOk result (λ r. ReadsTo Spells levels.depth (200 - level) tokens.now at (expr_view r.0) r.1) }
+    // Why there is none, or memory ran out.
     ensures refused { IfErr result (Refuses Spells levels.depth (200 - level) tokens.now at) }
+    // Whatever answer holds of the tokens is the result, unless memory ran out.
+    ensures exact { IsOnly Spells levels.depth (200 - level) expr_view tokens.now at result }
 {
     match rules::expr(alloc, tokens, at, LEVELS - level) {
         Ok(read) => Ok(read),
@@ -87,8 +95,12 @@ pub fn infix(
     requires ends { EndsWithEnd tokens.now }
     requires within { at < length tokens.now }
     requires level { level ≤ 200 }
+    // The tree that the tokens spell up to the place, where nothing goes on with it.
     ensures read { IfOk result (λ r. ReadsTo SpellsInfix levels.depth (200 - level) tokens.now at (expr_view r.0) r.1) }
+    // Why there is none, or memory ran out.
     ensures refused { IfErr result (Refuses SpellsInfix levels.depth (200 - level) tokens.now at) }
+    // Whatever answer holds of the tokens is the result, unless memory ran out.
+    ensures exact { IsOnly SpellsInfix levels.depth (200 - level) expr_view tokens.now at result }
 {
     match rules::infix(alloc, tokens, at, LEVELS - level) {
         Ok(read) => Ok(read),
