@@ -19,3 +19,4 @@ pub mod ExplainedSeqs
 pub mod Right
 pub mod Steady
 pub mod SteadyRules
+pub mod OneAnswer

@@ -3,6 +3,13 @@
 use Rattle.std.specs.Prelude.{◌≡◌, ℕ, ◌≤◌, List, [], ◌∷◌, ◌++◌}
 use Rattle.pc_token.specs.declared.kinds.Token.{Token}
 
+-- what may be said of a list of tokens: a tree and the tokens behind it, or the tokens from one on that is unexpected, or
+-- that opens a level too many
+pub data Answer (A : Type 0) : Type 0 where
+  read : A → List Token → Answer A
+  refused : List Token → Answer A
+  deep : List Token → Answer A
+
 module _ {A : Type 0} (spells : A → List Token → Type 0) where
   -- some list with this front spells some tree, of any depth
   abbrev pub Begins : List Token → Type 0
@@ -36,3 +43,12 @@ module _ {A : Type 0} (spells : A → List Token → Type 0) where
     -- The tokens up to `rest` begin a tree within the levels; with the next one a tree begins, but none within the levels.
     abbrev pub IsTooDeep : List Token → List Token → Type 0
     IsTooDeep ts rest = (pre more : List Token) × (x : Token) × (rest ≡ x ∷ more) × (ts ≡ pre ++ rest) × BeginsWithin pre × Begins (pre ++ x ∷ []) × (BeginsWithin (pre ++ x ∷ []) → ⊥)
+
+    abbrev pub IsAnswer : List Token → Answer A → Type 0
+    IsAnswer ts (read b rest) = IsRead ts b rest
+    IsAnswer ts (refused rest) = IsRefused ts rest
+    IsAnswer ts (deep rest) = IsTooDeep ts rest
+
+    -- at most one answer
+    abbrev pub IsOneAnswer : Type 0
+    IsOneAnswer = (ts : List Token) (one other : Answer A) → IsAnswer ts one → IsAnswer ts other → one ≡ other

@@ -3,7 +3,7 @@ use Rattle.std.specs.Prelude.{◌≡◌, ℕ, List, ◌∷◌, Ok, Err}
 use Rattle.pc_tree.specs.Measures.{depth, seq_depth}
 use Rattle.pc_token.specs.declared.kinds.Token.{Token}
 use Rattle.pc_grammar.specs.Spells.{Spells, SpellsInfix, SpellsSeq}
-use Rattle.pc_grammar.specs.Begins.{IsOne, IsRead, IsRefused, IsTooDeep}
+use Rattle.pc_grammar.specs.Begins.{IsOne, IsOneAnswer, IsRead, IsRefused, IsTooDeep}
 use Rattle.pc_grammar.specs.Reading.{Parser, unexpected, too_deep, seq, expr, infix_}
 
 module _ {A : Type 0} (spells : A → List Token → Type 0) (depth_of : A → ℕ) (reading : ℕ → Parser A) where
@@ -51,3 +51,12 @@ InfixRefusesRight = RefusesRight SpellsInfix depth infix_
 
 abbrev pub InfixDeepRight : Type 0
 InfixDeepRight = DeepRight SpellsInfix depth infix_
+
+abbrev pub SeqOneAnswer : Type 0
+SeqOneAnswer = (n : ℕ) → IsOneAnswer SpellsSeq seq_depth n
+
+abbrev pub ExprOneAnswer : Type 0
+ExprOneAnswer = (n : ℕ) → IsOneAnswer Spells depth n
+
+abbrev pub InfixOneAnswer : Type 0
+InfixOneAnswer = (n : ℕ) → IsOneAnswer SpellsInfix depth n

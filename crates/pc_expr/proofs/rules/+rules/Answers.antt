@@ -1,0 +1,179 @@
+use Rattle.std.proofs.Common.{◌≡◌, false, ◌<◌, ◌++◌, length, drop, map, sym, ap, ◌∙◌, arith, length-drop}
+use Rattle.std.proofs.lemmas.List.{map_push}
+use Rattle.std.proofs.lemmas.Result.{err_from_is_err_and}
+use Rattle.pc_tree.specs.View.{expr_view, item_view, suffix_view, arm_view}
+use Rattle.pc_tree.specs.Tree as tree
+use Rattle.pc_token.specs.declared.signs.Sign.TheVariants as sign
+use Rattle.pc_token.specs.Asking.{is_sign}
+use Rattle.pc_grammar.specs.Reading as reading
+use Rattle.pc_expr.proofs.Parts.{gives_made, args_by_parts, not_closed}
+use Rattle.pc_expr.proofs.Loops.{loop_starts, loop_goes_on, loop_ends, stops_here}
+use Rattle.pc_expr.proofs.rules.+rules.Goals as goal
+
+pub more_args-more-init : goal.more_args-more-init
+more_args-more-init t c = record {
+  past = omega arith;
+  there = c.requires;
+  reads = loop_starts _ _ (map expr_view c.args.so_far) (drop c.args.at c.args.tokens.now);
+}
+
+pub more_args-returns-in_err-one-clause-gives : goal.more_args-returns-in_err-one-clause-gives
+more_args-returns-in_err-one-clause-gives t c =
+    let p = err_from_is_err_and c.from_residual.result c.from_residual.ensures.1 in
+    let l = c.more in
+    let some : 0 < length (drop l.to c.args.tokens.now) = simp length-drop (omega (arith, l.invariant.there.within)) in
+    rw (p.1, p.2) (stops_here _ _ _ _ c.args.tokens.now (drop l.to c.args.tokens.now) (drop c.in-Some.next c.args.tokens.now) c.in_err-one.field-0.0 l.invariant.reads (sym c.in-Some.ensures.value) c.in_err-one.ensures.gives some)
+
+pub more_args-more-preserved : goal.more_args-more-preserved
+more_args-more-preserved t c =
+    let l = c.more in
+    let x = c.in_ok-one.one in
+    let views = ap (map expr_view) c.in_ok-push.ensures.ok ∙ map_push expr_view l.args x in
+    let less : length (drop c.in_ok-one.after c.args.tokens.now) < length (drop l.to c.args.tokens.now) = simp length-drop (omega (arith, l.invariant.there.within, c.in-Some.ensures.there.0, c.in_ok-one.ensures.moves.past)) in
+    record {
+      past = omega (arith, l.invariant.past, c.in-Some.ensures.there.0, c.in_ok-one.ensures.moves.past);
+      there = c.in_ok-one.ensures.moves.there;
+      reads = rw views (loop_goes_on _ _ _ (map expr_view l.args) (drop l.to c.args.tokens.now) (drop c.in-Some.next c.args.tokens.now) (drop c.in_ok-one.after c.args.tokens.now) (expr_view x) l.invariant.reads (sym c.in-Some.ensures.value) c.in_ok-one.ensures.gives less);
+    }
+
+pub more_args-returns-clause-gives : goal.more_args-returns-clause-gives
+more_args-returns-clause-gives t c =
+    let l = c.more in
+    let some : 0 < length (drop l.to c.args.tokens.now) = simp length-drop (omega (arith, l.invariant.there.within)) in
+    loop_ends _ _ _ (map expr_view l.args) (drop l.to c.args.tokens.now) l.invariant.reads (sym c.in_default.ensures.value) some
+
+pub more_arms-more-init : goal.more_arms-more-init
+more_arms-more-init t c = record {
+  past = omega arith;
+  there = c.requires;
+  reads = loop_starts _ _ (map arm_view c.args.so_far) (drop c.args.at c.args.tokens.now);
+}
+
+pub more_arms-returns-in_err-one-clause-gives : goal.more_arms-returns-in_err-one-clause-gives
+more_arms-returns-in_err-one-clause-gives t c =
+    let p = err_from_is_err_and c.from_residual.result c.from_residual.ensures.1 in
+    let l = c.more in
+    let some : 0 < length (drop l.to c.args.tokens.now) = simp length-drop (omega (arith, l.invariant.there.within)) in
+    rw (p.1, p.2) (stops_here _ _ _ _ c.args.tokens.now (drop l.to c.args.tokens.now) (drop c.in-Some.next c.args.tokens.now) c.in_err-one.field-0.0 l.invariant.reads (sym c.in-Some.ensures.value) c.in_err-one.ensures.gives some)
+
+pub more_arms-more-preserved : goal.more_arms-more-preserved
+more_arms-more-preserved t c =
+    let l = c.more in
+    let x = c.in_ok-one.one in
+    let views = ap (map arm_view) c.in_ok-push.ensures.ok ∙ map_push arm_view l.arms x in
+    let less : length (drop c.in_ok-one.after c.args.tokens.now) < length (drop l.to c.args.tokens.now) = simp length-drop (omega (arith, l.invariant.there.within, c.in-Some.ensures.there.0, c.in_ok-one.ensures.moves.past)) in
+    record {
+      past = omega (arith, l.invariant.past, c.in-Some.ensures.there.0, c.in_ok-one.ensures.moves.past);
+      there = c.in_ok-one.ensures.moves.there;
+      reads = rw views (loop_goes_on _ _ _ (map arm_view l.arms) (drop l.to c.args.tokens.now) (drop c.in-Some.next c.args.tokens.now) (drop c.in_ok-one.after c.args.tokens.now) (arm_view x) l.invariant.reads (sym c.in-Some.ensures.value) c.in_ok-one.ensures.gives less);
+    }
+
+pub more_arms-returns-clause-gives : goal.more_arms-returns-clause-gives
+more_arms-returns-clause-gives t c =
+    let l = c.more in
+    let some : 0 < length (drop l.to c.args.tokens.now) = simp length-drop (omega (arith, l.invariant.there.within)) in
+    loop_ends _ _ _ (map arm_view l.arms) (drop l.to c.args.tokens.now) l.invariant.reads (sym c.in_default.ensures.value) some
+
+pub more_items-more-init : goal.more_items-more-init
+more_items-more-init t c = record {
+  past = omega arith;
+  there = c.requires;
+  reads = loop_starts _ _ (map item_view c.args.so_far) (drop c.args.at c.args.tokens.now);
+}
+
+pub more_items-returns-in_err-one-clause-gives : goal.more_items-returns-in_err-one-clause-gives
+more_items-returns-in_err-one-clause-gives t c =
+    let p = err_from_is_err_and c.from_residual.result c.from_residual.ensures.1 in
+    let l = c.more in
+    let some : 0 < length (drop l.to c.args.tokens.now) = simp length-drop (omega (arith, l.invariant.there.within)) in
+    rw (p.1, p.2) (stops_here _ _ _ _ c.args.tokens.now (drop l.to c.args.tokens.now) (drop c.in-Some.next c.args.tokens.now) c.in_err-one.field-0.0 l.invariant.reads (sym c.in-Some.ensures.value) c.in_err-one.ensures.gives some)
+
+pub more_items-more-preserved : goal.more_items-more-preserved
+more_items-more-preserved t c =
+    let l = c.more in
+    let x = c.in_ok-one.one in
+    let views = ap (map item_view) c.in_ok-push.ensures.ok ∙ map_push item_view l.items x in
+    let less : length (drop c.in_ok-one.after c.args.tokens.now) < length (drop l.to c.args.tokens.now) = simp length-drop (omega (arith, l.invariant.there.within, c.in-Some.ensures.there.0, c.in_ok-one.ensures.moves.past)) in
+    record {
+      past = omega (arith, l.invariant.past, c.in-Some.ensures.there.0, c.in_ok-one.ensures.moves.past);
+      there = c.in_ok-one.ensures.moves.there;
+      reads = rw views (loop_goes_on _ _ _ (map item_view l.items) (drop l.to c.args.tokens.now) (drop c.in-Some.next c.args.tokens.now) (drop c.in_ok-one.after c.args.tokens.now) (item_view x) l.invariant.reads (sym c.in-Some.ensures.value) c.in_ok-one.ensures.gives less);
+    }
+
+pub more_items-returns-clause-gives : goal.more_items-returns-clause-gives
+more_items-returns-clause-gives t c =
+    let l = c.more in
+    let some : 0 < length (drop l.to c.args.tokens.now) = simp length-drop (omega (arith, l.invariant.there.within)) in
+    loop_ends _ _ _ (map item_view l.items) (drop l.to c.args.tokens.now) l.invariant.reads (sym c.in_default.ensures.value) some
+
+pub more_suffixes-more-init : goal.more_suffixes-more-init
+more_suffixes-more-init t c = record {
+  past = omega arith;
+  there = c.requires;
+  reads = loop_starts _ _ (map suffix_view c.args.so_far) (drop c.args.at c.args.tokens.now);
+}
+
+pub more_suffixes-returns-in_err-one-clause-gives : goal.more_suffixes-returns-in_err-one-clause-gives
+more_suffixes-returns-in_err-one-clause-gives t c =
+    let p = err_from_is_err_and c.from_residual.result c.from_residual.ensures.1 in
+    let l = c.more in
+    let some : 0 < length (drop l.to c.args.tokens.now) = simp length-drop (omega (arith, l.invariant.there.within)) in
+    rw (p.1, p.2) (stops_here _ _ _ _ c.args.tokens.now (drop l.to c.args.tokens.now) (drop c.in-Some.next c.args.tokens.now) c.in_err-one.field-0.0 l.invariant.reads (sym c.in-Some.ensures.value) c.in_err-one.ensures.gives some)
+
+pub more_suffixes-more-preserved : goal.more_suffixes-more-preserved
+more_suffixes-more-preserved t c =
+    let l = c.more in
+    let x = c.in_ok-one.one in
+    let views = ap (map suffix_view) c.in_ok-push.ensures.ok ∙ map_push suffix_view l.suffixes x in
+    let less : length (drop c.in_ok-one.after c.args.tokens.now) < length (drop l.to c.args.tokens.now) = simp length-drop (omega (arith, l.invariant.there.within, c.in-Some.ensures.there.0, c.in_ok-one.ensures.moves.past)) in
+    record {
+      past = omega (arith, l.invariant.past, c.in-Some.ensures.there.0, c.in_ok-one.ensures.moves.past);
+      there = c.in_ok-one.ensures.moves.there;
+      reads = rw views (loop_goes_on _ _ _ (map suffix_view l.suffixes) (drop l.to c.args.tokens.now) (drop c.in-Some.next c.args.tokens.now) (drop c.in_ok-one.after c.args.tokens.now) (suffix_view x) l.invariant.reads (sym c.in-Some.ensures.value) c.in_ok-one.ensures.gives less);
+    }
+
+pub more_suffixes-returns-clause-gives : goal.more_suffixes-returns-clause-gives
+more_suffixes-returns-clause-gives t c =
+    let l = c.more in
+    let some : 0 < length (drop l.to c.args.tokens.now) = simp length-drop (omega (arith, l.invariant.there.within)) in
+    loop_ends _ _ _ (map suffix_view l.suffixes) (drop l.to c.args.tokens.now) l.invariant.reads (sym c.in_default.ensures.value) some
+
+pub more_terms-more-init : goal.more_terms-more-init
+more_terms-more-init t c = record {
+  past = omega arith;
+  there = c.requires;
+  reads = loop_starts _ _ (map expr_view c.args.so_far) (drop c.args.at c.args.tokens.now);
+}
+
+pub more_terms-returns-in_err-one-clause-gives : goal.more_terms-returns-in_err-one-clause-gives
+more_terms-returns-in_err-one-clause-gives t c =
+    let p = err_from_is_err_and c.from_residual.result c.from_residual.ensures.1 in
+    let l = c.more in
+    let some : 0 < length (drop l.to c.args.tokens.now) = simp length-drop (omega (arith, l.invariant.there.within)) in
+    rw (p.1, p.2) (stops_here _ _ _ _ c.args.tokens.now (drop l.to c.args.tokens.now) (drop c.in-Some.next c.args.tokens.now) c.in_err-one.field-0.0 l.invariant.reads (sym c.in-Some.ensures.value) c.in_err-one.ensures.gives some)
+
+pub more_terms-more-preserved : goal.more_terms-more-preserved
+more_terms-more-preserved t c =
+    let l = c.more in
+    let x = c.in_ok-one.one in
+    let views = ap (map expr_view) c.in_ok-push.ensures.ok ∙ map_push expr_view l.terms x in
+    let less : length (drop c.in_ok-one.after c.args.tokens.now) < length (drop l.to c.args.tokens.now) = simp length-drop (omega (arith, l.invariant.there.within, c.in-Some.ensures.there.0, c.in_ok-one.ensures.moves.past)) in
+    record {
+      past = omega (arith, l.invariant.past, c.in-Some.ensures.there.0, c.in_ok-one.ensures.moves.past);
+      there = c.in_ok-one.ensures.moves.there;
+      reads = rw views (loop_goes_on _ _ _ (map expr_view l.terms) (drop l.to c.args.tokens.now) (drop c.in-Some.next c.args.tokens.now) (drop c.in_ok-one.after c.args.tokens.now) (expr_view x) l.invariant.reads (sym c.in-Some.ensures.value) c.in_ok-one.ensures.gives less);
+    }
+
+pub more_terms-returns-clause-gives : goal.more_terms-returns-clause-gives
+more_terms-returns-clause-gives t c =
+    let l = c.more in
+    let some : 0 < length (drop l.to c.args.tokens.now) = simp length-drop (omega (arith, l.invariant.there.within)) in
+    loop_ends _ _ _ (map expr_view l.terms) (drop l.to c.args.tokens.now) l.invariant.reads (sym c.in_default.ensures.value) some
+
+pub arg_list-returns-clause-gives : goal.arg_list-returns-clause-gives
+arg_list-returns-clause-gives t c =
+    let made = gives_made (map expr_view) tree.exprs_of c.args.tokens.now c.some_args.result _ c.some_args.ensures.gives in
+    let other : is_sign sign.CloseParen c.look.result.now ≡ false = sym c.is_sign.ensures.value ∙ c.if-is_sign.false in
+    let read = args_by_parts (reading.expr_in c.args.left (reading.inner c.args.left)) (drop c.args.at c.args.tokens.now) in
+    let none = not_closed (reading.expr_in c.args.left (reading.inner c.args.left)) c.look.result.now _ _ c.look.ensures.here other in
+    rw (read, none) made

@@ -1,0 +1,54 @@
+//! What may stand before an `=`.
+ghost use Rattle.std.specs.Prelude.{◌≡◌, false};
+ghost use Rattle.pc_tree.specs.View.{expr_view, suffix_view, suffixes_view};
+ghost use Rattle.pc_grammar.specs.Asking as grammar;
+ghost use Rattle.pc_grammar.specs.Spells as spells;
+ghost use Rattle.pc_grammar.specs.Reading as reading;
+
+use pc_token::{Sign, Token, Word, is_sign};
+use pc_tree::{Expr, Suffix};
+
+/// The word before a local that is fixed, or is not.
+pub fn local_word(fixed: bool) -> Word
+    ensures { result ≡ grammar.local_word fixed }
+{
+    if fixed { Word::LetWord } else { Word::VarWord }
+}
+
+fn is_dot(suffix: &Suffix) -> bool
+    ensures { result ≡ spells.is_dot (suffix_view suffix.now) }
+{
+    match suffix {
+        Suffix::Dot(_) => true,
+        Suffix::Args { .. } => false,
+    }
+}
+
+/// Whether the last suffix is a name.
+fn ends_in_dot(suffixes: &[Suffix]) -> bool
+    ensures { result ≡ spells.ends_in_dot false (suffixes_view suffixes.now) }
+{
+    let mut dot = false;
+    for suffix in suffixes {
+        dot = is_dot(suffix);
+    }
+    dot
+}
+
+/// Whether it may stand before an `=`.
+fn is_place(e: &Expr) -> bool
+    ensures { result ≡ spells.is_place (expr_view e.now) }
+{
+    match e {
+        Expr::Name(_) => true,
+        Expr::Chain { suffixes, .. } => ends_in_dot(suffixes.as_slice()),
+        _ => false,
+    }
+}
+
+/// Whether the token is an `=` that follows a place.
+pub fn assigns(token: &Token, e: &Expr) -> bool
+    ensures { result ≡ reading.assigns token.now (expr_view e.now) }
+{
+    is_sign(token, Sign::Assign) && is_place(e)
+}

@@ -1,0 +1,109 @@
+//! The public calls.
+ghost use Rattle.std.specs.Prelude.{◌<◌, ◌≤◌, ◌-◌, IfOk, IfErr, length};
+ghost use Rattle.pc_tree.specs.View.{expr_view, seq_view};
+ghost use Rattle.pc_tree.specs.Measures as levels;
+ghost use Rattle.pc_grammar.specs.Spells.{Spells, SpellsInfix, SpellsSeq};
+ghost use Rattle.pc_expr.specs.Gives.{EndsWithEnd};
+ghost use Rattle.pc_expr.specs.Answers.{Places, ReadsTo, Refuses, IsOnly, Stands, Names};
+
+use crate::fault::ParseFault;
+use crate::rules;
+use crate::stop::Stop;
+use pc_token::Token;
+use pc_tree::{Expr, Seq};
+use std::alloc::Global;
+
+/// How many levels may be opened, one in another.
+const LEVELS: u16 = 200;
+
+fn begin(tokens: &[Token], at: usize) -> u32
+    requires { at < length tokens.now }
+    ensures { Places tokens.now at result }
+{
+    tokens[at].span.start
+}
+
+/// The fault of a stop, by the offset of its token.
+fn fault(tokens: &[Token], stop: Stop) -> ParseFault
+    requires { Stands tokens.now stop }
+    ensures { Names tokens.now stop result }
+{
+    match stop {
+        Stop::Unexpected(at) => ParseFault::Unexpected(begin(tokens, at)),
+        Stop::TooDeep(at) => ParseFault::TooDeep(begin(tokens, at)),
+        Stop::Memory => ParseFault::Memory,
+    }
+}
+
+/// The sequence that the tokens spell from a place on, and the place of the first token that does not go on with it.
+///
+/// `level` is the level at which the sequence stands: a body stands at level 1. The grammar is that of `docs/grammar.md`;
+/// it goes on as long as some sequence, of any depth, begins with the tokens so far. `Unexpected` names the first token
+/// with which none begins, where those before it are none; `TooDeep` the first token that opens level 201.
+pub fn seq(
+    alloc: Global,
+    tokens: &[Token],
+    at: usize,
+    level: u16,
+) -> Result<(Seq, usize), ParseFault>
+    requires ends { EndsWithEnd tokens.now }
+    requires within { at < length tokens.now }
+    requires level { level ≤ 200 }
+    // The tree that the tokens spell up to the place, where nothing goes on with it.
+    ensures read { IfOk result (λ r. ReadsTo SpellsSeq levels.seq_depth (200 - level) tokens.now at (seq_view r.0) r.1) }
+    // Why there is none, or memory ran out.
+    ensures refused { IfErr result (Refuses SpellsSeq levels.seq_depth (200 - level) tokens.now at) }
+    // Whatever answer holds of the tokens is the result, unless memory ran out.
+    ensures exact { IsOnly SpellsSeq levels.seq_depth (200 - level) seq_view tokens.now at result }
+{
+    match rules::seq(alloc, tokens, at, LEVELS - level) {
+        Ok(read) => Ok(read),
+        Err(stop) => Err(fault(tokens, stop)),
+    }
+}
+
+/// The expression that the tokens spell from a place on, as `seq` does it for a sequence.
+pub fn expr(
+    alloc: Global,
+    tokens: &[Token],
+    at: usize,
+    level: u16,
+) -> Result<(Expr, usize), ParseFault>
+    requires ends { EndsWithEnd tokens.now }
+    requires within { at < length tokens.now }
+    requires level { level ≤ 200 }
+    // The tree that the tokens spell up to the place, where nothing goes on with it.
+    ensures read { IfOk result (λ r. ReadsTo Spells levels.depth (200 - level) tokens.now at (expr_view r.0) r.1) }
+    // Why there is none, or memory ran out.
+    ensures refused { IfErr result (Refuses Spells levels.depth (200 - level) tokens.now at) }
+    // Whatever answer holds of the tokens is the result, unless memory ran out.
+    ensures exact { IsOnly Spells levels.depth (200 - level) expr_view tokens.now at result }
+{
+    match rules::expr(alloc, tokens, at, LEVELS - level) {
+        Ok(read) => Ok(read),
+        Err(stop) => Err(fault(tokens, stop)),
+    }
+}
+
+/// The expression without `=` that the tokens spell from a place on, as `seq` does it for a sequence.
+pub fn infix(
+    alloc: Global,
+    tokens: &[Token],
+    at: usize,
+    level: u16,
+) -> Result<(Expr, usize), ParseFault>
+    requires ends { EndsWithEnd tokens.now }
+    requires within { at < length tokens.now }
+    requires level { level ≤ 200 }
+    // The tree that the tokens spell up to the place, where nothing goes on with it.
+    ensures read { IfOk result (λ r. ReadsTo SpellsInfix levels.depth (200 - level) tokens.now at (expr_view r.0) r.1) }
+    // Why there is none, or memory ran out.
+    ensures refused { IfErr result (Refuses SpellsInfix levels.depth (200 - level) tokens.now at) }
+    // Whatever answer holds of the tokens is the result, unless memory ran out.
+    ensures exact { IsOnly SpellsInfix levels.depth (200 - level) expr_view tokens.now at result }
+{
+    match rules::infix(alloc, tokens, at, LEVELS - level) {
+        Ok(read) => Ok(read),
+        Err(stop) => Err(fault(tokens, stop)),
+    }
+}

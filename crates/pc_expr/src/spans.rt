@@ -1,0 +1,105 @@
+//! Where the parts of a tree lie in the text.
+ghost use Rattle.std.specs.Prelude.{◌≡◌, map};
+ghost use Rattle.pc_tree.specs.Tree as t;
+ghost use Rattle.pc_tree.specs.View.{expr_view, item_view, suffix_view, arm_view};
+ghost use Rattle.pc_grammar.specs.Spells as spells;
+ghost use Rattle.pc_grammar.specs.Reading as reading;
+ghost use Rattle.pc_expr.specs.Onto as onto;
+
+use pc_caps::Span;
+use pc_tree::{Arm, Expr, Item, Suffix};
+
+const NOWHERE: Span = Span { start: 0, end: 0 };
+
+/// From the beginning of one to the end of another.
+pub fn join(a: Span, b: Span) -> Span
+    ensures { result ≡ spells.join a b }
+{
+    Span {
+        start: a.start,
+        end: b.end,
+    }
+}
+
+pub fn span_of(e: &Expr) -> Span
+    ensures { result ≡ t.span_of (expr_view e.now) }
+{
+    match e {
+        Expr::Name(name) | Expr::TypeName(name) => name.span,
+        Expr::This(span) => *span,
+        Expr::Number { span, .. }
+        | Expr::Truth { span, .. }
+        | Expr::Text { span, .. }
+        | Expr::Consume { span, .. }
+        | Expr::Not { span, .. }
+        | Expr::Infix { span, .. }
+        | Expr::Chain { span, .. }
+        | Expr::Group { span, .. }
+        | Expr::If { span, .. }
+        | Expr::While { span, .. }
+        | Expr::Recover { span, .. }
+        | Expr::Assign { span, .. } => *span,
+    }
+}
+
+fn item_span(item: &Item) -> Span
+    ensures { result ≡ t.item_span (item_view item.now) }
+{
+    match item {
+        Item::Local { span, .. } => *span,
+        Item::Plain(e) => span_of(e),
+    }
+}
+
+fn suffix_span(suffix: &Suffix) -> Span
+    ensures { result ≡ t.suffix_span (suffix_view suffix.now) }
+{
+    match suffix {
+        Suffix::Dot(name) => name.span,
+        Suffix::Args { span, .. } => *span,
+    }
+}
+
+/// From the first item to the last.
+#[tactic(auto, using(crate::proofs::Lasts::items_joined))]
+pub fn items_span(items: &[Item]) -> Span
+    ensures { result ≡ spells.join (reading.first_item (map item_view items.now)) (reading.last_item spells.no_span (map item_view items.now)) }
+{
+    match (items.first(), items.last()) {
+        (Some(first), Some(last)) => join(item_span(first), item_span(last)),
+        _ => NOWHERE,
+    }
+}
+
+/// From the first term to the last.
+#[tactic(auto, using(crate::proofs::Lasts::terms_joined))]
+pub fn terms_span(terms: &[Expr]) -> Span
+    ensures { result ≡ spells.join (reading.first_expr (map expr_view terms.now)) (reading.last_expr spells.no_span (map expr_view terms.now)) }
+{
+    match (terms.first(), terms.last()) {
+        (Some(first), Some(last)) => join(span_of(first), span_of(last)),
+        _ => NOWHERE,
+    }
+}
+
+/// From an atom to its last suffix.
+#[tactic(auto, using(crate::proofs::Lasts::last_suffix_is))]
+pub fn chain_span(head: &Expr, suffixes: &[Suffix]) -> Span
+    ensures { result ≡ spells.join (t.span_of (expr_view head.now)) (reading.last_suffix (t.span_of (expr_view head.now)) (map suffix_view suffixes.now)) }
+{
+    let head = span_of(head);
+    match suffixes.last() {
+        Some(last) => join(head, suffix_span(last)),
+        None => head,
+    }
+}
+
+/// The span of the first arm.
+pub fn first_arm(arms: &[Arm]) -> Span
+    ensures { result ≡ onto.first_arm (map arm_view arms.now) }
+{
+    match arms.first() {
+        Some(arm) => arm.span,
+        None => NOWHERE,
+    }
+}

@@ -1,0 +1,149 @@
+//! Single tokens: looking at them, taking them, and where a list goes on.
+ghost use Rattle.std.specs.Prelude.{◌≡◌, ◌≢◌, ◌+◌, ◌∷◌, ◌≤◌, drop, IfOk, IfSome, option_map};
+ghost use Rattle.pc_token.specs.declared.kinds.TokenKind.TheVariants.{End};
+ghost use Rattle.pc_token.specs.declared.signs.Sign.TheVariants.{Comma};
+ghost use Rattle.pc_token.specs.declared.words.Word.TheVariants.{ElseifWord};
+ghost use Rattle.pc_token.specs.Asking as asking;
+ghost use Rattle.pc_grammar.specs.Asking as grammar;
+ghost use Rattle.pc_grammar.specs.Reading as reading;
+ghost use Rattle.pc_expr.specs.Gives.{At, Moves, Gives};
+
+use crate::stop::Stop;
+use pc_grammar::{begins_item, op_of};
+use pc_token::{Sign, Token, Word, is_sign, is_word};
+use pc_tree::Op;
+
+pub fn look(tokens: &[Token], at: usize) -> &Token
+    requires { At tokens.now at }
+    ensures here { drop at tokens.now ≡ result.now ∷ drop (at + 1) tokens.now }
+    ensures more { result.now.kind ≢ End → At tokens.now (at + 1) }
+{
+    &tokens[at]
+}
+
+/// The sign, if it stands there.
+#[tactic(auto, using(crate::proofs::Ends::is_sign_not_end), unfolding(pc_grammar::specs::Reading::take_if))]
+pub fn take_sign(tokens: &[Token], at: usize, sign: Sign) -> Result<(&Token, usize), Stop>
+    requires { At tokens.now at }
+    ensures gives { Gives (λ t. t.now) tokens.now result (reading.take_if (asking.is_sign sign) (drop at tokens.now)) }
+    ensures moves { IfOk result (λ r. Moves tokens.now at r.1) }
+{
+    let token = look(tokens, at);
+    if is_sign(token, sign) {
+        Ok((token, at + 1))
+    } else {
+        Err(Stop::Unexpected(at))
+    }
+}
+
+/// The word, if it stands there.
+#[tactic(auto, using(crate::proofs::Ends::is_word_not_end), unfolding(pc_grammar::specs::Reading::take_if))]
+pub fn take_word(tokens: &[Token], at: usize, word: Word) -> Result<(&Token, usize), Stop>
+    requires { At tokens.now at }
+    ensures gives { Gives (λ t. t.now) tokens.now result (reading.take_if (asking.is_word word) (drop at tokens.now)) }
+    ensures moves { IfOk result (λ r. Moves tokens.now at r.1) }
+{
+    let token = look(tokens, at);
+    if is_word(token, word) {
+        Ok((token, at + 1))
+    } else {
+        Err(Stop::Unexpected(at))
+    }
+}
+
+/// Where the next item begins, if one follows.
+#[tactic(auto, using(crate::proofs::Ends::is_sign_not_end), unfolding(pc_grammar::specs::Reading::next_item))]
+pub fn next_item(tokens: &[Token], at: usize) -> Option<usize>
+    requires { At tokens.now at }
+    ensures value { option_map (λ p. drop p tokens.now) result ≡ reading.next_item (drop at tokens.now) }
+    ensures there { IfSome result (λ p. (at ≤ p) × At tokens.now p) }
+{
+    let token = look(tokens, at);
+    if is_sign(token, Sign::Semicolon) {
+        Some(at + 1)
+    } else if token.first && begins_item(token) {
+        Some(at)
+    } else {
+        None
+    }
+}
+
+/// Behind the comma, if one stands there.
+#[tactic(auto, using(crate::proofs::Ends::is_sign_not_end), unfolding(pc_grammar::specs::Reading::after))]
+pub fn after_comma(tokens: &[Token], at: usize) -> Option<usize>
+    requires { At tokens.now at }
+    ensures value { option_map (λ p. drop p tokens.now) result ≡ reading.after (asking.is_sign Comma) (drop at tokens.now) }
+    ensures there { IfSome result (λ p. (at ≤ p) × At tokens.now p) }
+{
+    if is_sign(look(tokens, at), Sign::Comma) {
+        Some(at + 1)
+    } else {
+        None
+    }
+}
+
+#[tactic(auto, unfolding(pc_grammar::specs::Asking::same_op))]
+fn same_op(a: Op, b: Op) -> bool
+    ensures { result ≡ grammar.same_op a b }
+{
+    a == b
+}
+
+#[tactic(auto, unfolding(pc_grammar::specs::Reading::is_op))]
+fn is_op(token: &Token, op: Op) -> bool
+    ensures { result ≡ reading.is_op op token.now }
+{
+    match op_of(token) {
+        Some(found) => same_op(found, op),
+        None => false,
+    }
+}
+
+/// Behind the operator, if it stands there.
+#[tactic(auto, using(crate::proofs::Ends::is_op_not_end), unfolding(pc_grammar::specs::Reading::after))]
+pub fn after_op(tokens: &[Token], at: usize, op: Op) -> Option<usize>
+    requires { At tokens.now at }
+    ensures value { option_map (λ p. drop p tokens.now) result ≡ reading.after (reading.is_op op) (drop at tokens.now) }
+    ensures there { IfSome result (λ p. (at ≤ p) × At tokens.now p) }
+{
+    if is_op(look(tokens, at), op) {
+        Some(at + 1)
+    } else {
+        None
+    }
+}
+
+#[tactic(auto, unfolding(pc_grammar::specs::Reading::begins_suffix))]
+fn begins_suffix(token: &Token) -> bool
+    ensures { result ≡ reading.begins_suffix token.now }
+{
+    is_sign(token, Sign::Dot) || (is_sign(token, Sign::OpenParen) && !token.first)
+}
+
+/// Here, if a suffix begins here.
+#[tactic(auto, unfolding(pc_grammar::specs::Reading::at))]
+pub fn at_suffix(tokens: &[Token], at: usize) -> Option<usize>
+    requires { At tokens.now at }
+    ensures value { option_map (λ p. drop p tokens.now) result ≡ reading.at reading.begins_suffix (drop at tokens.now) }
+    ensures there { IfSome result (λ p. (at ≤ p) × At tokens.now p) }
+{
+    if begins_suffix(look(tokens, at)) {
+        Some(at)
+    } else {
+        None
+    }
+}
+
+/// Here, if an `elseif` stands here.
+#[tactic(auto, unfolding(pc_grammar::specs::Reading::at))]
+pub fn at_elseif(tokens: &[Token], at: usize) -> Option<usize>
+    requires { At tokens.now at }
+    ensures value { option_map (λ p. drop p tokens.now) result ≡ reading.at (asking.is_word ElseifWord) (drop at tokens.now) }
+    ensures there { IfSome result (λ p. (at ≤ p) × At tokens.now p) }
+{
+    if is_word(look(tokens, at), Word::ElseifWord) {
+        Some(at)
+    } else {
+        None
+    }
+}
