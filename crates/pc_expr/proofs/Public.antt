@@ -1,15 +1,14 @@
 -- From the reading to what the public calls promise.
-use Rattle.std.proofs.Common.{◌≡◌, ℕ, zero, suc, ◌<◌, List, [], ◌∷◌, drop, length, Result, Ok, Err, sym, ap, ◌∙◌, subst, arith}
+use Rattle.std.proofs.Common.{◌≡◌, ℕ, zero, suc, ◌<◌, List, [], ◌∷◌, drop, length, Err, sym, ap, ◌∙◌, subst, arith}
 use Rattle.pc_token.specs.declared.kinds.Token.{Token}
-use Rattle.pc_grammar.specs.Reading.{Outcome, Parser, unexpected, too_deep}
+use Rattle.pc_grammar.specs.Reading.{Outcome, Parser, unexpected}
 use Rattle.pc_grammar.specs.Begins.{IsRefused}
 use Rattle.pc_grammar.specs.Laws.{RefusesRight, DeepRight}
 use Rattle.pc_expr.specs.declared.stop.Stop.{Stop}
 use Rattle.pc_expr.specs.declared.stop.Stop.TheVariants as stop
 use Rattle.pc_expr.specs.declared.fault.ParseFault.{ParseFault}
-use Rattle.pc_expr.specs.declared.fault.ParseFault.TheVariants as fault
 use Rattle.pc_expr.specs.Gives.{EndsWithEnd, At, Stops}
-use Rattle.pc_expr.specs.Answers.{Places, Refuses, Stands, Names}
+use Rattle.pc_expr.specs.Answers.{Refuses, Stands, Names}
 
 ends_from : (tokens : List Token) (at : ℕ) → EndsWithEnd tokens → at < length tokens → EndsWithEnd (drop at tokens)
 ends_from tokens zero ends within = ends

@@ -1,5 +1,5 @@
 -- What the parser answers.
-use Rattle.std.specs.Prelude.{◌≡◌, ◌≢◌, ℕ, ◌<◌, List, [], ◌∷◌, drop, length, Result, Ok, Err}
+use Rattle.std.specs.Prelude.{◌≡◌, ◌≢◌, ℕ, ◌<◌, List, ◌∷◌, drop, length, Result, Ok, Err}
 use Rattle.pc_token.specs.declared.kinds.Token.{Token}
 use Rattle.pc_grammar.specs.Begins.{IsRead, IsRefused, IsTooDeep}
 use Rattle.pc_expr.specs.declared.stop.Stop.{Stop}
