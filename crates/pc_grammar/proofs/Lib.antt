@@ -20,3 +20,5 @@ pub mod Right
 pub mod Steady
 pub mod SteadyRules
 pub mod OneAnswer
+pub mod LocalFile
+pub mod AgreeFile
