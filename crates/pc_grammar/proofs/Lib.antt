@@ -22,3 +22,4 @@ pub mod SteadyRules
 pub mod OneAnswer
 pub mod LocalFile
 pub mod AgreeFile
+pub mod ExplainedParams
