@@ -1,5 +1,5 @@
 -- A token that is taken is not the end.
-use Rattle.std.proofs.Common.{◌≡◌, ◌≢◌, Option, Some, true, subst}
+use Rattle.std.proofs.Common.{◌≡◌, ◌≢◌, Some, true, subst}
 use Rattle.pc_token.specs.declared.kinds.Token.{Token}
 use Rattle.pc_token.specs.declared.kinds.TokenKind.TheVariants as k
 use Rattle.pc_token.specs.declared.words.Word.{Word}

@@ -1,7 +1,7 @@
 -- What holds of the tokens is what is answered.
-use Rattle.std.proofs.Common.{◌≡◌, ℕ, ◌<◌, List, [], ◌∷◌, drop, length, Result, Ok, Err, refl, sym, ap, ap₂, ◌∙◌, arith, length-drop}
+use Rattle.std.proofs.Common.{◌≡◌, ℕ, ◌<◌, List, ◌∷◌, drop, length, Result, Ok, Err, refl, sym, ap, ap₂, ◌∙◌, arith, length-drop}
 use Rattle.pc_token.specs.declared.kinds.Token.{Token}
-use Rattle.pc_grammar.specs.Begins.{IsRead, IsRefused, IsTooDeep, Answer, read, refused, deep, IsAnswer, IsOneAnswer}
+use Rattle.pc_grammar.specs.Begins.{Answer, read, refused, deep, IsOneAnswer}
 use Rattle.pc_expr.specs.declared.fault.ParseFault.{ParseFault}
 use Rattle.pc_expr.specs.declared.fault.ParseFault.TheVariants as fault
 use Rattle.pc_expr.specs.Answers.{Places, ReadsTo, Refuses, Answers, Is}

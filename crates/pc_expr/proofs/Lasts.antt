@@ -1,5 +1,5 @@
 -- The first and the last part of a list.
-use Rattle.std.proofs.Common.{◌≡◌, ◌-◌, ℕ, List, [], ◌∷◌, length, map, suc, Option, Some, ap, ap₂, ◌∙◌, arith, rules}
+use Rattle.std.proofs.Common.{◌≡◌, ◌-◌, List, [], ◌∷◌, length, map, suc, Some, ap, ap₂, ◌∙◌, arith, rules}
 use Rattle.std.specs.List.{slice_get}
 use Rattle.pc_caps.specs.declared.span.Span.{Span}
 use Rattle.pc_tree.specs.Tree as t

@@ -323,12 +323,7 @@ fn suffix(alloc: Global, tokens: &[Token], at: usize, left: u16) -> Result<(Suff
 /// "(" [Expr {"," Expr}] ")"
 #[cycle(rules)]
 #[tactic(auto, using(pc_tree::proofs::Views::view_args, pc_grammar::proofs::Levels::no_deeper, pc_grammar::proofs::Levels::one_deeper, pc_grammar::proofs::Levels::inner_expr), unfolding(pc_grammar::specs::Reading::args))]
-fn arguments(
-    alloc: Global,
-    tokens: &[Token],
-    at: usize,
-    left: u16,
-) -> Result<(Suffix, usize), Stop>
+fn arguments(alloc: Global, tokens: &[Token], at: usize, left: u16) -> Result<(Suffix, usize), Stop>
     requires { At tokens.now at }
     ensures gives { Gives suffix_view tokens.now result (reading.args left (reading.inner left).expr (drop at tokens.now)) }
     ensures moves { IfOk result (λ r. Moves tokens.now at r.1) }

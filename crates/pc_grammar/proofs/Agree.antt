@@ -18,17 +18,17 @@ Agree o q = (o ≡ q) ⊎ ((r : List Token) × (o ≡ Err (too_deep, r)))
 abbrev pub Agrees : {A : Type 0} → Parser A → Parser A → Type 0
 Agrees p q = (ts : List Token) → Agree (p ts) (q ts)
 
-same : {A : Type 0} (p : Parser A) → Agrees p p
+pub same : {A : Type 0} (p : Parser A) → Agrees p p
 same p ts = inl refl
 
 bound : {A B : Type 0} (o : Outcome A) (f g : A → Parser B) → ((x : A) → Agrees (f x) (g x)) → Agree (and_then o f) (and_then o g)
 bound (Ok r) f g h = h r.0 r.1
 bound (Err e) f g h = inl refl
 
-bind_agrees : {A B : Type 0} (p q : Parser A) (f g : A → Parser B) → Agrees p q → ((x : A) → Agrees (f x) (g x)) → Agrees (p >>= f) (q >>= g)
+pub bind_agrees : {A B : Type 0} (p q : Parser A) (f g : A → Parser B) → Agrees p q → ((x : A) → Agrees (f x) (g x)) → Agrees (p >>= f) (q >>= g)
 bind_agrees p q f g a h ts = elim (a ts) [ inl e ↦ subst (λ o. Agree (and_then (p ts) f) (and_then o g)) e (bound (p ts) f g h) | inr e ↦ inr (e.0, ap (λ o. and_then o f) e.1) ]
 
-cond_agrees : {A : Type 0} (b : Bool) (p q p' q' : Parser A) → Agrees p p' → Agrees q q' → Agrees (cond b p q) (cond b p' q')
+pub cond_agrees : {A : Type 0} (b : Bool) (p q p' q' : Parser A) → Agrees p p' → Agrees q q' → Agrees (cond b p q) (cond b p' q')
 cond_agrees true p q p' q' a c = a
 cond_agrees false p q p' q' a c = c
 
@@ -48,7 +48,7 @@ module _ {A : Type 0} (next : List Token → Option (List Token)) (p q : Parser 
   many_agrees zero ts = inl refl
   many_agrees (suc m) ts = step_agrees m (many_agrees m) ts (next ts)
 
-  all_agrees : Agrees (all next p) (all next q)
+  pub all_agrees : Agrees (all next p) (all next q)
   unfolding all
   all_agrees ts = many_agrees (length ts) ts
 

@@ -123,7 +123,7 @@ a_name = record { text = []; span = no_span }
 pub some_name : Inhabited NameAt
 some_name = (of_kind (k.Name []) ∷ [], a_name, (of_kind (k.Name []), refl, (refl, refl)))
 
-some_type_name : Inhabited TypeNameAt
+pub some_type_name : Inhabited TypeNameAt
 some_type_name = (of_kind (k.TypeName []) ∷ [], a_name, (of_kind (k.TypeName []), refl, (refl, refl)))
 
 pub spelled_name : Spells (t.name a_name) (of_kind (k.Name []) ∷ [])
@@ -205,7 +205,7 @@ module _ (u : Bool) where
   some_cap : (m : Name) → Inhabited (Then SpellsCap (λ c. Only (plain_type m c)))
   some_cap m = some_then SpellsCap (λ c. Only (plain_type m c)) ([], None, refl) (λ c. some_only _)
 
-  some_type : Inhabited SpellsType
+  pub some_type : Inhabited SpellsType
   some_type = let r = some_then TypeNameAt (λ m. Then SpellsCap (λ c. Only (plain_type m c))) some_type_name some_cap in (r.0, r.1, type_whole r.1 r.0 r.2)
 
   pub explained_type : (ts : List Token) → Explained u SpellsType ts (written_type ts)

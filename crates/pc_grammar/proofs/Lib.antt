@@ -20,3 +20,6 @@ pub mod Right
 pub mod Steady
 pub mod SteadyRules
 pub mod OneAnswer
+pub mod LocalFile
+pub mod AgreeFile
+pub mod ExplainedParams

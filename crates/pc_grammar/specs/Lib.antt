@@ -3,3 +3,5 @@ pub mod Spells
 pub mod Begins
 pub mod Reading
 pub mod Laws
+pub mod SpellsFile
+pub mod ReadingFile
