@@ -20,7 +20,7 @@ use Rattle.pc_top.specs.Source.Length.{fits, is_longer}
 use Rattle.pc_top.specs.Source.Lexing.{lexed, faulty}
 use Rattle.pc_top.specs.Source.Form.{says, not_built}
 use Rattle.pc_top.specs.Verdict.{Verdict, ended}
-use Rattle.pc_top.specs.declared.first_form.program.Program.{Program}
+use Rattle.pc_first.specs.declared.program.Program.{Program}
 
 fault_refuses : (f : LexFault) → fault_status f ≡ 0 → ⊥
 fault_refuses (fault.BadByte p) e = omega arith

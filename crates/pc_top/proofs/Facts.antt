@@ -11,7 +11,7 @@ use Rattle.pc_lex.specs.declared.fault.LexFault.TheVariants as fault
 use Rattle.pc_top.specs.After.After.{stops, goes}
 use Rattle.pc_top.specs.Command.{Text}
 use Rattle.pc_top.specs.Faults.{IsFaultRefusal}
-use Rattle.pc_top.specs.FirstForm.{Spell, IsRecognised}
+use Rattle.pc_first.specs.FirstForm.{Spell, IsRecognised}
 use Rattle.pc_top.specs.Meaning.{AllHold}
 use Rattle.pc_top.specs.Named.{Named, whole, Gives}
 use Rattle.pc_top.specs.Source.{Lexing, TextStage, SourceStage, source_limit}
@@ -19,8 +19,8 @@ use Rattle.pc_top.specs.Source.Length.{fits}
 use Rattle.pc_top.specs.Source.Lexing.{faulty}
 use Rattle.pc_top.specs.Stages.{StageStops, StageEnds, PartEnds}
 use Rattle.pc_top.specs.Verdict.{refused}
-use Rattle.pc_top.specs.declared.first_form.program.Definition.{Definition}
-use Rattle.pc_top.specs.declared.first_form.program.Program.{Program}
+use Rattle.pc_first.specs.declared.program.Definition.{Definition}
+use Rattle.pc_first.specs.declared.program.Program.{Program}
 use Rattle.pc_top.specs.declared.stop.Stop.{Stop}
 use Rattle.pc_top.specs.declared.stop.Stop.TheVariants.{Refused, File, Sink, Memory}
 

@@ -1,13 +1,7 @@
 mod Accepted
 mod Answers
-mod Classes
-mod Definitions
 mod Facts
 mod Lives
-mod Names
 mod One
 mod Parts
 mod Places
-mod Standing
-mod Spelled
-mod Spelling

@@ -2,8 +2,8 @@
 use Rattle.std.proofs.Common.{◌≡◌, ◌<◌, ◌⊎◌, ℕ, Bool, true, false, List, [], ◌∷◌, ◌++◌, refl, inl, inr, sym, ap, ◌∙◌, subst, take, drop, length, ◌+◌, get_or}
 use Rattle.std.specs.Bool.{Decides}
 use Rattle.std.proofs.lemmas.List.{append_assoc, same_from_push, take_more, drop_more, take-append-drop}
-use Rattle.pc_top.specs.declared.first_form.program.Definition.{Definition}
-use Rattle.pc_top.specs.declared.first_form.program.Initial.TheVariants as initial
+use Rattle.pc_first.specs.declared.program.Definition.{Definition}
+use Rattle.pc_first.specs.declared.program.Initial.TheVariants as initial
 use Rattle.pc_top.specs.Meaning.{NoneConsumes, Live, Holds, AllHold}
 use Rattle.pc_top.specs.Taking.{GoesOn}
 

@@ -18,8 +18,8 @@ use Rattle.pc_top.specs.Source.Length.{fits, is_longer}
 use Rattle.pc_top.specs.Source.Lexing.{lexed, faulty}
 use Rattle.pc_top.specs.Source.Form.{says, not_built}
 use Rattle.pc_top.specs.Verdict.{Verdict, refused, ended}
-use Rattle.pc_top.proofs.Spelled.{spelled_one}
-use Rattle.pc_top.specs.declared.first_form.program.Program.{Program}
+use Rattle.pc_first.specs.FirstForm.{OneProgram}
+use Rattle.pc_first.specs.declared.program.Program.{Program}
 
 ok_same : {T : Type 0} (x y : T) (a b : Result T Verdict) → a ≡ Ok x → b ≡ Ok y → a ≡ b → x ≡ y
 ok_same x y a b p q e = cc
@@ -44,24 +44,24 @@ one_length : (name : Text) (r : Reading) → IsOne (Length name r)
 one_length name r _ _ fits fits = refl
 one_length name r _ _ is_longer is_longer = refl
 
-one_form : (name : Text) (ts : List Token) → IsOne (Form name ts)
-one_form name ts _ _ (says {p = p} a) (says {p = q} b) = ap (λ (x : Program). Ok x) (spelled_one ts p q a b)
-one_form name ts _ _ (says {p = p} a) (not_built n) = absurd (n p a)
-one_form name ts _ _ (not_built n) (says {p = p} a) = absurd (n p a)
-one_form name ts _ _ (not_built n) (not_built m) = refl
-
 one_accepting : (p : Program) → IsOne (Accepting p)
 one_accepting p _ _ (holds a) (holds b) = refl
 one_accepting p _ _ (holds a) (fails n) = absurd (n a)
 one_accepting p _ _ (fails n) (holds a) = absurd (n a)
 one_accepting p _ _ (fails n) (fails m) = refl
 
-module _ (list : OneList) (both : NotBoth) (fault : OneFault) where
+module _ (list : OneList) (both : NotBoth) (fault : OneFault) (spelled : OneProgram) where
   one_lexing : (name bytes : Text) → IsOne (Lexing name bytes)
   one_lexing name bytes _ _ (lexed {ts = t} a) (lexed {ts = u} b) = ap (λ (x : List Token). Ok x) (list bytes t u a.0 b.0)
   one_lexing name bytes _ _ (lexed {ts = t} a) (faulty f b) = absurd (both bytes t f a b)
   one_lexing name bytes _ _ (faulty f a) (lexed {ts = t} b) = absurd (both bytes t f b a)
   one_lexing name bytes _ _ (faulty f a) (faulty g b) = ap (λ (x : LexFault). Err (refused (fault_status x) (fault_line name bytes x))) (fault bytes f g a b)
+
+  one_form : (name : Text) (ts : List Token) → IsOne (Form name ts)
+  one_form name ts _ _ (says {p = p} a) (says {p = q} b) = ap (λ (x : Program). Ok x) (spelled ts p q a b)
+  one_form name ts _ _ (says {p = p} a) (not_built n) = absurd (n p a)
+  one_form name ts _ _ (not_built n) (says {p = p} a) = absurd (n p a)
+  one_form name ts _ _ (not_built n) (not_built m) = refl
 
   one_text : (name bytes : Text) → IsOne (TextStage name bytes)
   one_text name bytes = after_is_one (Lexing name bytes) (Form name) (one_lexing name bytes) (one_form name)
@@ -80,13 +80,13 @@ one_reading limit (Some x) before now taken (whole p) longer t n a b = let long 
 one_reading limit (Some x) before now taken longer (whole q) t n a b = let long : limit < length x = a.1 n in let e : length q ≡ length x = ap length b.1 in absurd (omega (arith, b.0))
 one_reading limit (Some x) before now taken longer longer t n a b = refl
 
-module _ (list : OneList) (both : NotBoth) (fault : OneFault) where
+module _ (list : OneList) (both : NotBoth) (fault : OneFault) (spelled : OneProgram) where
   one_of : (files : Files) (asked : Option Asked) (v w : Verdict) → ((n : Text) → files.now n ≡ files.before n) → TellsOf files.told asked
       → IsVerdictOf files asked v → IsVerdictOf files asked w → v ≡ w
   one_of files None v w n t a b = a ∙ sym b
   one_of files (Some (check source)) v w n t a b =
       let same : b.0 ≡ a.0 = one_reading source_limit (files.told source) (files.before source) (files.now source) files.taken b.0 a.0 t (n source) b.2 a.2 in
-      let ends : a.1 ≡ b.1 = one_check list both fault source a.0 a.1 b.1 a.3 (subst (λ (r : Reading). CheckStage source r b.1) same b.3) in
+      let ends : a.1 ≡ b.1 = one_check list both fault spelled source a.0 a.1 b.1 a.3 (subst (λ (r : Reading). CheckStage source r b.1) same b.3) in
       a.4 ∙ (ap ended ends ∙ sym b.4)
 
   pub verdict_one : VerdictIsOne

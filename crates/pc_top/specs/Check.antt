@@ -7,7 +7,7 @@ use Rattle.pc_top.specs.Meaning.{AllHold}
 use Rattle.pc_top.specs.Named.{Named, Reading, Gives}
 use Rattle.pc_top.specs.Source.{SourceStage, source_limit}
 use Rattle.pc_top.specs.Verdict.{Verdict, refused, ended}
-use Rattle.pc_top.specs.declared.first_form.program.Program.{Program}
+use Rattle.pc_first.specs.declared.program.Program.{Program}
 
 -- Its program: `accepted` where every definition holds, and else 1 with no line.
 pub data Accepting (p : Program) : Result Text Verdict → Type 0 where

@@ -10,13 +10,10 @@ pub mod FirstForm
 pub mod Lines
 pub mod Meaning
 pub mod Named
-pub mod Naming
 pub mod One
 pub mod Place
 pub mod Reading
-pub mod Shape
 pub mod Source
 pub mod Stages
 pub mod Taking
 pub mod Verdict
-pub mod Written

@@ -5,9 +5,9 @@ use Rattle.pc_caps.specs.declared.capability.Cap.{Cap}
 use Rattle.pc_caps.specs.declared.capability.Form.{Form}
 use Rattle.pc_caps.specs.Order.{IsBelow}
 use Rattle.pc_caps.specs.Tables.{plain, unalias}
-use Rattle.pc_top.specs.declared.first_form.program.Definition.{Definition}
-use Rattle.pc_top.specs.declared.first_form.program.Initial.{Initial}
-use Rattle.pc_top.specs.declared.first_form.program.Initial.TheVariants as initial
+use Rattle.pc_first.specs.declared.program.Definition.{Definition}
+use Rattle.pc_first.specs.declared.program.Initial.{Initial}
+use Rattle.pc_first.specs.declared.program.Initial.TheVariants as initial
 
 abbrev pub NoneConsumes : List Definition → List ℕ → Type 0
 NoneConsumes ds name = AllByRecursion (λ d. d.initial ≡ initial.Consume name → ⊥) ds

@@ -7,11 +7,11 @@ use Rattle.pc_lex.specs.declared.fault.LexFault.{LexFault}
 use Rattle.pc_top.specs.After.{After}
 use Rattle.pc_top.specs.Command.{Text}
 use Rattle.pc_top.specs.Faults.{fault_status, fault_line}
-use Rattle.pc_top.specs.FirstForm.{Spell}
+use Rattle.pc_first.specs.FirstForm.{Spell}
 use Rattle.pc_top.specs.Lines.{longer_line, not_built_line}
 use Rattle.pc_top.specs.Named.{Reading, whole, longer}
 use Rattle.pc_top.specs.Verdict.{Verdict, refused}
-use Rattle.pc_top.specs.declared.first_form.program.Program.{Program}
+use Rattle.pc_first.specs.declared.program.Program.{Program}
 
 -- how many bytes a source may have
 abbrev pub source_limit : ℕ

@@ -3,10 +3,10 @@ use Rattle.std.specs.Prelude.{ℕ, ◌≡◌, ◌⊎◌, List}
 use Rattle.pc_caps.specs.declared.capability.Cap.{Cap}
 use Rattle.pc_caps.specs.declared.capability.Form.{Form}
 use Rattle.pc_caps.specs.Tables.{plain, unalias}
-use Rattle.pc_top.specs.declared.first_form.program.Definition.{Definition}
-use Rattle.pc_top.specs.declared.first_form.program.Initial.TheVariants as initial
-use Rattle.pc_top.specs.declared.first_form.meaning.Taking.{Taking}
-use Rattle.pc_top.specs.declared.first_form.meaning.Taking.TheVariants as taking
+use Rattle.pc_first.specs.declared.program.Definition.{Definition}
+use Rattle.pc_first.specs.declared.program.Initial.TheVariants as initial
+use Rattle.pc_top.specs.declared.meaning.Taking.{Taking}
+use Rattle.pc_top.specs.declared.meaning.Taking.TheVariants as taking
 
 -- The form of what a local of this capability gives.
 abbrev pub form_given : Taking → Cap → Form

@@ -5,7 +5,7 @@ ghost use Rattle.pc_top.specs.Check.{IsCheck};
 ghost use Rattle.pc_top.specs.Ends.{Ends, change};
 ghost use Rattle.pc_top.specs.Named.{FailedAt, file_at};
 
-use crate::first_form::all_hold;
+use crate::meaning::all_hold;
 use crate::source::read_source;
 use crate::stop::Stop;
 use crate::writing::put_text;

@@ -6,11 +6,11 @@ ghost use Rattle.pc_top.specs.Source.{Lexing, SourceStage, TextStage, source_lim
 ghost use Rattle.pc_top.specs.Stages.{PartEnds, StageEnds};
 
 use crate::faults::refuse_fault;
-use crate::first_form::{Program, recognise};
 use crate::lines::make_not_built_line;
 use crate::reading::read_file;
 use crate::stop::Stop;
 use pc_caps::List;
+use pc_first::{Program, recognise};
 use pc_io::Files;
 use pc_lex::lex;
 use pc_token::Token;

@@ -12,6 +12,7 @@ use crate::command::{Command, read_words};
 use crate::finish::finish;
 use crate::lines::make_usage_line;
 use crate::stop::Stop;
+use pc_first::programs_are_one;
 use pc_io::{Files, Sink};
 use pc_lex::{faults_are_told, tokens_are_one};
 use std::alloc::Global;
@@ -82,4 +83,5 @@ pub fn verdict_is_one()
 {
     tokens_are_one();
     faults_are_told();
+    programs_are_one();
 }
