@@ -1,7 +1,8 @@
 mod Accepted
 mod Answers
+mod Deriving
 mod Facts
-mod Lives
+mod Judged
 mod One
 mod Parts
 mod Places

@@ -3,10 +3,12 @@
 
 mod check;
 mod command;
+mod core_faults;
+mod derivation;
 mod faults;
 mod finish;
+mod judge;
 mod lines;
-mod meaning;
 mod place;
 mod reading;
 mod source;

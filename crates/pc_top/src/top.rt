@@ -10,6 +10,7 @@ ghost use Rattle.pc_top.specs.One.{VerdictIsOne};
 use crate::check::run_check;
 use crate::command::{Command, read_words};
 use crate::finish::finish;
+use crate::judge::run_judge;
 use crate::lines::make_usage_line;
 use crate::stop::Stop;
 use pc_first::programs_are_one;
@@ -36,7 +37,7 @@ pub fn rcap<F: Files, O: Sink, E: Sink>(
         (change (O.written out.old) (O.written out.new) (O.faults out.old) (O.faults out.new))
         (change (E.written err.old) (E.written err.new) (E.faults err.old) (E.faults err.new)) result }
 
-    // What is accepted has the first form, and every definition of it holds.
+    // The source that is accepted has a core, and the core has a derivation.
     ensures accepted { result ≡ 0 → Accepts (F.bytes files.old) (texts words.now) }
 
     // Where no file of the command and no sink failed, the answer is the verdict or want of memory.
@@ -64,6 +65,9 @@ fn run_words<F: Files, O: Sink>(
     match read_words(words) {
         None => Err(refuse_words(alloc)),
         Some(Command::Check { source }) => run_check(alloc, files, out, source),
+        Some(Command::Judge { source, derivation }) => {
+            run_judge(alloc, files, out, source, derivation)
+        }
     }
 }
 
