@@ -7,7 +7,7 @@ use crate::capability::{Cap, Form, unalias};
 
 /// Whether `a` is below `b` in the order on forms: the reflexive and transitive closure of ten pairs (subtyping of
 /// capabilities, in the paper of 2015).
-#[tactic(auto, using(crate::proofs::Closure::below_iff))]
+#[tactic(auto, using(crate::specs::Closure::below_iff))]
 pub fn below(a: Form, b: Form) -> bool
     ensures order { IsTrue result ↔ IsBelow a b }
     ensures value { result ≡ is_below a b }

@@ -1,5 +1,5 @@
--- At most one annotation of a core of the first kinds is valid.
-use Rattle.std.specs.Prelude.{◌≡◌, ℕ, zero, suc, ◌+◌, ◌-◌, ◌<◌, ◌≤◌, true, ◌&&◌, nat_eq, List, [], ◌∷◌, map, length, Option, Some, None, slice_get, refl}
+-- At most one annotation of a core is valid.
+use Rattle.std.specs.Prelude.{◌≡◌, ◌⊎◌, ℕ, zero, suc, ◌+◌, ◌-◌, ◌<◌, ◌≤◌, true, false, ◌&&◌, nat_eq, List, [], ◌∷◌, map, length, Option, Some, None, slice_get, refl}
 use Rattle.std.proofs.Common.{inl, inr, ap, sym, subst, ◌∙◌, arith}
 use Rattle.std.proofs.lemmas.Option.{same_Some, none-some}
 use Rattle.std.proofs.lemmas.Bool.{cases_lt, and_parts, eqb-true}
@@ -15,7 +15,7 @@ use Rattle.pc_core.specs.CoreData.{CoreData}
 use Rattle.pc_core.specs.Words.{Each, Follow}
 use Rattle.pc_core.specs.Lookup.{node_end}
 use Rattle.pc_core.specs.Methods.{LocalFits, BodyFits, Uses}
-use Rattle.pc_core.specs.Nodes.{NamesSlot, NamesFit}
+use Rattle.pc_core.specs.Nodes.{HasArity}
 use Rattle.pc_core.specs.Formed.{Formed}
 use Rattle.pc_core.specs.Runs.{get_map, map_get, range_get, run_within, run_around}
 use Rattle.pc_core.specs.Members.{bind_some}
@@ -30,45 +30,11 @@ use Rattle.pc_rules.specs.Values.{same_cap, same_place, defined_type, defines, d
 use Rattle.pc_rules.specs.Control.{start_set, starts_method, result_ok, body_says}
 use Rattle.pc_rules.specs.Rules.{says, said_by, Meets}
 use Rattle.pc_rules.specs.Valid.{Valid}
-use Rattle.pc_rules.specs.Trees.{Tree, Forest, tree, empty, more, body_tree}
-use Rattle.pc_rules.specs.First.{is_first, FirstKinds, OneValid}
-use Rattle.pc_rules.proofs.Alike.{kept, false_true, rule_of, first_rule, threads, LooksAlike, slot_same, says_same, type_same, child_below}
-use Rattle.pc_rules.proofs.Slotted.{slot_known}
-
--- ---- equalities
-
-same_mask : (a b : Mask) → same a b ≡ true → a ≡ b
-same_mask a b e = ap (λ n. record { 0 = n }) (eqb-true a.0 b.0 e)
-
-abbrev pair : {A B : Type 0} → A → B → A × B
-pair x y = (x, y)
-
-same_pair : {A B : Type 0} → (a b : A) (c d : B) → a ≡ b → c ≡ d → ◌≡◌ {A = A × B} (a, c) (b, d)
-same_pair {A} {B} a b c d e f = ap (λ (x : A). pair x c) e ∙ ap (λ (y : B). pair b y) f
-
-starts_so : (t : Note) (m : Masks) → starts t m ≡ true → before t ≡ m
-starts_so t m e = let p = and_parts _ _ e in same_pair t.live_before m.0 t.set_before m.1 (same_mask t.live_before m.0 p.0) (same_mask t.set_before m.1 p.1)
-
-caps_equal : (a b : Cap) → same_cap a b ≡ true → a ≡ b
-caps_equal cap.Iso cap.Iso e = refl
-caps_equal cap.Trn cap.Trn e = refl
-caps_equal cap.Ref cap.Ref e = refl
-caps_equal cap.Val cap.Val e = refl
-caps_equal cap.Box cap.Box e = refl
-caps_equal cap.Tag cap.Tag e = refl
-caps_equal a b e = absurd (false_true e)
-
-places_equal : (a b : ℕ × Cap) → same_place a b ≡ true → a ≡ b
-places_equal a b e = let p = and_parts (nat_eq a.0 b.0) (same_cap a.1 b.1) e in same_pair a.0 b.0 a.1 b.1 (eqb-true a.0 b.0 p.0) (caps_equal a.1 b.1 p.1)
-
-note_with : Rule → Masks → Said → Note
-note_with r m q = record { rule = r; ty = q.ty; live_before = m.0; set_before = m.1; live_after = q.live; set_after = q.set }
-
-notes_equal : (s t : Note) → s.rule ≡ t.rule → before s ≡ before t → said_by s ≡ said_by t → s ≡ t
-notes_equal s t r m q =
-    ap (λ k. record { rule = k; ty = s.ty; live_before = s.live_before; set_before = s.set_before; live_after = s.live_after; set_after = s.set_after }) r
-    ∙ ap (λ (k : Masks). record { rule = t.rule; ty = s.ty; live_before = k.0; set_before = k.1; live_after = s.live_after; set_after = s.set_after }) m
-    ∙ ap (λ (k : Said). record { rule = t.rule; ty = k.ty; live_before = t.live_before; set_before = t.set_before; live_after = k.live; set_after = k.set }) q
+use Rattle.pc_rules.specs.Trees.{Tree, Forest, tree, empty, more, body_tree, tree_le, forest_below}
+use Rattle.pc_rules.specs.Statements.{OneValid}
+use Rattle.pc_rules.specs.Threads.{kept, Threaded, then_way, else_way, is_branch, threads, if_threads, starts_so, first_starts, next_starts}
+use Rattle.pc_rules.specs.Agreeing.{body_starts, body_method, body_says_at, Agree, known_alike, node_step}
+use Rattle.pc_rules.specs.Slotted.{slot_known}
 
 lists_equal : {T : Type 0} → (xs ys : List T) → length xs ≡ length ys → ((k : ℕ) → k < length xs → slice_get xs k ≡ slice_get ys k) → xs ≡ ys
 lists_equal [] [] e h = refl
@@ -79,67 +45,6 @@ lists_equal (x ∷ xs) (y ∷ ys) e h =
     let n : length xs ≡ length ys = omega (arith, e) in
     ap (λ z. z ∷ xs) (same_Some x y (h 0 l)) ∙ ap (λ zs. y ∷ zs) (lists_equal xs ys n (λ k m. h (suc k) (omega (arith, m))))
 
--- ---- trees
-
-mutual
-  tree_le : (core : CoreData) (low n : ℕ) → Tree core low n → low ≤ n
-  tree_le core low n (tree x g f) = forest_le core low n x.children f
-
-  forest_le : (core : CoreData) (low high : ℕ) (cs : List ℕ) → Forest core low high cs → low ≤ high
-  forest_le core low high [] empty = omega arith
-  forest_le core low high (c ∷ cs) (more t f) = let l = tree_le core low c t in let m = forest_le core (c + 1) high cs f in omega (arith, l, m)
-
-forest_below : (core : CoreData) (low high : ℕ) (cs : List ℕ) → Forest core low high cs → Each (λ i c. c < high) cs
-forest_below core low high [] f i c e = absurd (none-some c e)
-forest_below core low high (d ∷ cs) (more t f) zero c e = let m = forest_le core (d + 1) high cs f in let s = same_Some d c e in omega (arith, m, s)
-forest_below core low high (d ∷ cs) (more t f) (suc i) c e = forest_below core (d + 1) high cs f i c e
-
--- ---- slots
-
-slot_parts : (core : CoreData) (ann : Ann) (m s : ℕ) (i : Slot × (ℕ × Cap)) → slot_of core ann m s ≡ Some i → (f : Method) → slice_get core.methods m ≡ Some f → (slice_get core.slots (f.first_slot + s) ≡ Some i.0) × (slice_get ann.slots (f.first_slot + s) ≡ Some i.1)
-slot_parts core ann m s i e f g =
-    let a = bind_some (slice_get core.methods m) _ i e in
-    let b = bind_some (slice_get core.slots (a.0.first_slot + s)) _ i a.2 in
-    let c = bind_some (slice_get ann.slots (a.0.first_slot + s)) _ i b.2 in
-    let is = same_Some _ i c.2 in
-    let at : a.0 ≡ f = same_Some a.0 f (sym a.1 ∙ g) in (
-      subst (λ (z : Method). slice_get core.slots (z.first_slot + s) ≡ Some i.0) at (b.1 ∙ ap (λ (j : Slot × (ℕ × Cap)). Some j.0) is),
-      subst (λ (z : Method). slice_get ann.slots (z.first_slot + s) ≡ Some i.1) at (c.1 ∙ ap (λ (j : Slot × (ℕ × Cap)). Some j.1) is),
-    )
-
--- What a definition says of its slot's type.
-record Defined (core : CoreData) (ann : Ann) (x : Node) (s : ℕ) : Type 0 where
-  child : ℕ
-  is_child : one_child x.children ≡ Some child
-  value : Ty
-  is_value : type_of ann child ≡ Some value
-  slot : Slot × (ℕ × Cap)
-  is_slot : slot_of core ann x.method s ≡ Some slot
-  ty : slot.1 ≡ defined_type slot.0.written value
-
-define_inv : (core : CoreData) (ann : Ann) (x : Node) (s : ℕ) (m : Masks) (q : Said) → define_says core ann x s m ≡ Some q → Defined core ann x s
-define_inv core ann x s m q e =
-    let a = bind_some (one_child x.children) _ q e in
-    let b = bind_some (type_of ann a.0) _ q a.2 in
-    let c = bind_some (slot_of core ann x.method s) _ q b.2 in
-    let d = kept (defines core c.0 b.0) (defined ann x s m) q c.2 in
-    let p = and_parts (same_place c.0.1 (defined_type c.0.0.written b.0)) (goes_to core b.0 c.0.1) d.0 in
-    record { child = a.0; is_child = a.1; value = b.0; is_value = b.1; slot = c.0; is_slot = c.1; ty = places_equal c.0.1 (defined_type c.0.0.written b.0) p.0 }
-
--- ---- bodies
-
-body_starts : (core : CoreData) (ann : Ann) (x : Node) (m : Masks) (q : Said) (f : Method) → body_says core ann x m ≡ Some q → slice_get core.methods x.method ≡ Some f → m ≡ (first (1 + length f.params), start_set core f)
-body_starts core ann x m q f e g =
-    let a = bind_some (slice_get core.methods x.method) _ q e in
-    let b = bind_some (one_child x.children) _ q a.2 in
-    let c = bind_some (slice_get ann.notes b.0) _ q b.2 in
-    let d = bind_some (through ann x.children m) _ q c.2 in
-    let k = kept (starts_method core a.0 m && result_ok core a.0.kind a.0.result c.0.ty) _ q d.2 in
-    let p = and_parts (starts_method core a.0 m) (result_ok core a.0.kind a.0.result c.0.ty) k.0 in
-    let r = and_parts (same m.0 (first (1 + length a.0.params))) (same m.1 (start_set core a.0)) p.0 in
-    subst (λ (z : Method). m ≡ (first (1 + length z.params), start_set core z)) (same_Some a.0 f (sym a.1 ∙ g))
-    (same_pair m.0 (first (1 + length a.0.params)) m.1 (start_set core a.0) (same_mask m.0 (first (1 + length a.0.params)) r.0) (same_mask m.1 (start_set core a.0) r.1))
-
 -- ---- two valid annotations
 
 meets_at : (core : CoreData) (ann : Ann) (n : ℕ) (x : Node) (t : Note) → Valid core ann → slice_get core.nodes n ≡ Some x → slice_get ann.notes n ≡ Some t → Meets core ann x t
@@ -147,106 +52,64 @@ meets_at core ann n x t v g h =
     let r = v.rules n (get_below core.nodes n x g) in
     subst (λ (y : Node). Meets core ann y t) (same_Some r.0 x (sym r.2 ∙ g)) (subst (λ (s : Note). Meets core ann r.0 s) (same_Some r.1 t (sym r.3 ∙ h)) r.4)
 
-body_method : (core : CoreData) (m : ℕ) (x : Method) (body : ℕ) (is : x.body ≡ Some body) (fit : BodyFits core m x body) → fit.root.method ≡ m
-body_method core m x body is fit =
-    let from = fit.from in
-    let at : node_end x.first_node x.body ≡ body + 1 = ap (node_end x.first_node) is in
-    let end : body < node_end x.first_node x.body = omega (arith, at) in
-    fit.own (body - x.first_node) fit.root (range_get core.nodes x.first_node (node_end x.first_node x.body) body fit.root from end fit.is_root)
+branches : (k : NodeKind) → (is_branch k ≡ false) ⊎ (k ≡ node.If)
+branches node.If = inr refl
+branches k = inl refl
 
-body_says_at : (core : CoreData) (ann : Ann) (x : Node) (t : Note) → x.kind ≡ node.Body → is_first x.kind ≡ true → Meets core ann x t → body_says core ann x (before t) ≡ Some (said_by t)
-body_says_at core ann x t e p m =
-    let r = first_rule core ann x (before t) t.rule x.kind (said_by t) p m in
-    subst (λ k. says core ann x (before t) (rule_of k) k ≡ Some (said_by t)) e (subst (λ q. says core ann x (before t) q x.kind ≡ Some (said_by t)) r m)
+row_end : (core : CoreData) (low high : ℕ) → Forest core low high [] → low ≡ high
+row_end core low high empty = refl
 
--- They agree on the notes below n, and on the slots that nodes below n define.
-record Agree (core : CoreData) (a b : Ann) (n : ℕ) : Type 0 where
-  notes : (k : ℕ) → k < n → slice_get a.notes k ≡ slice_get b.notes k
-  slots : (d : ℕ) (y : Node) (s : ℕ) (f : Method) → d < n → slice_get core.nodes d ≡ Some y → y.kind ≡ node.Define s → slice_get core.methods y.method ≡ Some f → slice_get a.slots (f.first_slot + s) ≡ slice_get b.slots (f.first_slot + s)
+-- A child that is evaluated has a note.
+note_of_child : (ann : Ann) (cs : List ℕ) (m : Masks) (i c : ℕ) → Threaded ann cs m → slice_get cs i ≡ Some c → (t : Note) × (slice_get ann.notes c ≡ Some t)
+note_of_child ann [] m i c h e = absurd (none-some c e)
+note_of_child ann (d ∷ cs) m zero c h e = let a = bind_some (slice_get ann.notes d) _ h.0 h.1 in (a.0, ap (slice_get ann.notes) (sym (same_Some d c e)) ∙ a.1)
+note_of_child ann (d ∷ cs) m (suc i) c h e =
+    let a = bind_some (slice_get ann.notes d) _ h.0 h.1 in
+    let k = kept (starts a.0 m) (through ann cs (after a.0)) h.0 a.2 in
+    note_of_child ann cs (after a.0) i c (h.0, k.1) e
 
-module _ (core : CoreData) (a b : Ann) (formed : Formed core) (kinds : FirstKinds core) (va : Valid core a) (vb : Valid core b) where
-  slots_within : (m : ℕ) (f : Method) → slice_get core.methods m ≡ Some f → f.first_slot + f.slots ≤ length core.slots
-  slots_within m f g = (run_within 0 _ (length core.slots) m (f.first_slot, f.slots) formed.slots_follow (get_map (λ y. (y.first_slot, y.slots)) core.methods m f g)).1
-
-  -- A slot whose definition comes before n, or whose type is written.
-  known_alike : (n m s : ℕ) (f : Method) (y : Slot) → Agree core a b n → slice_get core.methods m ≡ Some f → slice_get core.slots (f.first_slot + s) ≡ Some y → s < f.slots → ((l : LocalFits core m s y) → l.define < n) → slice_get a.slots (f.first_slot + s) ≡ slice_get b.slots (f.first_slot + s)
-  known_alike n m s f y same g h l before_n =
-      elim (slot_known core m f s y formed g l h) [
-        | inl w ↦ va.written (f.first_slot + s) y h w.0 w.1 ∙ sym (vb.written (f.first_slot + s) y h w.0 w.1)
-        | inr fit ↦ same.slots fit.define fit.definition s f (before_n fit) fit.is_definition fit.defines (ap (slice_get core.methods) fit.own ∙ g)
-      ]
-
-  used_alike : (n : ℕ) (x : Node) (s : ℕ) → Agree core a b n → slice_get core.nodes n ≡ Some x → NamesSlot core x.method s → Uses s x.kind → (f : Method) → slice_get core.methods x.method ≡ Some f → slice_get a.slots (f.first_slot + s) ≡ slice_get b.slots (f.first_slot + s)
-  used_alike n x s same g names uses f i =
-      let l : s < f.slots = subst (λ (z : Method). s < z.slots) (same_Some names.1.0 f (sym names.1.1 ∙ i)) names.1.2 in
-      let room = slots_within x.method f i in
-      let y = get_within core.slots (f.first_slot + s) (omega (arith, l, room)) in
-      known_alike n x.method s f y.0 same i y.1 l (λ fit. (fit.later n x g refl uses).0)
-
-  define_alike : (n : ℕ) (x : Node) (s : ℕ) → Agree core a b n → Each (λ i c. c < n) x.children → Defined core a x s → Defined core b x s → (f : Method) → slice_get core.methods x.method ≡ Some f → slice_get a.slots (f.first_slot + s) ≡ slice_get b.slots (f.first_slot + s)
-  define_alike n x s same h p q f i =
-      let pa = slot_parts core a x.method s p.slot p.is_slot f i in
-      let pb = slot_parts core b x.method s q.slot q.is_slot f i in
-      let c : p.child ≡ q.child = same_Some p.child q.child (sym p.is_child ∙ q.is_child) in
-      let v : p.value ≡ q.value = same_Some p.value q.value (sym p.is_value ∙ type_same core a b n same.notes p.child (child_below core a b n same.notes x.children p.child h p.is_child) ∙ ap (type_of b) c ∙ q.is_value) in
-      let y : p.slot.0 ≡ q.slot.0 = same_Some p.slot.0 q.slot.0 (sym pa.0 ∙ pb.0) in
-      pa.1 ∙ ap Some (p.ty ∙ ap (λ (z : Slot). defined_type z.written p.value) y ∙ ap (defined_type q.slot.0.written) v ∙ sym q.ty) ∙ sym pb.1
-
-  looks_alike : (n : ℕ) (x : Node) (k : NodeKind) (m : Masks) (p q : Said) → Agree core a b n → slice_get core.nodes n ≡ Some x → Each (λ i c. c < n) x.children → x.kind ≡ k → says core a x m (rule_of k) k ≡ Some p → says core b x m (rule_of k) k ≡ Some q → LooksAlike core a b x k
-  looks_alike n x (node.Local s) m p q same g h e u v = slot_same core a b n same.notes x h s (used_alike n x s same g (subst (NamesFit core x.method) e (formed.nodes n x g).names) (subst (Uses s) (sym e) refl))
-  looks_alike n x (node.Consume s) m p q same g h e u v = slot_same core a b n same.notes x h s (used_alike n x s same g (subst (NamesFit core x.method) e (formed.nodes n x g).names) (subst (Uses s) (sym e) refl))
-  looks_alike n x (node.Define s) m p q same g h e u v = slot_same core a b n same.notes x h s (define_alike n x s same h (define_inv core a x s m p u) (define_inv core b x s m q v))
-  looks_alike n x k m p q same g h e u v = tt
-
-  -- The note and the slot of node n agree too.
-  defined_at : (n : ℕ) (x : Node) (k : NodeKind) (m : Masks) (p q : Said) (s : ℕ) → Agree core a b n → Each (λ i c. c < n) x.children → k ≡ node.Define s → says core a x m (rule_of k) k ≡ Some p → says core b x m (rule_of k) k ≡ Some q → (f : Method) → slice_get core.methods x.method ≡ Some f → slice_get a.slots (f.first_slot + s) ≡ slice_get b.slots (f.first_slot + s)
-  defined_at n x k m p q s same h e u v =
-      define_alike n x s same h
-      (define_inv core a x s m p (subst (λ j. says core a x m (rule_of j) j ≡ Some p) e u))
-      (define_inv core b x s m q (subst (λ j. says core b x m (rule_of j) j ≡ Some q) e v))
-
-  node_step : (low n : ℕ) (x : Node) (s t : Note) → slice_get core.nodes n ≡ Some x → Forest core low n x.children → Agree core a b n → slice_get a.notes n ≡ Some s → slice_get b.notes n ≡ Some t → before s ≡ before t → Agree core a b (n + 1)
-  node_step low n x s t g tree_of same ga gb m =
-      let h = forest_below core low n x.children tree_of in
-      let p = kinds n x g in
-      let ma = meets_at core a n x s va g ga in
-      let mb = meets_at core b n x t vb g gb in
-      let ra = first_rule core a x (before s) s.rule x.kind (said_by s) p ma in
-      let rb = first_rule core b x (before t) t.rule x.kind (said_by t) p mb in
-      let ea : says core a x (before s) (rule_of x.kind) x.kind ≡ Some (said_by s) = subst (λ r. says core a x (before s) r x.kind ≡ Some (said_by s)) ra ma in
-      let eb : says core b x (before s) (rule_of x.kind) x.kind ≡ Some (said_by t) = subst (λ k. says core b x k (rule_of x.kind) x.kind ≡ Some (said_by t)) (sym m) (subst (λ r. says core b x (before t) r x.kind ≡ Some (said_by t)) rb mb) in
-      let looks = looks_alike n x x.kind (before s) (said_by s) (said_by t) same g h refl ea eb in
-      let said = same_Some (said_by s) (said_by t) (sym ea ∙ says_same core a b n same.notes x h x.kind (before s) p looks ∙ eb) in
-      let eq = notes_equal s t (ra ∙ sym rb) m said in
-      record {
-        notes = λ k l. elim (cases_lt k n) [
-          | inl below ↦ same.notes k below
-          | inr at ↦ let e : n ≡ k = omega (arith, l, at) in subst (λ j. slice_get a.notes j ≡ slice_get b.notes j) e (ga ∙ ap Some eq ∙ sym gb)
-        ];
-        slots = λ d y i f l gd kd md. elim (cases_lt d n) [
-          | inl below ↦ same.slots d y i f below gd kd md
-          | inr at ↦ let e : d ≡ n = omega (arith, l, at) in
-              let is : y ≡ x = same_Some y x (sym gd ∙ ap (slice_get core.nodes) e ∙ g) in
-              defined_at n x x.kind (before s) (said_by s) (said_by t) i same h (sym (ap (λ (z : Node). z.kind) is) ∙ kd) ea eb f (sym (ap (λ (z : Node). slice_get core.methods z.method) is) ∙ md)
-        ];
-      }
-
+module _ (core : CoreData) (a b : Ann) (formed : Formed core) (va : Valid core a) (vb : Valid core b) where
   -- A node that starts from the same masks in both: what stands in it agrees, and so does it.
   mutual
     same_tree : (low n : ℕ) (s t : Note) → Tree core low n → Agree core a b low → slice_get a.notes n ≡ Some s → slice_get b.notes n ≡ Some t → before s ≡ before t → Agree core a b (n + 1)
     same_tree low n s t (tree x g f) same ga gb m =
-        let p = kinds n x g in
-        let arity = (formed.nodes n x g).arity in
         let ma = meets_at core a n x s va g ga in
         let mb = meets_at core b n x t vb g gb in
-        let ra = first_rule core a x (before s) s.rule x.kind (said_by s) p ma in
-        let rb = first_rule core b x (before t) t.rule x.kind (said_by t) p mb in
-        let ea : says core a x (before s) (rule_of x.kind) x.kind ≡ Some (said_by s) = subst (λ r. says core a x (before s) r x.kind ≡ Some (said_by s)) ra ma in
-        let eb : says core b x (before t) (rule_of x.kind) x.kind ≡ Some (said_by t) = subst (λ r. says core b x (before t) r x.kind ≡ Some (said_by t)) rb mb in
-        let ta = threads core a x (before s) x.kind (said_by s) p arity ea in
-        let tb = threads core b x (before t) x.kind (said_by t) p arity eb in
-        let inside = same_forest low n x.children (before s) ta.0 tb.0 f same ta.1 (subst (λ k. through b x.children k ≡ Some tb.0) (sym m) tb.1) in
-        node_step low n x s t g f inside ga gb m
+        let inside : Agree core a b n = elim (branches x.kind) [
+          | inl plain ↦ let arity = (formed.nodes n x g).arity in
+              let ta = threads core a x (before s) (said_by s) s.rule x.kind plain arity ma in
+              let tb = threads core b x (before t) (said_by t) t.rule x.kind plain arity mb in
+              same_forest low n x.children (before s) ta.0 tb.0 f same ta.1 (subst (λ k. through b x.children k ≡ Some tb.0) (sym m) tb.1)
+          | inr if ↦ let wa = if_threads core a x (before s) (said_by s) s.rule if ma in
+              let wb = if_threads core b x (before t) (said_by t) t.rule if mb in
+              same_branches low n x.children (before s) f (subst (λ k. HasArity k (length x.children)) if (formed.nodes n x g).arity) same wa.0 wa.1 (subst (Threaded b (then_way x.children)) (sym m) wb.0) (subst (Threaded b (else_way x.children)) (sym m) wb.1)
+        ] in
+        node_step core a b formed va.written vb.written n x s t g (forest_below core low n x.children f) inside ga gb ma mb m
+
+    -- Both branches of an `if` follow the condition.
+    same_branches : (low high : ℕ) (cs : List ℕ) (m : Masks) → Forest core low high cs → length cs ≡ 3 → Agree core a b low → Threaded a (then_way cs) m → Threaded a (else_way cs) m → Threaded b (then_way cs) m → Threaded b (else_way cs) m → Agree core a b high
+    same_branches low high [] m f count same ta ea tb eb = absurd (omega (arith, count))
+    same_branches low high (c ∷ []) m f count same ta ea tb eb = absurd (omega (arith, count))
+    same_branches low high (c ∷ d ∷ []) m f count same ta ea tb eb = absurd (omega (arith, count))
+    same_branches low high (c ∷ d ∷ e ∷ []) m (more t f) count same ta ea tb eb =
+        let ca = note_of_child a (c ∷ d ∷ []) m 0 c ta refl in
+        let cb = note_of_child b (c ∷ d ∷ []) m 0 c tb refl in
+        let one = same_tree low c ca.0 cb.0 t same ca.1 cb.1 (first_starts a (c ∷ d ∷ []) m c ca.0 ta refl ca.1 ∙ sym (first_starts b (c ∷ d ∷ []) m c cb.0 tb refl cb.1)) in
+        let eq : ca.0 ≡ cb.0 = same_Some ca.0 cb.0 (sym ca.1 ∙ one.notes c (omega arith) ∙ cb.1) in
+        let da = note_of_child a (c ∷ d ∷ []) m 1 d ta refl in
+        let db = note_of_child b (c ∷ d ∷ []) m 1 d tb refl in
+        let fa = note_of_child a (c ∷ e ∷ []) m 1 e ea refl in
+        let fb = note_of_child b (c ∷ e ∷ []) m 1 e eb refl in
+        same_two (c + 1) high d e da.0 db.0 fa.0 fb.0 f one da.1 db.1 fa.1 fb.1
+        (next_starts a (c ∷ d ∷ []) m 0 c d ca.0 da.0 ta refl refl ca.1 da.1 ∙ ap after eq ∙ sym (next_starts b (c ∷ d ∷ []) m 0 c d cb.0 db.0 tb refl refl cb.1 db.1))
+        (next_starts a (c ∷ e ∷ []) m 0 c e ca.0 fa.0 ea refl refl ca.1 fa.1 ∙ ap after eq ∙ sym (next_starts b (c ∷ e ∷ []) m 0 c e cb.0 fb.0 eb refl refl cb.1 fb.1))
+    same_branches low high (c ∷ d ∷ e ∷ g ∷ cs) m f count same ta ea tb eb = absurd (omega (arith, count))
+
+    same_two : (low high d e : ℕ) (da db fa fb : Note) → Forest core low high (d ∷ e ∷ []) → Agree core a b low → slice_get a.notes d ≡ Some da → slice_get b.notes d ≡ Some db → slice_get a.notes e ≡ Some fa → slice_get b.notes e ≡ Some fb → before da ≡ before db → before fa ≡ before fb → Agree core a b high
+    same_two low high d e da db fa fb (more t f) same gda gdb gfa gfb second third = same_last (d + 1) high e fa fb f (same_tree low d da db t same gda gdb second) gfa gfb third
+
+    same_last : (low high e : ℕ) (fa fb : Note) → Forest core low high (e ∷ []) → Agree core a b low → slice_get a.notes e ≡ Some fa → slice_get b.notes e ≡ Some fb → before fa ≡ before fb → Agree core a b high
+    same_last low high e fa fb (more t f) same gfa gfb third = subst (Agree core a b) (row_end core (e + 1) high f) (same_tree low e fa fb t same gfa gfb third)
 
     same_forest : (low high : ℕ) (cs : List ℕ) (m ma mb : Masks) → Forest core low high cs → Agree core a b low → through a cs m ≡ Some ma → through b cs m ≡ Some mb → Agree core a b high
     same_forest low high [] m ma mb empty same ea eb = same
@@ -269,11 +132,10 @@ module _ (core : CoreData) (a b : Ann) (formed : Formed core) (kinds : FirstKind
       let t = get_within b.notes body (omega (arith, l, nb)) in
       let ma = meets_at core a body fit.root s.0 va fit.is_root s.1 in
       let mb = meets_at core b body fit.root t.0 vb fit.is_root t.1 in
-      let p = kinds body fit.root fit.is_root in
       let own : fit.root.method ≡ m = body_method core m x body is fit in
       let at : slice_get core.methods fit.root.method ≡ Some x = ap (slice_get core.methods) own ∙ g in
-      let ea = body_says_at core a fit.root s.0 fit.is_body p ma in
-      let eb = body_says_at core b fit.root t.0 fit.is_body p mb in
+      let ea = body_says_at core a fit.root s.0 fit.is_body ma in
+      let eb = body_says_at core b fit.root t.0 fit.is_body mb in
       same_tree x.first_node body s.0 t.0 (body_tree core m x body fit) same s.1 t.1 (body_starts core a fit.root (before s.0) (said_by s.0) x ea at ∙ sym (body_starts core b fit.root (before t.0) (said_by t.0) x eb at))
 
   method_alike : (m : ℕ) (x : Method) (o : Option ℕ) → slice_get core.methods m ≡ Some x → x.body ≡ o → Agree core a b x.first_node → Agree core a b (x.first_node + (node_end x.first_node o - x.first_node))
@@ -307,7 +169,7 @@ module _ (core : CoreData) (a b : Ann) (formed : Formed core) (kinds : FirstKind
       let high : k < f.first_slot + f.slots = subst (λ (z : ℕ × ℕ). k < z.0 + z.1) (sym q.2) r.4 in
       let at : f.first_slot + (k - f.first_slot) ≡ k = omega (arith, low) in
       let y = get_within core.slots k l in
-      let known = known_alike (length core.nodes) r.0 (k - f.first_slot) f y.0 all_alike q.1 (ap (slice_get core.slots) at ∙ y.1) (omega (arith, low, high)) (λ fit. get_below core.nodes fit.define fit.definition fit.is_definition) in
+      let known = known_alike core a b formed va.written vb.written (length core.nodes) r.0 (k - f.first_slot) f y.0 all_alike q.1 (ap (slice_get core.slots) at ∙ y.1) (omega (arith, low, high)) (λ fit. get_below core.nodes fit.define fit.definition fit.is_definition) in
       subst (λ z. slice_get a.slots z ≡ slice_get b.slots z) at known
 
   annotations_equal : a ≡ b
@@ -317,4 +179,4 @@ module _ (core : CoreData) (a b : Ann) (formed : Formed core) (kinds : FirstKind
       ap (λ z. record { slots = z; notes = a.notes }) slots ∙ ap (λ z. record { slots = b.slots; notes = z }) notes
 
 pub one_valid : OneValid
-one_valid core a b f k va vb = annotations_equal core a b f k va vb
+one_valid core a b f va vb = annotations_equal core a b f va vb

@@ -1,12 +1,9 @@
--- Cores of the first kinds of nodes, of which at most one annotation is valid.
+-- Cores of the first kinds of nodes.
 use Rattle.std.specs.Prelude.{◌≡◌, Bool, true, false}
 use Rattle.pc_core.specs.declared.nodes.NodeKind.{NodeKind}
 use Rattle.pc_core.specs.declared.nodes.NodeKind.TheVariants as node
 use Rattle.pc_core.specs.CoreData.{CoreData}
 use Rattle.pc_core.specs.Words.{Each}
-use Rattle.pc_core.specs.Formed.{Formed}
-use Rattle.pc_ann.specs.declared.annotation.Ann.{Ann}
-use Rattle.pc_rules.specs.Valid.{Valid}
 
 -- Primitives' values, new objects, locals and their definitions, sequences and bodies.
 abbrev pub is_first : NodeKind → Bool
@@ -21,7 +18,3 @@ is_first k = false
 
 abbrev pub FirstKinds : CoreData → Type 0
 FirstKinds core = Each (λ n x. is_first x.kind ≡ true) core.nodes
-
--- At most one annotation of such a core is valid.
-abbrev pub OneValid : Type 0
-OneValid = (core : CoreData) (a b : Ann) → Formed core → FirstKinds core → Valid core a → Valid core b → a ≡ b

@@ -10,3 +10,9 @@ pub mod Statements
 pub mod Example
 pub mod Trees
 pub mod First
+pub mod Alike
+pub mod Slotted
+pub mod Threads
+pub mod OneRule
+pub mod Homes
+pub mod Agreeing

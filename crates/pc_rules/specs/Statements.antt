@@ -11,6 +11,8 @@ use Rattle.pc_ann.specs.Masks.{IsIn}
 use Rattle.pc_rules.specs.declared.said.Said.{Said}
 use Rattle.pc_rules.specs.Parts.{Masks, before, through}
 use Rattle.pc_rules.specs.Rules.{says, said_by, Meets}
+use Rattle.pc_rules.specs.Valid.{Valid}
+use Rattle.pc_core.specs.Formed.{Formed}
 
 -- Two notes of one node that meet the same rule from the same masks say the same type and the same masks behind it.
 abbrev pub RulesDetermine : Type 0
@@ -37,3 +39,7 @@ abbrev pub SeqTakesOut : Type 0
 SeqTakesOut =
     (core : CoreData) (ann : Ann) (x : Node) (m n : Masks) (r : Said) → says core ann x m rule.Seq node.Seq ≡ Some r → through ann x.children m ≡ Some n
     → ((i : ℕ) → (IsIn r.live i) ↔ (IsIn n.0 i × ((Defines core x.children i) → ⊥))) × (r.set ≡ n.1)
+
+-- At most one annotation of a core is valid.
+abbrev pub OneValid : Type 0
+OneValid = (core : CoreData) (a b : Ann) → Formed core → Valid core a → Valid core b → a ≡ b

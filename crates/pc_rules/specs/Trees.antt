@@ -1,6 +1,7 @@
 -- The nodes of a method as a tree. Since they stand in post-order, what stands in a node is the run of nodes up to it.
-use Rattle.std.specs.Prelude.{◌≡◌, ℕ, suc, ◌+◌, List, [], ◌∷◌, ◌++◌, length, Some, slice_get, refl}
+use Rattle.std.specs.Prelude.{◌≡◌, ℕ, zero, suc, ◌+◌, ◌<◌, ◌≤◌, List, [], ◌∷◌, ◌++◌, length, Some, slice_get, refl}
 use Rattle.std.proofs.Common.{ap, sym, subst, ◌∙◌, arith}
+use Rattle.std.proofs.lemmas.Option.{same_Some, none-some}
 use Rattle.pc_core.specs.declared.declarations.Method.{Method}
 use Rattle.pc_core.specs.declared.nodes.Node.{Node}
 use Rattle.pc_core.specs.CoreData.{CoreData}
@@ -46,3 +47,18 @@ body_tree core m x b f =
     only_tree core x.first_node (x.first_node + length (own_nodes core x)) b
     (forest_order core x.first_node x.first_node (own_nodes core x) [] (b ∷ []) f.post_order
     (λ i y g. (get_range core.nodes x.first_node (node_end x.first_node x.body) i y g).1) empty)
+
+-- A tree begins at or before its root.
+mutual
+  pub tree_le : (core : CoreData) (low n : ℕ) → Tree core low n → low ≤ n
+  tree_le core low n (tree x g f) = forest_le core low n x.children f
+
+  pub forest_le : (core : CoreData) (low high : ℕ) (cs : List ℕ) → Forest core low high cs → low ≤ high
+  forest_le core low high [] empty = omega arith
+  forest_le core low high (c ∷ cs) (more t f) = let l = tree_le core low c t in let m = forest_le core (c + 1) high cs f in omega (arith, l, m)
+
+-- The roots of a row of trees stand in it.
+pub forest_below : (core : CoreData) (low high : ℕ) (cs : List ℕ) → Forest core low high cs → Each (λ i c. c < high) cs
+forest_below core low high [] f i c e = absurd (none-some c e)
+forest_below core low high (d ∷ cs) (more t f) zero c e = let m = forest_le core (d + 1) high cs f in let s = same_Some d c e in omega (arith, m, s)
+forest_below core low high (d ∷ cs) (more t f) (suc i) c e = forest_below core (d + 1) high cs f i c e

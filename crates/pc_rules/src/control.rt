@@ -174,8 +174,8 @@ pub(crate) fn recover_says(
     Some(says_of(Some((body.0, form)), reached))
 }
 
-// The set mask with which a method starts.
-fn start_set(core: &Core, method: &Method) -> Mask
+/// The set fields with which a method starts: none in a constructor, and all elsewhere. Takes no memory.
+pub fn start_set(core: &Core, method: &Method) -> Mask
     ensures { result ≡ spec.start_set core.now method.now }
 {
     if constructs(method.kind) {
@@ -185,8 +185,8 @@ fn start_set(core: &Core, method: &Method) -> Mask
     }
 }
 
-// The live mask with which a method starts.
-fn start_live(method: &Method) -> Mask
+/// The live slots with which a method starts: `this` and the parameters. Takes no memory.
+pub fn start_live(method: &Method) -> Mask
     ensures { result ≡ first (1 + length method.now.params) }
 {
     let count = method.params.len();

@@ -1,5 +1,4 @@
 //! Laws of the rules. Each call does nothing, and its contract is the law.
-ghost use Rattle.pc_rules.specs.First as first;
 ghost use Rattle.pc_rules.specs.Statements as law;
 
 /// A rule and the masks before a node determine its type and the masks after it.
@@ -26,8 +25,8 @@ pub fn seq_takes_out()
     ensures { law.SeqTakesOut }
 {}
 
-/// At most one annotation of a core of the first kinds of nodes is valid: primitives' values, new objects, locals and their
-/// definitions, sequences and bodies.
+/// At most one annotation of a core is valid: the masks come from those with which the methods start, and each rule fixes
+/// its type.
 pub fn one_annotation_is_valid()
-    ensures { first.OneValid }
+    ensures { law.OneValid }
 {}

@@ -65,8 +65,8 @@ pub(crate) fn reachable(node: &Node, slot: (Slot, (u32, Cap))) -> bool
     slot.0.depth == node.depth || sendable(slot.1.1)
 }
 
-// Whether a method is a constructor.
-pub(crate) fn constructs(kind: MethodKind) -> bool
+/// Whether a method of this kind is a constructor. Takes no memory.
+pub fn constructs(kind: MethodKind) -> bool
     ensures { result ≡ spec.constructs kind }
 {
     matches!(kind, MethodKind::New | MethodKind::Spawn)
@@ -94,8 +94,8 @@ fn all_of(entity: &EntityDef) -> Mask
     }
 }
 
-// Whether a set mask has all fields of the entity.
-pub(crate) fn full(core: &Core, entity: u32, set: Mask) -> bool
+/// Whether a set mask has all fields of the entity. Takes no memory.
+pub fn full(core: &Core, entity: u32, set: Mask) -> bool
     ensures { result ≡ spec.full core.now entity set }
 {
     all_fields(core, entity).is_within(set)

@@ -1,5 +1,5 @@
 -- When the declarations of a core fit each other, and the first one that does not.
-use Rattle.std.specs.Prelude.{◌≡◌, ℕ, ◌+◌, Bool, true, false, ◌&&◌, List, [], ◌∷◌, ◌++◌, length, Option, Some, None, slice_get, if◌then◌else◌}
+use Rattle.std.specs.Prelude.{◌≡◌, ◌↔◌, ℕ, ◌+◌, Bool, true, false, ◌&&◌, List, [], ◌∷◌, ◌++◌, length, Option, Some, None, slice_get, if◌then◌else◌}
 use Rattle.pc_caps.specs.Order.{IsBelow, is_below}
 use Rattle.pc_caps.specs.Tables.{unalias, fits, sendable}
 use Rattle.pc_caps.specs.declared.capability.Form.{Form}
@@ -10,6 +10,7 @@ use Rattle.pc_core.specs.declared.declarations.MethodKind.{MethodKind}
 use Rattle.pc_core.specs.declared.declarations.MethodKind.TheVariants as method
 use Rattle.pc_core.specs.declared.declarations.ParamInfo.{ParamInfo}
 use Rattle.pc_core.specs.CoreData.{CoreData}
+use Rattle.pc_core.specs.Formed.{Formed}
 use Rattle.pc_core.specs.Words.{◌>>=◌, Each}
 use Rattle.pc_core.specs.Lookup.{own_methods, method_named, IsMethod}
 use Rattle.pc_sub.specs.declared.faults.DeclFault.{DeclFault}
@@ -45,15 +46,21 @@ pub record StandsFor (core : CoreData) (t y : Method) : Type 0 where
   pub entity : Sub core y.result.0 t.result.0
   pub form : IsBelow y.result.1 t.result.1
 
--- For each method of the trait, the entity has one of that name and kind, which may stand for it.
+-- The entity has a method of the name and kind of the trait's method t, and it may stand for t.
+abbrev pub HasFor : CoreData → ℕ → Method → Type 0
+HasFor core e t = (m : ℕ) × (y : Method) × (IsMethod core e t.name m) × (slice_get core.methods m ≡ Some y) × (y.kind ≡ t.kind) × StandsFor core t y
+
+-- An entity conforms to a trait: it has a method for each of the trait's.
 abbrev pub Conforms : CoreData → ℕ → ℕ → Type 0
-Conforms core e b =
-    (x : EntityDef) → slice_get core.entities b ≡ Some x
-    → Each (λ i t. (m : ℕ) × (y : Method) × (IsMethod core e t.name m) × (slice_get core.methods m ≡ Some y) × (y.kind ≡ t.kind) × StandsFor core t y) (own_methods core x)
+Conforms core e b = (x : EntityDef) → slice_get core.entities b ≡ Some x → Each (λ i t. HasFor core e t) (own_methods core x)
+
+-- Where they must be, all parameters of the method are sendable.
+abbrev pub TakesSendable : Method → Type 0
+TakesSendable x = takes_sendable x.kind x.result.1 ≡ true → Each (λ i p. sendable p.cap ≡ true) x.params
 
 -- The declarations fit: what must be sendable is, and each entity conforms to each trait of its `is` list.
 pub record DeclOk (core : CoreData) : Type 0 where
-  pub sendable : Each (λ m x. takes_sendable x.kind x.result.1 ≡ true → Each (λ i p. sendable p.cap ≡ true) x.params) core.methods
+  pub sendable : Each (λ m x. TakesSendable x) core.methods
   pub conform : Each (λ e x. Each (λ i b. Conforms core e b) x.provides) core.entities
 
 -- ---- the declarations that fail, in order
@@ -63,19 +70,34 @@ abbrev pub not_sendable : ℕ → ℕ → List ParamInfo → List DeclFault
 not_sendable m i [] = []
 not_sendable m i (p ∷ ps) = (if sendable p.cap then [] else fault.NotSendable m i ∷ []) ++ not_sendable m (i + 1) ps
 
+-- Those of method m.
+abbrev pub own_faults : ℕ → Method → List DeclFault
+own_faults m x = if takes_sendable x.kind x.result.1 then not_sendable m 0 x.params else []
+
 -- Methods, from number m on.
 abbrev pub parameter_faults : ℕ → List Method → List DeclFault
 parameter_faults m [] = []
-parameter_faults m (x ∷ xs) = (if takes_sendable x.kind x.result.1 then not_sendable m 0 x.params else []) ++ parameter_faults (m + 1) xs
+parameter_faults m (x ∷ xs) = own_faults m x ++ parameter_faults (m + 1) xs
+
+abbrev pub param_fits : CoreData → ParamInfo → ParamInfo → Bool
+param_fits core p q = is_sub core p.entity q.entity && fits (unalias p.cap) q.cap
 
 -- As many parameters, and each fits.
 abbrev pub params_fit : CoreData → List ParamInfo → List ParamInfo → Bool
 params_fit core [] [] = true
-params_fit core (p ∷ ps) (q ∷ qs) = (is_sub core p.entity q.entity && fits (unalias p.cap) q.cap) && params_fit core ps qs
+params_fit core (p ∷ ps) (q ∷ qs) = param_fits core p q && params_fit core ps qs
 params_fit core ps qs = false
 
+-- What the trait's method t takes, y takes too.
+abbrev pub takes : CoreData → Method → Method → Bool
+takes core t y = fits (unalias t.receiver) y.receiver && params_fit core t.params y.params
+
+-- What y gives is below what t gives.
+abbrev pub gives : CoreData → Method → Method → Bool
+gives core t y = is_sub core y.result.0 t.result.0 && is_below y.result.1 t.result.1
+
 abbrev pub stands_for : CoreData → Method → Method → Bool
-stands_for core t y = (fits (unalias t.receiver) y.receiver && params_fit core t.params y.params) && (is_sub core y.result.0 t.result.0 && is_below y.result.1 t.result.1)
+stands_for core t y = takes core t y && gives core t y
 
 abbrev pub same_kind : MethodKind → MethodKind → Bool
 same_kind method.Fun method.Fun = true
@@ -122,3 +144,7 @@ declaration_faults core = parameter_faults 0 core.methods ++ entity_faults core 
 -- The first declaration that fails, or none.
 abbrev pub first_fault : CoreData → Option DeclFault
 first_fault core = slice_get (declaration_faults core) 0
+
+-- In a core whose parts fit together, none fails exactly where the declarations fit.
+abbrev pub NoFaultWhereFit : Type 0
+NoFaultWhereFit = (core : CoreData) → Formed core → (first_fault core ≡ None) ↔ DeclOk core

@@ -1,3 +1,4 @@
 pub mod Sub
 pub mod Declarations
 pub mod Above
+pub mod Faults

@@ -1,8 +1,15 @@
 //! Subtypes between entities, and when the declarations of a program fit each other.
 #![tactic(auto)]
 
+mod checks;
 mod faults;
+mod laws;
+mod parameters;
+mod stands;
 mod subtypes;
+mod traits;
 
+pub use checks::declarations;
 pub use faults::DeclFault;
+pub use laws::no_fault_where_declarations_fit;
 pub use subtypes::is_sub;

@@ -2,14 +2,14 @@
 use Rattle.std.specs.Prelude.{◌≡◌, ◌⊎◌, ℕ, zero, suc, ◌+◌, ◌-◌, ◌<◌, ◌∷◌, ◌++◌, map, length, Some, slice_get}
 use Rattle.std.proofs.Common.{inl, inr, ap, sym, subst, ◌∙◌, arith}
 use Rattle.std.proofs.lemmas.List.{length-map}
-use Rattle.std.proofs.lemmas.Option.{same_Some}
+use Rattle.std.proofs.lemmas.Option.{same_Some, none-some}
 use Rattle.pc_caps.specs.declared.capability.Cap.{Cap}
 use Rattle.pc_core.specs.declared.declarations.Method.{Method}
 use Rattle.pc_core.specs.declared.nodes.Slot.{Slot}
 use Rattle.pc_core.specs.CoreData.{CoreData}
 use Rattle.pc_core.specs.Lookup.{own_slots}
 use Rattle.pc_core.specs.Methods.{LocalFits, SlotsFit, this_slot, param_slot}
-use Rattle.pc_core.specs.Runs.{map_get, range_get}
+use Rattle.pc_core.specs.Runs.{map_get, get_range, range_get}
 use Rattle.pc_core.specs.Growing.{append_get}
 use Rattle.pc_core.specs.Formed.{Formed}
 
@@ -37,4 +37,13 @@ slot_known core m x s y f g l e =
       | inr fit ↦ let at : x.first_slot + s - x.first_slot ≡ s = omega arith in
           let there = range_get core.slots x.first_slot (x.first_slot + x.slots) (x.first_slot + s) y (omega arith) (omega (arith, l)) e in
           slot_among core m x fit s y (ap (λ zs. slice_get zs s) (sym fit.1) ∙ ap (slice_get (own_slots core x)) (sym at) ∙ there)
+    ]
+
+-- The first slot of a method with a body is that of `this`.
+pub this_known : (core : CoreData) (m : ℕ) (x : Method) (b : ℕ) → Formed core → slice_get core.methods m ≡ Some x → x.body ≡ Some b → slice_get core.slots (x.first_slot + 0) ≡ Some (this_slot m x)
+this_known core m x b f g e =
+    elim (f.methods m x g).slots [
+      | inl z ↦ let is = same_Some x _ (sym (ap (slice_get core.methods) (sym z) ∙ g) ∙ f.built_in.method) in
+          absurd (none-some b (sym (ap (λ (k : Method). k.body) is) ∙ e))
+      | inr fit ↦ (get_range core.slots x.first_slot (x.first_slot + x.slots) 0 (this_slot m x) (ap (λ zs. slice_get zs 0) fit.1)).1
     ]

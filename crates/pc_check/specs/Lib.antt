@@ -1,0 +1,4 @@
+pub mod Sources
+pub mod Inference
+pub mod Faults
+pub mod Walked

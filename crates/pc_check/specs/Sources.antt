@@ -1,0 +1,65 @@
+-- Where the masks that reach a node come from.
+use Rattle.std.specs.Prelude.{◌≡◌, ◌⊎◌, ℕ, ◌+◌, ◌<◌, ◌≤◌, List, length, Some, slice_get}
+use Rattle.pc_core.specs.declared.declarations.Method.{Method}
+use Rattle.pc_core.specs.declared.nodes.Node.{Node}
+use Rattle.pc_core.specs.CoreData.{CoreData}
+use Rattle.pc_core.specs.Words.{Each, Has}
+use Rattle.pc_ann.specs.declared.annotation.Note.{Note}
+use Rattle.pc_ann.specs.declared.annotation.Ann.{Ann}
+use Rattle.pc_ann.specs.Masks.{first}
+use Rattle.pc_rules.specs.Parts.{Masks, after}
+use Rattle.pc_rules.specs.Control.{start_set}
+use Rattle.pc_rules.specs.Trees.{Tree}
+use Rattle.pc_rules.specs.Valid.{Reaches}
+use Rattle.pc_check.specs.declared.sources.Source.{Source}
+use Rattle.pc_check.specs.declared.sources.Source.TheVariants as source
+
+-- The masks with which a method starts.
+abbrev pub start_masks : CoreData → Method → Masks
+start_masks core f = (first (1 + length f.params), start_set core f)
+
+-- Whatever the notes are, the masks of this source reach node n: those with which a method starts, or those behind a node
+-- that comes before number `low`.
+abbrev pub Comes : CoreData → ℕ → ℕ → Source → Type 0
+Comes core low n (source.Start m) = (f : Method) × (slice_get core.methods m ≡ Some f) × ((ann : Ann) → Reaches core ann n (start_masks core f))
+Comes core low n (source.Behind s) = (s < low) × ((ann : Ann) (t : Note) → slice_get ann.notes s ≡ Some t → Reaches core ann n (after t))
+
+-- It is the source of node n, and comes before what stands in n.
+abbrev pub Placed : CoreData → ℕ → Source → Type 0
+Placed core n s = (low : ℕ) × Tree core low n × Comes core low n s
+
+-- Each node has its source.
+abbrev pub Sourced : CoreData → List Source → Type 0
+Sourced core sources = (length sources ≡ length core.nodes) × Each (λ n s. Placed core n s) sources
+
+-- ---- while they are found
+
+-- Node n is the body of a method.
+abbrev pub IsBody : CoreData → ℕ → Type 0
+IsBody core n = (m : ℕ) × (f : Method) × (slice_get core.methods m ≡ Some f) × (f.body ≡ Some n)
+
+-- Node n is a child of node p.
+abbrev pub IsChild : CoreData → ℕ → ℕ → Type 0
+IsChild core p n = (x : Node) × (slice_get core.nodes p ≡ Some x) × Has x.children n
+
+-- Node n is a body, or a child of a node from number i on.
+abbrev pub Known : CoreData → ℕ → ℕ → Type 0
+Known core i n = IsBody core n ⊎ ((p : ℕ) × (i ≤ p) × IsChild core p n)
+
+-- Each of these has its source.
+abbrev pub Filled : CoreData → List Source → ℕ → Type 0
+Filled core sources i = (length sources ≡ length core.nodes) × Each (λ n s. Known core i n → Placed core n s) sources
+
+-- Besides, the first j children of node x, which comes before them.
+abbrev pub PartFilled : CoreData → List Source → ℕ → Node → ℕ → Type 0
+PartFilled core sources i x j =
+    (length sources ≡ length core.nodes)
+    × Each (λ n s. (Known core i n ⊎ ((k : ℕ) × (k < j) × (slice_get x.children k ≡ Some n))) → Placed core n s) sources
+
+-- Where node x has the first source, its child of index i has the second.
+abbrev pub PassesOn : Node → ℕ → Source → Source → Type 0
+PassesOn x i s t = (core : CoreData) (p c : ℕ) → slice_get core.nodes p ≡ Some x → Placed core p s → slice_get x.children i ≡ Some c → Placed core c t
+
+-- Whatever the source of node x is.
+abbrev pub ComesLater : Node → ℕ → Source → Type 0
+ComesLater x i t = (s : Source) → PassesOn x i s t

@@ -1,0 +1,96 @@
+//! The walk through the nodes.
+ghost use Rattle.std.specs.Prelude.{◌≡◌, Some, Err, IfOk, IfErr};
+ghost use Rattle.pc_sub.specs.declared.faults.DeclFault.{DeclFault};
+ghost use Rattle.pc_sub.specs.Declarations.{DeclOk, first_fault};
+ghost use Rattle.pc_rules.specs.Valid.{Valid};
+ghost use Rattle.pc_check.specs.declared.fault.CheckFault.TheVariants as fault_of;
+ghost use Rattle.pc_check.specs.Faults.{Refuses};
+ghost use Rattle.pc_check.specs.Sources.{Sourced};
+ghost use Rattle.pc_check.specs.Walked.{Walked};
+
+use crate::fault::CheckFault;
+use crate::inference::{infer_note, leaves_unset, masks_from};
+use crate::slots::{first_types, infer_slot};
+use crate::sources::{Source, source_at, sources};
+use pc_ann::Ann;
+use pc_caps::List;
+use pc_core::Core;
+use pc_sub::declarations;
+use std::alloc::{AllocError, Global};
+
+// The annotation before the first node.
+fn nothing_noted(alloc: Global, core: &Core) -> Result<Ann, AllocError>
+    ensures { IfOk result (λ ann. Walked core.now ann 0) }
+{
+    let slots = first_types(alloc, core)?;
+    Ok(Ann {
+        slots: List::from_vec(slots),
+        notes: List::new(alloc),
+    })
+}
+
+// The nodes get their notes, one after the other.
+fn note_nodes(core: &Core, sources: &[Source], mut ann: Ann) -> Result<Ann, CheckFault>
+    requires declarations { DeclOk core.now }
+    requires sources { Sourced core.now sources.now }
+    requires ann { Walked core.now ann 0 }
+    ensures ok { IfOk result (Valid core.now) }
+    ensures err { IfErr result (Refuses core.now) }
+{
+    core.formed();
+    for number in 0..core.nodes().len() {
+        let node = &core.nodes()[number];
+        let masks = masks_from(core, &ann, source_at(sources, number));
+        infer_slot(core, &mut ann, node);
+        let note = match infer_note(core, &ann, node, masks) {
+            Some(note) => note,
+            None => {
+                return Err(CheckFault::NoRule {
+                    node: number as u32,
+                    live: masks.0,
+                    set: masks.1,
+                    so_far: ann,
+                });
+            }
+        };
+        ann.notes.push(note)?;
+        if leaves_unset(core, node, note) {
+            return Err(CheckFault::Unset {
+                method: node.method,
+                so_far: ann,
+            });
+        }
+    }
+    Ok(ann)
+}
+
+// The annotation of a core whose declarations fit.
+fn infer(alloc: Global, core: &Core) -> Result<Ann, CheckFault>
+    requires { DeclOk core.now }
+    ensures ok { IfOk result (Valid core.now) }
+    ensures err { IfErr result (Refuses core.now) }
+{
+    let sources = sources(alloc, core)?;
+    let ann = nothing_noted(alloc, core)?;
+    note_nodes(core, &sources, ann)
+}
+
+/// The core's annotation: its declarations are looked at first, and then its nodes, one after the other.
+///
+/// `Decl` comes exactly where the declarations fail, with the first that does. `NoRule` names a node of which no rule says
+/// anything, from the masks that reach it, and `Unset` the first constructor that leaves a field unset; `so_far` has a
+/// type for each slot, the written one where there is one, and the notes of the nodes before the first, or up to and with
+/// the second one's body, and these meet their rules.
+pub fn check(alloc: Global, core: &Core) -> Result<Ann, CheckFault>
+    // The annotation is valid.
+    ensures ok { IfOk result (Valid core.now) }
+    // The fault is shown by what it carries.
+    ensures err { IfErr result (Refuses core.now) }
+    // Where the declarations fail, no want of memory comes before their fault.
+    ensures declarations { (fault : DeclFault) → first_fault core.now ≡ Some fault → result ≡ Err (fault_of.Decl fault) }
+{
+    match declarations(core) {
+        Ok(()) => infer(alloc, core),
+        Err(fault) => Err(CheckFault::Decl(fault)),
+    }
+}

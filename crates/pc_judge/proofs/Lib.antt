@@ -1,0 +1,4 @@
+pub mod Kept
+pub mod AtNode
+pub mod Bodies
+pub mod Exact

@@ -1,0 +1,84 @@
+-- What is first wrong of an annotation of a core.
+use Rattle.std.specs.Prelude.{◌≡◌, ℕ, ◌<◌, length, Some, slice_get}
+use Rattle.pc_caps.specs.declared.capability.Cap.{Cap}
+use Rattle.pc_core.specs.declared.declarations.Method.{Method}
+use Rattle.pc_core.specs.declared.nodes.Slot.{Slot}
+use Rattle.pc_core.specs.CoreData.{CoreData}
+use Rattle.pc_core.specs.Words.{Each}
+use Rattle.pc_core.specs.Formed.{Formed}
+use Rattle.pc_ann.specs.declared.annotation.Ann.{Ann}
+use Rattle.pc_sub.specs.Declarations.{DeclOk, first_fault}
+use Rattle.pc_rules.specs.Rules.{MeetsRule}
+use Rattle.pc_rules.specs.Valid.{Valid, KeepsWritten, SetsFields}
+use Rattle.pc_judge.specs.declared.faults.JudgeFault.{JudgeFault}
+use Rattle.pc_judge.specs.declared.faults.JudgeFault.TheVariants as fault
+
+abbrev pub Fault : Type 0
+Fault = JudgeFault
+
+-- There is one entry for each slot and one note for each node.
+abbrev pub HasShape : CoreData → Ann → Type 0
+HasShape core ann = (length ann.slots ≡ length core.slots) × (length ann.notes ≡ length core.nodes)
+
+-- Slot number k, which is y, has the type that is written for it, if one is.
+abbrev pub KeepsType : Ann → ℕ → Slot → Type 0
+KeepsType ann k y = (ty : ℕ × Cap) → y.written ≡ Some ty → slice_get ann.slots k ≡ Some ty
+
+-- Slot number k is the first one that has another type than the written one.
+abbrev pub FirstWrong : CoreData → Ann → ℕ → Type 0
+FirstWrong core ann k =
+    ((y : Slot) × (slice_get core.slots k ≡ Some y) × (KeepsType ann k y → ⊥))
+    × ((j : ℕ) (y : Slot) → j < k → slice_get core.slots j ≡ Some y → KeepsType ann j y)
+
+-- Behind node n, where it is the body of a constructor, all fields are set.
+abbrev pub SetsBehind : CoreData → Ann → ℕ → Type 0
+SetsBehind core ann n = Each (λ m x. x.body ≡ Some n → SetsFields core ann x) core.methods
+
+-- Nothing is wrong before node n.
+pub record Before (core : CoreData) (ann : Ann) (n : ℕ) : Type 0 where
+  pub declarations : DeclOk core
+  pub shape : HasShape core ann
+  pub written : KeepsWritten core ann
+  pub rules : (k : ℕ) → k < n → MeetsRule core ann k
+  pub sets : (k : ℕ) → k < n → SetsBehind core ann k
+
+-- Node n, where nothing is wrong before it, does not meet its rule.
+abbrev pub FailsRule : CoreData → Ann → ℕ → Type 0
+FailsRule core ann n = (n < length core.nodes) × Before core ann n × (MeetsRule core ann n → ⊥)
+
+-- Nothing is wrong before the body of method m, a constructor, and the body meets its rule; but behind it a field is not
+-- set.
+abbrev pub LeavesUnset : CoreData → Ann → ℕ → Type 0
+LeavesUnset core ann m =
+    (x : Method) × (b : ℕ) × (slice_get core.methods m ≡ Some x) × (x.body ≡ Some b) × Before core ann b × MeetsRule core ann b
+    × (SetsFields core ann x → ⊥)
+
+-- The first fault.
+abbrev pub FirstFault : CoreData → Ann → JudgeFault → Type 0
+FirstFault core ann (fault.Decl f) = first_fault core ≡ Some f
+FirstFault core ann fault.Shape = DeclOk core × (HasShape core ann → ⊥)
+FirstFault core ann (fault.Slot k) = DeclOk core × HasShape core ann × FirstWrong core ann k
+FirstFault core ann (fault.Node n) = FailsRule core ann n
+FirstFault core ann (fault.Unset m) = LeavesUnset core ann m
+
+-- ---- one node
+
+-- Nothing is wrong at node n.
+abbrev pub Passes : CoreData → Ann → ℕ → Type 0
+Passes core ann n = MeetsRule core ann n × SetsBehind core ann n
+
+-- This is wrong at node n.
+abbrev pub FailsAt : CoreData → Ann → ℕ → JudgeFault → Type 0
+FailsAt core ann n (fault.Node k) = (k ≡ n) × (n < length core.nodes) × (MeetsRule core ann n → ⊥)
+FailsAt core ann n (fault.Unset m) = MeetsRule core ann n × ((x : Method) × (slice_get core.methods m ≡ Some x) × (x.body ≡ Some n) × (SetsFields core ann x → ⊥))
+FailsAt core ann n f = ⊥
+
+-- ---- laws
+
+-- At most one fault is the first.
+abbrev pub OneFirst : Type 0
+OneFirst = (core : CoreData) (ann : Ann) (f g : JudgeFault) → Formed core → FirstFault core ann f → FirstFault core ann g → f ≡ g
+
+-- Where one is, the annotation is not valid.
+abbrev pub NotValid : Type 0
+NotValid = (core : CoreData) (ann : Ann) (f : JudgeFault) → Formed core → FirstFault core ann f → Valid core ann → ⊥

@@ -1,0 +1,273 @@
+-- At most one rule says something of a node, by its kind, its children and the method that it calls.
+use Rattle.std.specs.Prelude.{◌≡◌, ◌⊎◌, ℕ, ◌+◌, Bool, true, false, cond, ◌&&◌, ◌||◌, not, List, [], ◌∷◌, length, take, drop, Option, Some, None, nat_eq, slice_get, slice_range, codes, if◌then◌else◌, refl}
+use Rattle.std.proofs.Common.{inl, inr, ap, sym, subst, ◌∙◌}
+use Rattle.std.proofs.lemmas.Option.{same_Some, none-some}
+use Rattle.std.proofs.lemmas.Bool.{and_parts, eqb-true}
+use Rattle.pc_caps.specs.Tables.{fits}
+use Rattle.pc_tree.specs.declared.kinds.Op.{Op}
+use Rattle.pc_tree.specs.declared.kinds.Op.TheVariants as op
+use Rattle.pc_core.specs.declared.declarations.EntityDef.{EntityDef}
+use Rattle.pc_core.specs.declared.declarations.Method.{Method}
+use Rattle.pc_core.specs.declared.declarations.MethodKind.{MethodKind}
+use Rattle.pc_core.specs.declared.declarations.MethodKind.TheVariants as method
+use Rattle.pc_core.specs.declared.nodes.Node.{Node}
+use Rattle.pc_core.specs.declared.nodes.NodeKind.{NodeKind}
+use Rattle.pc_core.specs.declared.nodes.NodeKind.TheVariants as node
+use Rattle.pc_core.specs.CoreData.{CoreData}
+use Rattle.pc_core.specs.Words.{◌>>=◌}
+use Rattle.pc_core.specs.Lookup.{place_of, method_name, own_methods, method_named}
+use Rattle.pc_core.specs.Members.{bind_some}
+use Rattle.pc_core.specs.Formed.{Formed}
+use Rattle.pc_ann.specs.declared.annotation.Ann.{Ann}
+use Rattle.pc_ann.specs.declared.annotation.Rule.{Rule}
+use Rattle.pc_ann.specs.declared.annotation.Rule.TheVariants as rule
+use Rattle.pc_rules.specs.declared.said.Said.{Said}
+use Rattle.pc_rules.specs.Parts.{Ty, Masks, reads_as, readable, through, type_of, one_child, two_types, last_child}
+use Rattle.pc_rules.specs.Values.{define_says}
+use Rattle.pc_rules.specs.Control.{body_says}
+use Rattle.pc_rules.specs.Fields.{incomplete, read_says, own_read_says, get_says, getown_says, write_says, own_write_says, put_says, putown_says}
+use Rattle.pc_rules.specs.Calls.{arguments, arguments_go, arguments_sendable, called, is_function, is_behaviour, calls, call_says, is_isolated, is_lent, lends, recovers, callrecover_says, sends, send_says, same_text, has_text, has_string, builtin_says}
+use Rattle.pc_rules.specs.Operators.{is_arithmetic, is_comparison, is_equality, is_add, is_xor, both_read_as, comparable, value_says, arith_says, compare_says, equal_says, join_says, xor_says}
+use Rattle.pc_rules.specs.Rules.{says}
+use Rattle.pc_rules.specs.Threads.{kept, kept_otherwise, false_true, bind_is}
+
+-- ---- which one
+
+abbrev pub method_rule : Ty → Option Method → Rule
+method_rule o None = rule.Builtin
+method_rule o (Some f) = if is_behaviour f.kind then rule.Send else (if fits o.1 f.receiver then rule.Call else rule.CallRecover)
+
+abbrev pub call_rule : CoreData → Option (Ty × ℕ) → Rule
+call_rule core None = rule.Builtin
+call_rule core (Some i) = method_rule i.0 (slice_get core.methods i.1)
+
+abbrev pub add_rule : Option (Ty × Ty) → Rule
+add_rule None = rule.Arith
+add_rule (Some vs) = if both_read_as 3 vs then rule.Join else rule.Arith
+
+abbrev pub operator_rule : Op → Option (Ty × Ty) → Rule
+operator_rule op.Add vs = add_rule vs
+operator_rule op.Lt vs = rule.Compare
+operator_rule op.Le vs = rule.Compare
+operator_rule op.Gt vs = rule.Compare
+operator_rule op.Ge vs = rule.Compare
+operator_rule op.Eq vs = rule.Equal
+operator_rule op.Ne vs = rule.Equal
+operator_rule op.Xor vs = rule.Logic
+operator_rule o vs = rule.Arith
+
+-- The rule that may say something of node x.
+abbrev pub rule_at : CoreData → Ann → Node → NodeKind → Rule
+rule_at core ann x (node.Number v) = rule.Number
+rule_at core ann x (node.Truth v) = rule.Truth
+rule_at core ann x (node.Text v) = rule.Text
+rule_at core ann x (node.Prim e) = rule.Prim
+rule_at core ann x node.This = rule.This
+rule_at core ann x (node.Local s) = rule.Local
+rule_at core ann x (node.Consume s) = rule.Consume
+rule_at core ann x (node.Field name) = if incomplete core ann x then rule.GetOwn else rule.Get
+rule_at core ann x (node.SetField name) = if incomplete core ann x then rule.PutOwn else rule.Put
+rule_at core ann x (node.Define s) = rule.Define
+rule_at core ann x (node.Assign s) = rule.Assign
+rule_at core ann x (node.New k) = rule.New
+rule_at core ann x (node.Spawn k) = rule.Spawn
+rule_at core ann x (node.Call name) = call_rule core (called core ann x name)
+rule_at core ann x (node.Binary o) = operator_rule o (two_types ann x.children)
+rule_at core ann x node.Not = rule.Logic
+rule_at core ann x node.And = rule.Lazy
+rule_at core ann x node.Or = rule.Lazy
+rule_at core ann x (node.Same v) = rule.Identity
+rule_at core ann x node.Seq = rule.Seq
+rule_at core ann x node.If = rule.If
+rule_at core ann x node.While = rule.While
+rule_at core ann x (node.Recover k) = rule.Recover
+rule_at core ann x node.Body = rule.Body
+
+-- ---- calls
+
+no_behaviour : (k : MethodKind) → is_function k ≡ true → is_behaviour k ≡ false
+no_behaviour method.Fun e = refl
+no_behaviour k e = absurd (false_true e)
+
+not_true : (b : Bool) → not b ≡ true → b ≡ false
+not_true false e = refl
+not_true true e = absurd (false_true e)
+
+is_called : (core : CoreData) (o : Option (Ty × ℕ)) (i : Ty × ℕ) (f : Method) (b c : Bool) → o ≡ Some i → slice_get core.methods i.1 ≡ Some f → is_behaviour f.kind ≡ b → fits i.0.1 f.receiver ≡ c → call_rule core o ≡ cond b rule.Send (cond c rule.Call rule.CallRecover)
+is_called core o i f b c e g h k =
+    ap (call_rule core) e ∙ ap (method_rule i.0) g
+    ∙ ap (λ t. cond t rule.Send (cond (fits i.0.1 f.receiver) rule.Call rule.CallRecover)) h
+    ∙ ap (λ t. cond b rule.Send (cond t rule.Call rule.CallRecover)) k
+
+module _ (core : CoreData) (ann : Ann) (x : Node) (m : Masks) (q : Said) where
+  is_call : (name : ℕ) → call_says core ann x name m ≡ Some q → rule.Call ≡ call_rule core (called core ann x name)
+  is_call name e =
+      let a = bind_some (called core ann x name) _ q e in
+      let b = bind_some (slice_get core.methods a.0.1) _ q a.2 in
+      let c = bind_some (through ann x.children m) _ q b.2 in
+      let k = kept (calls core ann x a.0.0 b.0) _ q c.2 in
+      let p = and_parts (is_function b.0.kind) (arguments_go core ann (arguments x.children) b.0.params && fits a.0.0.1 b.0.receiver) k.0 in
+      let r = and_parts (arguments_go core ann (arguments x.children) b.0.params) (fits a.0.0.1 b.0.receiver) p.1 in
+      sym (is_called core (called core ann x name) a.0 b.0 false true a.1 b.1 (no_behaviour b.0.kind p.0) r.1)
+
+  is_callrecover : (name : ℕ) → callrecover_says core ann x name m ≡ Some q → rule.CallRecover ≡ call_rule core (called core ann x name)
+  is_callrecover name e =
+      let a = bind_some (called core ann x name) _ q e in
+      let b = bind_some (slice_get core.methods a.0.1) _ q a.2 in
+      let c = bind_some (through ann x.children m) _ q b.2 in
+      let k = kept (recovers core ann x a.0.0 b.0) _ q c.2 in
+      let p = and_parts (is_function b.0.kind && arguments_go core ann (arguments x.children) b.0.params) (lends a.0.0.1 b.0.receiver && arguments_sendable ann (arguments x.children) b.0.params) k.0 in
+      let f = and_parts (is_function b.0.kind) (arguments_go core ann (arguments x.children) b.0.params) p.0 in
+      let l = and_parts (lends a.0.0.1 b.0.receiver) (arguments_sendable ann (arguments x.children) b.0.params) p.1 in
+      let n = and_parts (not (fits a.0.0.1 b.0.receiver)) (is_isolated a.0.0.1 && is_lent b.0.receiver) l.0 in
+      sym (is_called core (called core ann x name) a.0 b.0 false false a.1 b.1 (no_behaviour b.0.kind f.0) (not_true (fits a.0.0.1 b.0.receiver) n.0))
+
+  is_send : (name : ℕ) → send_says core ann x name m ≡ Some q → rule.Send ≡ call_rule core (called core ann x name)
+  is_send name e =
+      let a = bind_some (called core ann x name) _ q e in
+      let b = bind_some (slice_get core.methods a.0.1) _ q a.2 in
+      let c = bind_some (through ann x.children m) _ q b.2 in
+      let k = kept (sends core ann x b.0) _ q c.2 in
+      let p = and_parts (is_behaviour b.0.kind) (arguments_go core ann (arguments x.children) b.0.params) k.0 in
+      sym (is_called core (called core ann x name) a.0 b.0 true (fits a.0.0.1 b.0.receiver) a.1 b.1 p.0 refl)
+
+-- ---- the text of a value: its entity has no methods
+
+take_none : {T : Type 0} → (xs : List T) → take 0 xs ≡ []
+take_none [] = refl
+take_none (x ∷ xs) = refl
+
+none_of : (core : CoreData) (e name : ℕ) (x : EntityDef) → slice_get core.entities e ≡ Some x → x.first_method ≡ 0 → x.methods ≡ 0 → method_named core e name ≡ None
+none_of core e name x g f c =
+    bind_is (slice_get core.entities e) (λ (z : EntityDef). place_of method_name name (own_methods core z) z.first_method) x g
+    ∙ ap (λ k. place_of method_name name (slice_range core.methods k (k + x.methods)) k) f
+    ∙ ap (λ k. place_of method_name name (slice_range core.methods 0 (0 + k)) 0) c
+    ∙ ap (λ ys. place_of method_name name ys 0) (take_none (drop 0 core.methods))
+
+either : (a b : Bool) → (a || b) ≡ true → (a ≡ true) ⊎ (b ≡ true)
+either true b e = inl refl
+either false b e = inr e
+
+no_method : (core : CoreData) (name : ℕ) (v : Ty) → Formed core → has_text v ≡ true → method_named core v.0 name ≡ None
+no_method core name v formed e =
+    elim (either (reads_as 1 v) (reads_as 2 v) e) [
+      | inl one ↦ let is : v.0 ≡ 1 = eqb-true v.0 1 (and_parts (nat_eq v.0 1) (readable v.1) one).0 in
+          ap (λ k. method_named core k name) is ∙ none_of core 1 name _ formed.built_in.numbers refl refl
+      | inr two ↦ let is : v.0 ≡ 2 = eqb-true v.0 2 (and_parts (nat_eq v.0 2) (readable v.1) two).0 in
+          ap (λ k. method_named core k name) is ∙ none_of core 2 name _ formed.built_in.truths refl refl
+    ]
+
+only_child : (cs : List ℕ) (c : ℕ) → one_child cs ≡ Some c → last_child cs ≡ Some c
+only_child [] c e = absurd (none-some c e)
+only_child (a ∷ []) c e = e
+only_child (a ∷ b ∷ cs) c e = absurd (none-some c e)
+
+abbrev called_as : Ty → ℕ → Option (Ty × ℕ)
+called_as v k = Some (v, k)
+
+is_builtin : (core : CoreData) (ann : Ann) (x : Node) (m : Masks) (q : Said) (name : ℕ) → Formed core → builtin_says core ann x name m ≡ Some q → rule.Builtin ≡ call_rule core (called core ann x name)
+is_builtin core ann x m q name formed e =
+    let a = bind_some (one_child x.children) _ q e in
+    let b = bind_some (type_of ann a.0) _ q a.2 in
+    let c = bind_some (slice_get core.names name) _ q b.2 in
+    let d = bind_some (through ann x.children m) _ q c.2 in
+    let k = kept (has_string c.0 b.0) _ q d.2 in
+    let p = and_parts (same_text c.0 (codes "string")) (has_text b.0) k.0 in
+    let none : called core ann x name ≡ None =
+    bind_is (last_child x.children) _ a.0 (only_child x.children a.0 a.1)
+    ∙ bind_is (type_of ann a.0) _ b.0 b.1
+    ∙ ap (λ o. o >>= called_as b.0) (no_method core name b.0 formed p.1)
+    in
+    sym (ap (call_rule core) none)
+
+-- ---- operators
+
+not_text : (vs : Ty × Ty) → both_read_as 1 vs ≡ true → both_read_as 3 vs ≡ false
+not_text vs e =
+    let p = and_parts (reads_as 1 vs.0) (reads_as 1 vs.1) e in
+    let n = and_parts (nat_eq vs.0.0 1) (readable vs.0.1) p.0 in
+    ap (λ k. (nat_eq k 3 && readable vs.0.1) && reads_as 3 vs.1) (eqb-true vs.0.0 1 n.0)
+
+is_arith : (o : Op) (ts : Option (Ty × Ty)) (vs : Ty × Ty) → ts ≡ Some vs → is_arithmetic o ≡ true → both_read_as 1 vs ≡ true → rule.Arith ≡ operator_rule o ts
+is_arith op.Add ts vs e a b = sym (ap add_rule e ∙ ap (λ t. cond t rule.Join rule.Arith) (not_text vs b))
+is_arith op.Sub ts vs e a b = refl
+is_arith op.Mul ts vs e a b = refl
+is_arith op.Div ts vs e a b = refl
+is_arith op.Rem ts vs e a b = refl
+is_arith o ts vs e a b = absurd (false_true a)
+
+is_join : (o : Op) (ts : Option (Ty × Ty)) (vs : Ty × Ty) → ts ≡ Some vs → is_add o ≡ true → both_read_as 3 vs ≡ true → rule.Join ≡ operator_rule o ts
+is_join op.Add ts vs e a b = sym (ap add_rule e ∙ ap (λ t. cond t rule.Join rule.Arith) b)
+is_join o ts vs e a b = absurd (false_true a)
+
+is_compare : (o : Op) (ts : Option (Ty × Ty)) → is_comparison o ≡ true → rule.Compare ≡ operator_rule o ts
+is_compare op.Lt ts a = refl
+is_compare op.Le ts a = refl
+is_compare op.Gt ts a = refl
+is_compare op.Ge ts a = refl
+is_compare o ts a = absurd (false_true a)
+
+is_equal : (o : Op) (ts : Option (Ty × Ty)) → is_equality o ≡ true → rule.Equal ≡ operator_rule o ts
+is_equal op.Eq ts a = refl
+is_equal op.Ne ts a = refl
+is_equal o ts a = absurd (false_true a)
+
+is_logic : (o : Op) (ts : Option (Ty × Ty)) → is_xor o ≡ true → rule.Logic ≡ operator_rule o ts
+is_logic op.Xor ts a = refl
+is_logic o ts a = absurd (false_true a)
+
+-- What an operator's rule asks of the operator, and of the types of both sides.
+asked : (ann : Ann) (x : Node) (m : Masks) (q : Said) (e : ℕ) (a : Bool) (t : Ty × Ty → Bool) → (two_types ann x.children >>= λ v. cond (a && t v) (value_says e ann x m) None) ≡ Some q → (vs : Ty × Ty) × (two_types ann x.children ≡ Some vs) × (a ≡ true) × (t vs ≡ true)
+asked ann x m q e a t h =
+    let v = bind_some (two_types ann x.children) _ q h in
+    let k = kept (a && t v.0) (value_says e ann x m) q v.2 in
+    let p = and_parts a (t v.0) k.0 in
+    (v.0, v.1, p.0, p.1)
+
+-- ---- every rule
+
+pub is_rule_at : (core : CoreData) (ann : Ann) (x : Node) (m : Masks) (r : Rule) (k : NodeKind) (q : Said) → Formed core → says core ann x m r k ≡ Some q → r ≡ rule_at core ann x k
+is_rule_at core ann x m rule.Number (node.Number v) q f e = refl
+is_rule_at core ann x m rule.Truth (node.Truth v) q f e = refl
+is_rule_at core ann x m rule.Text (node.Text v) q f e = refl
+is_rule_at core ann x m rule.Prim (node.Prim v) q f e = refl
+is_rule_at core ann x m rule.This node.This q f e = refl
+is_rule_at core ann x m rule.Local (node.Local s) q f e = refl
+is_rule_at core ann x m rule.Consume (node.Consume s) q f e = refl
+is_rule_at core ann x m rule.Get (node.Field name) q f e = sym (ap (λ t. cond t rule.GetOwn rule.Get) (kept_otherwise (incomplete core ann x) (read_says core ann x name m) q e).0)
+is_rule_at core ann x m rule.GetOwn (node.Field name) q f e = sym (ap (λ t. cond t rule.GetOwn rule.Get) (kept (incomplete core ann x) (own_read_says core ann x name m) q e).0)
+is_rule_at core ann x m rule.Put (node.SetField name) q f e = sym (ap (λ t. cond t rule.PutOwn rule.Put) (kept_otherwise (incomplete core ann x) (write_says core ann x name m) q e).0)
+is_rule_at core ann x m rule.PutOwn (node.SetField name) q f e = sym (ap (λ t. cond t rule.PutOwn rule.Put) (kept (incomplete core ann x) (own_write_says core ann x name m) q e).0)
+is_rule_at core ann x m rule.Define (node.Define s) q f e = refl
+is_rule_at core ann x m rule.Assign (node.Assign s) q f e = refl
+is_rule_at core ann x m rule.New (node.New k) q f e = refl
+is_rule_at core ann x m rule.Spawn (node.Spawn k) q f e = refl
+is_rule_at core ann x m rule.Call (node.Call name) q f e = is_call core ann x m q name e
+is_rule_at core ann x m rule.CallRecover (node.Call name) q f e = is_callrecover core ann x m q name e
+is_rule_at core ann x m rule.Send (node.Call name) q f e = is_send core ann x m q name e
+is_rule_at core ann x m rule.Builtin (node.Call name) q f e = is_builtin core ann x m q name f e
+is_rule_at core ann x m rule.Arith (node.Binary o) q f e = let a = asked ann x m q 1 (is_arithmetic o) (both_read_as 1) e in is_arith o (two_types ann x.children) a.0 a.1 a.2 a.3
+is_rule_at core ann x m rule.Compare (node.Binary o) q f e = let a = asked ann x m q 2 (is_comparison o) (both_read_as 1) e in is_compare o (two_types ann x.children) a.2
+is_rule_at core ann x m rule.Equal (node.Binary o) q f e = let a = asked ann x m q 2 (is_equality o) comparable e in is_equal o (two_types ann x.children) a.2
+is_rule_at core ann x m rule.Join (node.Binary o) q f e = let a = asked ann x m q 3 (is_add o) (both_read_as 3) e in is_join o (two_types ann x.children) a.0 a.1 a.2 a.3
+is_rule_at core ann x m rule.Logic (node.Binary o) q f e = let a = asked ann x m q 2 (is_xor o) (both_read_as 2) e in is_logic o (two_types ann x.children) a.2
+is_rule_at core ann x m rule.Logic node.Not q f e = refl
+is_rule_at core ann x m rule.Lazy node.And q f e = refl
+is_rule_at core ann x m rule.Lazy node.Or q f e = refl
+is_rule_at core ann x m rule.Identity (node.Same v) q f e = refl
+is_rule_at core ann x m rule.Seq node.Seq q f e = refl
+is_rule_at core ann x m rule.If node.If q f e = refl
+is_rule_at core ann x m rule.While node.While q f e = refl
+is_rule_at core ann x m rule.Recover (node.Recover k) q f e = refl
+is_rule_at core ann x m rule.Body node.Body q f e = refl
+is_rule_at core ann x m r k q f e = absurd (none-some q e)
+
+-- ---- the rule of a definition and of a body
+
+pub define_rule : (core : CoreData) (ann : Ann) (x : Node) (m : Masks) (r : Rule) (s : ℕ) (q : Said) → says core ann x m r (node.Define s) ≡ Some q → define_says core ann x s m ≡ Some q
+define_rule core ann x m rule.Define s q e = e
+define_rule core ann x m r s q e = absurd (none-some q e)
+
+pub body_rule : (core : CoreData) (ann : Ann) (x : Node) (m : Masks) (r : Rule) (q : Said) → says core ann x m r node.Body ≡ Some q → body_says core ann x m ≡ Some q
+body_rule core ann x m rule.Body q e = e
+body_rule core ann x m r q e = absurd (none-some q e)

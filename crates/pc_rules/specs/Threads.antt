@@ -1,0 +1,273 @@
+-- A node of which a rule says something has its children evaluated one after the other, but for the branches of an `if`,
+-- which both follow the condition.
+use Rattle.std.specs.Prelude.{◌≡◌, ℕ, zero, suc, Bool, true, false, cond, ◌&&◌, List, [], ◌∷◌, length, Option, Some, None, slice_get, refl}
+use Rattle.std.proofs.Common.{ap, sym, subst, ◌∙◌, arith}
+use Rattle.std.proofs.lemmas.Option.{same_Some, none-some}
+use Rattle.std.proofs.lemmas.Bool.{and_parts, eqb-true}
+use Rattle.pc_caps.specs.Tables.{view}
+use Rattle.pc_caps.specs.declared.capability.Form.TheVariants as form
+use Rattle.pc_tree.specs.declared.kinds.Op.{Op}
+use Rattle.pc_core.specs.declared.declarations.Method.{Method}
+use Rattle.pc_core.specs.declared.nodes.Node.{Node}
+use Rattle.pc_core.specs.declared.nodes.NodeKind.{NodeKind}
+use Rattle.pc_core.specs.declared.nodes.NodeKind.TheVariants as node
+use Rattle.pc_core.specs.CoreData.{CoreData}
+use Rattle.pc_core.specs.Words.{◌>>=◌}
+use Rattle.pc_core.specs.Members.{bind_some}
+use Rattle.pc_core.specs.Nodes.{HasArity}
+use Rattle.pc_ann.specs.declared.mask.Mask.{Mask}
+use Rattle.pc_ann.specs.declared.annotation.Note.{Note}
+use Rattle.pc_ann.specs.declared.annotation.Ann.{Ann}
+use Rattle.pc_ann.specs.declared.annotation.Rule.{Rule}
+use Rattle.pc_ann.specs.declared.annotation.Rule.TheVariants as rule
+use Rattle.pc_ann.specs.Masks.{within, same}
+use Rattle.pc_rules.specs.declared.said.Said.{Said}
+use Rattle.pc_rules.specs.Parts.{Ty, Masks, starts, before, after, through, type_of, one_child, two_children, three_children, two_types, last_child, slot_of}
+use Rattle.pc_rules.specs.Values.{defines, defined, assigns, assigned}
+use Rattle.pc_rules.specs.Fields.{own_field, incomplete, field_type, read_says, own_read_says, old_type, write_says, value_type, own_write_says}
+use Rattle.pc_rules.specs.Calls.{called}
+use Rattle.pc_rules.specs.Operators.{value_says, lazy_masks}
+use Rattle.pc_rules.specs.Control.{branch_masks, loop_masks, recovered}
+use Rattle.pc_rules.specs.Rules.{says}
+use Rattle.pc_rules.specs.Alike.{own_seen}
+
+pub kept : {A : Type 0} → (b : Bool) (o : Option A) (y : A) → cond b o None ≡ Some y → (b ≡ true) × (o ≡ Some y)
+kept true o y e = (refl, e)
+kept false o y e = absurd (none-some y e)
+
+pub kept_otherwise : {A : Type 0} → (b : Bool) (o : Option A) (y : A) → cond b None o ≡ Some y → (b ≡ false) × (o ≡ Some y)
+kept_otherwise true o y e = absurd (none-some y e)
+kept_otherwise false o y e = (refl, e)
+
+pub false_true : false ≡ true → ⊥
+false_true e = cc e
+
+-- The children are evaluated one after the other.
+abbrev pub Threaded : Ann → List ℕ → Masks → Type 0
+Threaded ann cs m = (n : Masks) × (through ann cs m ≡ Some n)
+
+no_children : (cs : List ℕ) → length cs ≡ 0 → cs ≡ []
+no_children [] e = refl
+no_children (c ∷ cs) e = absurd (omega (arith, e))
+
+leaf : (ann : Ann) (cs : List ℕ) (m : Masks) → length cs ≡ 0 → Threaded ann cs m
+leaf ann cs m e = (m, ap (λ (ds : List ℕ). through ann ds m) (no_children cs e))
+
+threaded : (ann : Ann) (cs : List ℕ) (m : Masks) (f : Masks → Option Said) (q : Said) → (through ann cs m >>= f) ≡ Some q → Threaded ann cs m
+threaded ann cs m f q e = let a = bind_some (through ann cs m) f q e in (a.0, a.1)
+
+-- Behind one node, and then behind another.
+through_one : (ann : Ann) (c : ℕ) (m n : Masks) → through ann (c ∷ []) m ≡ Some n → (t : Note) × (slice_get ann.notes c ≡ Some t) × (starts t m ≡ true) × (after t ≡ n)
+through_one ann c m n e =
+    let a = bind_some (slice_get ann.notes c) _ n e in
+    let k = kept (starts a.0 m) (Some (after a.0)) n a.2 in
+    (a.0, a.1, k.0, same_Some (after a.0) n k.1)
+
+pub bind_is : {A B : Type 0} → (o : Option A) (f : A → Option B) (x : A) → o ≡ Some x → (o >>= f) ≡ f x
+bind_is o f x e = ap (λ p. p >>= f) e
+
+through_two : (ann : Ann) (c d : ℕ) (m n k : Masks) → through ann (c ∷ []) m ≡ Some n → through ann (d ∷ []) n ≡ Some k → through ann (c ∷ d ∷ []) m ≡ Some k
+through_two ann c d m n k e f =
+    let t = through_one ann c m n e in
+    bind_is (slice_get ann.notes c) (λ u. cond (starts u m) (through ann (d ∷ []) (after u)) None) t.0 t.1
+    ∙ ap (λ b. cond b (through ann (d ∷ []) (after t.0)) None) t.2 ∙ ap (through ann (d ∷ [])) t.3 ∙ f
+
+two_are : (cs : List ℕ) (c : ℕ × ℕ) → two_children cs ≡ Some c → cs ≡ c.0 ∷ c.1 ∷ []
+two_are [] c e = absurd (none-some c e)
+two_are (a ∷ []) c e = absurd (none-some c e)
+two_are (a ∷ b ∷ []) c e = ap (λ (p : ℕ × ℕ). p.0 ∷ p.1 ∷ []) (same_Some (a, b) c e)
+two_are (a ∷ b ∷ d ∷ cs) c e = absurd (none-some c e)
+
+three_are : (cs : List ℕ) (c : ℕ × ℕ × ℕ) → three_children cs ≡ Some c → cs ≡ c.0 ∷ c.1 ∷ c.2 ∷ []
+three_are [] c e = absurd (none-some c e)
+three_are (a ∷ []) c e = absurd (none-some c e)
+three_are (a ∷ b ∷ []) c e = absurd (none-some c e)
+three_are (a ∷ b ∷ d ∷ []) c e = ap (λ (p : ℕ × ℕ × ℕ). p.0 ∷ p.1 ∷ p.2 ∷ []) (same_Some (a, b, d) c e)
+three_are (a ∷ b ∷ d ∷ f ∷ cs) c e = absurd (none-some c e)
+
+-- Both of two children.
+pair_threaded : (ann : Ann) (cs : List ℕ) (c : ℕ × ℕ) (m n k : Masks) → two_children cs ≡ Some c → through ann (c.0 ∷ []) m ≡ Some n → through ann (c.1 ∷ []) n ≡ Some k → Threaded ann cs m
+pair_threaded ann cs c m n k e f g = (k, ap (λ (ds : List ℕ). through ann ds m) (two_are cs c e) ∙ through_two ann c.0 c.1 m n k f g)
+
+lazy_threaded : (ann : Ann) (cs : List ℕ) (m : Masks) (f : Masks → Option Said) (q : Said) → (lazy_masks ann cs m >>= f) ≡ Some q → Threaded ann cs m
+lazy_threaded ann cs m f q e =
+    let a = bind_some (lazy_masks ann cs m) f q e in
+    let c = bind_some (two_children cs) _ a.0 a.1 in
+    let n = bind_some (through ann (c.0.0 ∷ []) m) _ a.0 c.2 in
+    let k = bind_some (through ann (c.0.1 ∷ []) n.0) _ a.0 n.2 in
+    pair_threaded ann cs c.0 m n.0 k.0 c.1 n.1 k.1
+
+-- ---- each rule
+
+-- The two ways through an `if`.
+abbrev pub then_way : List ℕ → List ℕ
+then_way (c ∷ a ∷ b ∷ []) = c ∷ a ∷ []
+then_way cs = []
+
+abbrev pub else_way : List ℕ → List ℕ
+else_way (c ∷ a ∷ b ∷ []) = c ∷ b ∷ []
+else_way cs = []
+
+abbrev pub is_branch : NodeKind → Bool
+is_branch node.If = true
+is_branch k = false
+
+module _ (core : CoreData) (ann : Ann) (x : Node) (m : Masks) (q : Said) where
+  read_threads : (name : ℕ) → read_says core ann x name m ≡ Some q → Threaded ann x.children m
+  read_threads name e =
+      let a = bind_some (one_child x.children) _ q e in
+      let b = bind_some (type_of ann a.0) _ q a.2 in
+      let c = bind_some (field_type core b.0 name) _ q b.2 in
+      threaded ann x.children m _ q c.2
+
+  own_read_threads : (name : ℕ) → own_read_says core ann x name m ≡ Some q → Threaded ann x.children m
+  own_read_threads name e =
+      let a = bind_some (own_field core x name) _ q e in
+      let b = bind_some (view form.Ref a.0.1.cap) (λ s. through ann x.children m >>= own_seen a.0 s) q a.2 in
+      threaded ann x.children m (own_seen a.0 b.0) q b.2
+
+  write_threads : (name : ℕ) → write_says core ann x name m ≡ Some q → Threaded ann x.children m
+  write_threads name e =
+      let a = bind_some (two_types ann x.children) _ q e in
+      let b = bind_some (old_type core a.0.0 a.0.1 name) _ q a.2 in
+      threaded ann x.children m _ q b.2
+
+  own_write_threads : (name : ℕ) → own_write_says core ann x name m ≡ Some q → Threaded ann x.children m
+  own_write_threads name e =
+      let a = bind_some (own_field core x name) _ q e in
+      let b = bind_some (value_type ann x.children) _ q a.2 in
+      threaded ann x.children m _ q b.2
+
+  called_threads : (name : ℕ) (f : Ty × ℕ → Method → Masks → Option Said) → (called core ann x name >>= λ i. slice_get core.methods i.1 >>= λ g. through ann x.children m >>= f i g) ≡ Some q → Threaded ann x.children m
+  called_threads name f e =
+      let a = bind_some (called core ann x name) _ q e in
+      let b = bind_some (slice_get core.methods a.0.1) _ q a.2 in
+      threaded ann x.children m _ q b.2
+
+  tested_threads : (e : ℕ) (t : Ty × Ty → Bool) → (two_types ann x.children >>= λ v. cond (t v) (value_says e ann x m) None) ≡ Some q → Threaded ann x.children m
+  tested_threads e t h =
+      let a = bind_some (two_types ann x.children) _ q h in
+      let k = kept (t a.0) (value_says e ann x m) q a.2 in
+      threaded ann x.children m _ q k.1
+
+  -- The children of such a node are evaluated one after the other.
+  pub threads : (r : Rule) (k : NodeKind) → is_branch k ≡ false → HasArity k (length x.children) → says core ann x m r k ≡ Some q → Threaded ann x.children m
+  threads rule.Number (node.Number v) p h e = leaf ann x.children m h
+  threads rule.Truth (node.Truth v) p h e = leaf ann x.children m h
+  threads rule.Text (node.Text v) p h e = leaf ann x.children m h
+  threads rule.Prim (node.Prim v) p h e = leaf ann x.children m h
+  threads rule.This node.This p h e = leaf ann x.children m h
+  threads rule.Local (node.Local s) p h e = leaf ann x.children m h
+  threads rule.Consume (node.Consume s) p h e = leaf ann x.children m h
+  threads rule.Get (node.Field name) p h e = read_threads name (kept_otherwise (incomplete core ann x) (read_says core ann x name m) q e).1
+  threads rule.GetOwn (node.Field name) p h e = own_read_threads name (kept (incomplete core ann x) (own_read_says core ann x name m) q e).1
+  threads rule.Put (node.SetField name) p h e = write_threads name (kept_otherwise (incomplete core ann x) (write_says core ann x name m) q e).1
+  threads rule.PutOwn (node.SetField name) p h e = own_write_threads name (kept (incomplete core ann x) (own_write_says core ann x name m) q e).1
+  threads rule.Define (node.Define s) p h e =
+      let a = bind_some (one_child x.children) _ q e in
+      let b = bind_some (type_of ann a.0) _ q a.2 in
+      let c = bind_some (slot_of core ann x.method s) _ q b.2 in
+      threaded ann x.children m _ q (kept (defines core c.0 b.0) (defined ann x s m) q c.2).1
+  threads rule.Assign (node.Assign s) p h e =
+      let a = bind_some (one_child x.children) _ q e in
+      let b = bind_some (type_of ann a.0) _ q a.2 in
+      let c = bind_some (slot_of core ann x.method s) _ q b.2 in
+      threaded ann x.children m _ q (kept (assigns core x c.0 b.0) (assigned ann x s c.0.1 m) q c.2).1
+  threads rule.New (node.New k) p h e = let a = bind_some (slice_get core.methods k) _ q e in threaded ann x.children m _ q a.2
+  threads rule.Spawn (node.Spawn k) p h e = let a = bind_some (slice_get core.methods k) _ q e in threaded ann x.children m _ q a.2
+  threads rule.Call (node.Call name) p h e = called_threads name _ e
+  threads rule.CallRecover (node.Call name) p h e = called_threads name _ e
+  threads rule.Send (node.Call name) p h e = called_threads name _ e
+  threads rule.Builtin (node.Call name) p h e =
+      let a = bind_some (one_child x.children) _ q e in
+      let b = bind_some (type_of ann a.0) _ q a.2 in
+      let c = bind_some (slice_get core.names name) _ q b.2 in
+      threaded ann x.children m _ q c.2
+  threads rule.Arith (node.Binary o) p h e = tested_threads 1 _ e
+  threads rule.Compare (node.Binary o) p h e = tested_threads 2 _ e
+  threads rule.Equal (node.Binary o) p h e = tested_threads 2 _ e
+  threads rule.Join (node.Binary o) p h e = tested_threads 3 _ e
+  threads rule.Logic (node.Binary o) p h e = tested_threads 2 _ e
+  threads rule.Logic node.Not p h e =
+      let a = bind_some (one_child x.children) _ q e in
+      let b = bind_some (type_of ann a.0) _ q a.2 in
+      threaded ann x.children m _ q (kept _ (value_says 2 ann x m) q b.2).1
+  threads rule.Lazy node.And p h e = let a = bind_some (two_types ann x.children) _ q e in lazy_threaded ann x.children m _ q a.2
+  threads rule.Lazy node.Or p h e = let a = bind_some (two_types ann x.children) _ q e in lazy_threaded ann x.children m _ q a.2
+  threads rule.Identity (node.Same v) p h e = let a = bind_some (two_types ann x.children) _ q e in threaded ann x.children m _ q a.2
+  threads rule.Seq node.Seq p h e =
+      let a = bind_some (last_child x.children) _ q e in
+      let b = bind_some (slice_get ann.notes a.0) _ q a.2 in
+      threaded ann x.children m _ q b.2
+  threads rule.While node.While p h e =
+      let c = bind_some (two_children x.children) _ q e in
+      let l = bind_some (loop_masks ann c.0 m) _ q c.2 in
+      let n = bind_some (through ann (c.0.0 ∷ []) m) _ l.0 l.1 in
+      let k = bind_some (through ann (c.0.1 ∷ []) n.0) _ l.0 n.2 in
+      pair_threaded ann x.children c.0 m n.0 k.0 c.1 n.1 k.1
+  threads rule.Recover (node.Recover c) p h e =
+      let a = bind_some (one_child x.children) _ q e in
+      let b = bind_some (type_of ann a.0) _ q a.2 in
+      let f = bind_some (recovered c b.0.1) _ q b.2 in
+      threaded ann x.children m _ q f.2
+  threads rule.Body node.Body p h e =
+      let a = bind_some (slice_get core.methods x.method) _ q e in
+      let b = bind_some (one_child x.children) _ q a.2 in
+      let c = bind_some (slice_get ann.notes b.0) _ q b.2 in
+      threaded ann x.children m _ q c.2
+  threads rule.If node.If p h e = absurd (false_true (sym p))
+  threads r k p h e = absurd (none-some q e)
+
+  -- Each branch of an `if` follows the condition.
+  branch_threads : says core ann x m rule.If node.If ≡ Some q → Threaded ann (then_way x.children) m × Threaded ann (else_way x.children) m
+  branch_threads e =
+      let c = bind_some (three_children x.children) _ q e in
+      let b = bind_some (branch_masks ann c.0 m) _ q c.2 in
+      let n = bind_some (through ann (c.0.0 ∷ []) m) _ b.0 b.1 in
+      let k = bind_some (through ann (c.0.1 ∷ []) n.0) _ b.0 n.2 in
+      let l = bind_some (through ann (c.0.2 ∷ []) n.0) _ b.0 k.2 in
+      let are = three_are x.children c.0 c.1 in (
+        (k.0, ap (λ (cs : List ℕ). through ann (then_way cs) m) are ∙ through_two ann c.0.0 c.0.1 m n.0 k.0 n.1 k.1),
+        (l.0, ap (λ (cs : List ℕ). through ann (else_way cs) m) are ∙ through_two ann c.0.0 c.0.2 m n.0 l.0 n.1 l.1),
+      )
+
+  if_rule : (r : Rule) → says core ann x m r node.If ≡ Some q → Threaded ann (then_way x.children) m × Threaded ann (else_way x.children) m
+  if_rule rule.If e = branch_threads e
+  if_rule r e = absurd (none-some q e)
+
+  pub if_threads : (r : Rule) → x.kind ≡ node.If → says core ann x m r x.kind ≡ Some q → Threaded ann (then_way x.children) m × Threaded ann (else_way x.children) m
+  if_threads r i e = if_rule r (subst (λ j. says core ann x m r j ≡ Some q) i e)
+
+-- ---- from child to child
+
+abbrev made : ℕ → ℕ → Masks
+made n k = (record { 0 = n }, record { 0 = k })
+
+masks_are : (a b c d : Mask) → a.0 ≡ b.0 → c.0 ≡ d.0 → ◌≡◌ {A = Masks} (a, c) (b, d)
+masks_are a b c d e f = ap (λ (n : ℕ). made n c.0) e ∙ ap (λ (n : ℕ). made b.0 n) f
+
+pub starts_so : (t : Note) (m : Masks) → starts t m ≡ true → before t ≡ m
+starts_so t m e =
+    let p = and_parts (same t.live_before m.0) (same t.set_before m.1) e in
+    masks_are t.live_before m.0 t.set_before m.1 (eqb-true t.live_before.0 m.0.0 p.0) (eqb-true t.set_before.0 m.1.0 p.1)
+
+-- The first child starts from the masks, and each other one from those behind the one before it.
+pub first_starts : (ann : Ann) (cs : List ℕ) (m : Masks) (c : ℕ) (t : Note) → Threaded ann cs m → slice_get cs 0 ≡ Some c → slice_get ann.notes c ≡ Some t → before t ≡ m
+first_starts ann [] m c t h e g = absurd (none-some c e)
+first_starts ann (d ∷ cs) m c t h e g =
+    let a = bind_some (slice_get ann.notes d) _ h.0 h.1 in
+    let k = kept (starts a.0 m) (through ann cs (after a.0)) h.0 a.2 in
+    let is : a.0 ≡ t = same_Some a.0 t (sym a.1 ∙ ap (slice_get ann.notes) (same_Some d c e) ∙ g) in
+    ap before (sym is) ∙ starts_so a.0 m k.0
+
+pub next_starts : (ann : Ann) (cs : List ℕ) (m : Masks) (i c d : ℕ) (t u : Note) → Threaded ann cs m → slice_get cs i ≡ Some c → slice_get cs (suc i) ≡ Some d → slice_get ann.notes c ≡ Some t → slice_get ann.notes d ≡ Some u → before u ≡ after t
+next_starts ann [] m i c d t u h e f g k = absurd (none-some c e)
+next_starts ann (b ∷ cs) m zero c d t u h e f g k =
+    let a = bind_some (slice_get ann.notes b) _ h.0 h.1 in
+    let n = kept (starts a.0 m) (through ann cs (after a.0)) h.0 a.2 in
+    let is : a.0 ≡ t = same_Some a.0 t (sym a.1 ∙ ap (slice_get ann.notes) (same_Some b c e) ∙ g) in
+    first_starts ann cs (after a.0) d u (h.0, n.1) f k ∙ ap after is
+next_starts ann (b ∷ cs) m (suc i) c d t u h e f g k =
+    let a = bind_some (slice_get ann.notes b) _ h.0 h.1 in
+    let n = kept (starts a.0 m) (through ann cs (after a.0)) h.0 a.2 in
+    next_starts ann cs (after a.0) i c d t u (h.0, n.1) e f g k

@@ -1,0 +1,34 @@
+//! Whether the declarations of a program fit each other.
+ghost use Rattle.std.specs.Prelude.{◌≡◌, ◌↔◌, IsOk, Some, None, MatchResult};
+ghost use Rattle.pc_sub.specs.Declarations as spec;
+
+use crate::faults::DeclFault;
+use crate::parameters::parameter_fault;
+use crate::traits::entity_fault;
+use pc_core::Core;
+
+/// Looks at the declarations: what must be sendable is, and each entity conforms to each trait of its `is` list. The
+/// parameters come first, method by method; then, entity by entity, the traits of its `is` list in order, and for each
+/// the trait's methods in order. The fault is the first one in this order. Takes no memory.
+#[tactic(auto, using(crate::specs::Faults::fits_without_fault))]
+pub fn declarations(core: &Core) -> Result<(), DeclFault>
+    ensures ok { IsOk result ↔ spec.DeclOk core.now }
+    ensures fault { MatchResult result (λ v. spec.first_fault core.now ≡ None) (λ f. spec.first_fault core.now ≡ Some f) }
+{
+    core.formed();
+    match first_fault(core) {
+        None => Ok(()),
+        Some(fault) => Err(fault),
+    }
+}
+
+// The first declaration that fails.
+#[tactic(auto, using(crate::specs::Faults::passed, crate::specs::Faults::stopped))]
+fn first_fault(core: &Core) -> Option<DeclFault>
+    ensures { result ≡ spec.first_fault core.now }
+{
+    match parameter_fault(core) {
+        None => entity_fault(core),
+        Some(fault) => Some(fault),
+    }
+}
