@@ -1,5 +1,5 @@
 -- The slot that a node defines, and the nodes that look at it.
-use Rattle.std.specs.Prelude.{◌≡◌, ◌⊎◌, ℕ, zero, suc, ◌+◌, ◌<◌, ◌∷◌, Option, Some, None, slice_get, refl}
+use Rattle.std.specs.Prelude.{◌≡◌, ◌⊎◌, ℕ, ◌+◌, ◌<◌, Option, Some, None, slice_get, refl}
 use Rattle.std.proofs.Common.{inl, inr, ap, sym, subst, ◌∙◌, arith}
 use Rattle.std.proofs.lemmas.Option.{same_Some, none-some}
 use Rattle.pc_caps.specs.Gets.{get_below}
@@ -11,18 +11,17 @@ use Rattle.pc_core.specs.declared.nodes.Node.{Node}
 use Rattle.pc_core.specs.declared.nodes.NodeKind.{NodeKind}
 use Rattle.pc_core.specs.declared.nodes.NodeKind.TheVariants as node
 use Rattle.pc_core.specs.CoreData.{CoreData}
-use Rattle.pc_core.specs.Words.{◌>>=◌}
 use Rattle.pc_core.specs.Members.{bind_some}
 use Rattle.pc_core.specs.Methods.{LocalFits, Uses, this_slot}
 use Rattle.pc_core.specs.Nodes.{NamesFit}
-use Rattle.pc_core.specs.Runs.{get_range}
 use Rattle.pc_core.specs.Formed.{Formed}
 use Rattle.pc_ann.specs.declared.annotation.Ann.{Ann}
 use Rattle.pc_rules.specs.Parts.{Ty, type_of, one_child}
 use Rattle.pc_rules.specs.Alike.{looked_at}
-use Rattle.pc_rules.specs.Slotted.{slot_known}
+use Rattle.pc_rules.specs.Threads.{bind_is}
+use Rattle.pc_rules.specs.Slotted.{slot_known, this_known}
 use Rattle.pc_check.specs.Inference.{unwritten, slot_type, inferred_slot}
-use Rattle.pc_check.proofs.Homes.{home, home_method}
+use Rattle.pc_rules.specs.Homes.{home, home_method}
 
 -- ---- what follows for the slot
 
@@ -63,9 +62,6 @@ inferred_of core ann x k i e f = absurd (none-some i f)
 pub inferred_inv : (core : CoreData) (ann : Ann) (x : Node) (i : ℕ × (ℕ × Cap)) → inferred_slot core ann x x.kind ≡ Some i → Inferred core ann x i
 inferred_inv core ann x i e = inferred_of core ann x x.kind i refl e
 
-bind_is : {A B : Type 0} → (o : Option A) (f : A → Option B) (x : A) → o ≡ Some x → (o >>= f) ≡ f x
-bind_is o f x e = ap (λ p. p >>= f) e
-
 -- It does follow where the value has a type and none is written.
 pub slot_follows : (core : CoreData) (ann : Ann) (x : Node) (s : ℕ) (f : Method) (y : Slot) (c : ℕ) (v : Ty) → slice_get core.methods x.method ≡ Some f → slice_get core.slots (f.first_slot + s) ≡ Some y → y.written ≡ None → one_child x.children ≡ Some c → type_of ann c ≡ Some v → slot_type core ann x s ≡ Some (f.first_slot + s, (v.0, stored v.1))
 slot_follows core ann x s f y c v g h w k t =
@@ -99,13 +95,8 @@ local_of core m s f y formed g l h w = elim (slot_known core m f s y formed g l 
 -- The slot of `this` has a written type, in each method with a body.
 this_written : (core : CoreData) (m : ℕ) (f : Method) (b : ℕ) (y : Slot) → Formed core → slice_get core.methods m ≡ Some f → f.body ≡ Some b → slice_get core.slots (f.first_slot + 0) ≡ Some y → y.written ≡ None → ⊥
 this_written core m f b y formed g e h w =
-    elim (formed.methods m f g).slots [
-      | inl z ↦ let is = same_Some f _ (sym (ap (slice_get core.methods) (sym z) ∙ g) ∙ formed.built_in.method) in
-          none-some b (sym (ap (λ (k : Method). k.body) is) ∙ e)
-      | inr fit ↦ let r = get_range core.slots f.first_slot (f.first_slot + f.slots) 0 (this_slot m f) (ap (λ zs. slice_get zs 0) fit.1) in
-          let is = same_Some y (this_slot m f) (sym h ∙ r.1) in
-          none-some (f.entity, f.receiver) (sym w ∙ ap (λ (k : Slot). k.written) is)
-    ]
+    let is = same_Some y (this_slot m f) (sym h ∙ this_known core m f b formed g e) in
+    none-some (f.entity, f.receiver) (sym w ∙ ap (λ (k : Slot). k.written) is)
 
 -- A node that comes before the definition of a slot without a written type does not look at the slot.
 pub other_place : (core : CoreData) (ann : Ann) (n j : ℕ) (x z : Node) (i : ℕ × (ℕ × Cap)) (s : ℕ) (f : Method) → Formed core → slice_get core.nodes n ≡ Some x → Inferred core ann x i → j < n → slice_get core.nodes j ≡ Some z → looked_at z.kind ≡ Some s → slice_get core.methods z.method ≡ Some f → f.first_slot + s ≡ i.0 → ⊥

@@ -5,38 +5,36 @@ use Rattle.std.proofs.lemmas.List.{length-map, length-set}
 use Rattle.std.proofs.lemmas.Option.{same_Some, none-some, slice_get-get_or}
 use Rattle.std.proofs.lemmas.Bool.{cases_lt}
 use Rattle.pc_caps.specs.Gets.{get_below, get_set, get_set_same}
-use Rattle.pc_core.specs.declared.declarations.Method.{Method}
 use Rattle.pc_core.specs.declared.nodes.Node.{Node}
 use Rattle.pc_core.specs.declared.nodes.NodeKind.{NodeKind}
 use Rattle.pc_core.specs.declared.nodes.NodeKind.TheVariants as node
 use Rattle.pc_core.specs.CoreData.{CoreData}
-use Rattle.pc_core.specs.Words.{Each, Has}
 use Rattle.pc_core.specs.Runs.{map_get}
 use Rattle.pc_core.specs.Formed.{Formed}
-use Rattle.pc_rules.specs.Parts.{Masks}
-use Rattle.pc_rules.specs.FirstRules.{false_true}
+use Rattle.pc_rules.specs.Threads.{false_true}
 use Rattle.pc_rules.specs.Agreeing.{body_method}
-use Rattle.pc_rules.specs.Trees.{Tree, Forest, tree, empty, more, body_tree, tree_le}
-use Rattle.pc_rules.specs.Valid.{Reaches, is_else}
+use Rattle.pc_rules.specs.Trees.{Tree, Forest, more, body_tree, tree_le}
+use Rattle.pc_rules.specs.Valid.{is_else}
 use Rattle.pc_rules.specs.Valid.Reaches.{body, first_child, else_branch, next_child}
 use Rattle.pc_check.specs.declared.sources.Source.{Source}
 use Rattle.pc_check.specs.declared.sources.Source.TheVariants as source
-use Rattle.pc_check.specs.Sources.{Comes, Placed, Sourced, IsBody, IsChild, Known, Filled, PartFilled, PassesOn, ComesLater}
-use Rattle.pc_check.proofs.Homes.{children_of, children_before, known}
+use Rattle.pc_check.specs.Sources.{Comes, Placed, Sourced, Known, Filled, PartFilled, PassesOn, ComesLater}
+use Rattle.pc_rules.specs.Homes.{children_of, children_before}
+use Rattle.pc_check.proofs.Parents.{known}
 
 -- ---- where the trees of a row begin
 
-abbrev low_at : ℕ → List ℕ → ℕ → ℕ
+abbrev pub low_at : ℕ → List ℕ → ℕ → ℕ
 low_at low cs zero = low
 low_at low [] (suc i) = low
 low_at low (c ∷ cs) (suc i) = low_at (c + 1) cs i
 
-tree_at : (core : CoreData) (low high i c : ℕ) (cs : List ℕ) → Forest core low high cs → slice_get cs i ≡ Some c → Tree core (low_at low cs i) c
+pub tree_at : (core : CoreData) (low high i c : ℕ) (cs : List ℕ) → Forest core low high cs → slice_get cs i ≡ Some c → Tree core (low_at low cs i) c
 tree_at core low high i c [] f e = absurd (none-some c e)
 tree_at core low high zero c (d ∷ cs) (more t f) e = subst (Tree core low) (same_Some d c e) t
 tree_at core low high (suc i) c (d ∷ cs) (more t f) e = tree_at core (d + 1) high i c cs f e
 
-low_next : (low i d : ℕ) (cs : List ℕ) → slice_get cs i ≡ Some d → low_at low cs (suc i) ≡ d + 1
+pub low_next : (low i d : ℕ) (cs : List ℕ) → slice_get cs i ≡ Some d → low_at low cs (suc i) ≡ d + 1
 low_next low i d [] e = absurd (none-some d e)
 low_next low zero d (c ∷ cs) e = ap (λ k. k + 1) (same_Some c d e)
 low_next low (suc i) d (c ∷ cs) e = low_next (c + 1) i d cs e
@@ -46,7 +44,7 @@ low_le core low high i c [] f e = absurd (none-some c e)
 low_le core low high zero c (d ∷ cs) (more t f) e = omega arith
 low_le core low high (suc i) c (d ∷ cs) (more t f) e = let l = tree_le core low d t in let m = low_le core (d + 1) high i c cs f e in omega (arith, l, m)
 
-low_behind : (core : CoreData) (low high i c d : ℕ) (cs : List ℕ) → Forest core low high cs → slice_get cs 0 ≡ Some d → slice_get cs (suc i) ≡ Some c → d < low_at low cs (suc i)
+pub low_behind : (core : CoreData) (low high i c d : ℕ) (cs : List ℕ) → Forest core low high cs → slice_get cs 0 ≡ Some d → slice_get cs (suc i) ≡ Some c → d < low_at low cs (suc i)
 low_behind core low high i c d [] f e g = absurd (none-some d e)
 low_behind core low high i c d (b ∷ cs) (more t f) e g = let m = low_le core (b + 1) high i c cs f g in let s = same_Some b d e in omega (arith, m, s)
 

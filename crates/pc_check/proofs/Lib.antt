@@ -1,5 +1,6 @@
-pub mod Homes
+pub mod Parents
 pub mod Filling
 pub mod Definitions
 pub mod Walking
 pub mod Stopping
+pub mod Agreement

@@ -1,5 +1,5 @@
 -- What shows that there is no annotation.
-use Rattle.std.specs.Prelude.{◌≡◌, ◌⊎◌, ℕ, zero, suc, ◌+◌, ◌<◌, ◌≤◌, Bool, true, false, not, ◌&&◌, List, [], ◌∷◌, ◌++◌, length, Option, Some, None, slice_get, slice_set, refl}
+use Rattle.std.specs.Prelude.{◌≡◌, ◌⊎◌, ℕ, zero, suc, ◌+◌, ◌<◌, Bool, true, false, not, List, [], ◌∷◌, length, Option, Some, None, slice_get, slice_set, refl}
 use Rattle.std.proofs.Common.{inl, inr, ap, sym, subst, ◌∙◌, arith}
 use Rattle.std.proofs.lemmas.List.{length-append}
 use Rattle.std.proofs.lemmas.Option.{same_Some, none-some}
@@ -23,20 +23,22 @@ use Rattle.pc_ann.specs.declared.annotation.Rule.{Rule}
 use Rattle.pc_ann.specs.declared.annotation.Rule.TheVariants as rule
 use Rattle.pc_sub.specs.Declarations.{DeclOk}
 use Rattle.pc_rules.specs.declared.said.Said.{Said}
-use Rattle.pc_rules.specs.Parts.{Ty, Masks, constructs, full, before, type_of}
-use Rattle.pc_rules.specs.Values.{defined_type, define_says}
+use Rattle.pc_rules.specs.Parts.{Masks, constructs, full, before}
+use Rattle.pc_rules.specs.Values.{defined_type}
 use Rattle.pc_rules.specs.Rules.{says, Meets}
-use Rattle.pc_rules.specs.Valid.{Reaches, Infers, DifferAt, NoRule, Unset}
+use Rattle.pc_rules.specs.Valid.{Reaches, Infers, DifferAt}
 use Rattle.pc_rules.specs.Alike.{looked_at, LooksAlike, slot_same, says_same}
-use Rattle.pc_rules.specs.FirstRules.{false_true}
+use Rattle.pc_rules.specs.Threads.{false_true}
+use Rattle.pc_rules.specs.OneRule.{define_rule}
 use Rattle.pc_rules.specs.Agreeing.{define_inv, slot_parts}
 use Rattle.pc_check.specs.declared.sources.Source.{Source}
 use Rattle.pc_check.specs.Sources.{Sourced}
 use Rattle.pc_check.specs.Inference.{inferred_slot, with_slot, with_inferred, masks_from, rules_for, or_else, first_note, is_body, lacks_field, leaves_unset}
 use Rattle.pc_check.specs.Faults.{StopsAt, LeavesUnset}
 use Rattle.pc_check.specs.Walked.{Walked}
-use Rattle.pc_check.proofs.Homes.{home, home_method, home_body, earlier_body}
-use Rattle.pc_check.proofs.Definitions.{slot_follows, looked_kind, defines_below}
+use Rattle.pc_rules.specs.Homes.{home, home_method, home_body}
+use Rattle.pc_check.proofs.Parents.{earlier_body}
+use Rattle.pc_check.proofs.Definitions.{slot_follows, looked_kind}
 use Rattle.pc_check.proofs.Walking.{walked_infer, reached, reaches_infer, noted, note_here, meets_noted, sets_noted, with_notes}
 
 -- ---- no rule
@@ -96,10 +98,6 @@ no_rule_says core ann x m e r = elim (rule_among core ann x m r x.kind) [ inl ha
 is_none : {A : Type 0} → (o : Option A) → ((q : A) → o ≡ Some q → ⊥) → o ≡ None
 is_none None h = refl
 is_none (Some q) h = absurd (h q refl)
-
-define_rule : (core : CoreData) (ann : Ann) (x : Node) (m : Masks) (r : Rule) (s : ℕ) (q : Said) → says core ann x m r (node.Define s) ≡ Some q → define_says core ann x s m ≡ Some q
-define_rule core ann x m rule.Define s q e = e
-define_rule core ann x m r s q e = absurd (none-some q e)
 
 -- Where a rule says something of a definition without a written type, its slot has the type that follows.
 type_follows : (core : CoreData) (a : Ann) (slots : List (ℕ × Cap)) (x : Node) (m : Masks) (r : Rule) (s : ℕ) (f : Method) (y : Slot) (q : Said) → x.kind ≡ node.Define s → slice_get core.methods x.method ≡ Some f → slice_get core.slots (f.first_slot + s) ≡ Some y → y.written ≡ None → says core (record { slots = slots; notes = a.notes }) x m r x.kind ≡ Some q → (ty : ℕ × Cap) × (inferred_slot core a x x.kind ≡ Some (f.first_slot + s, ty)) × (slice_get slots (f.first_slot + s) ≡ Some ty)

@@ -1,12 +1,11 @@
 -- One node more.
-use Rattle.std.specs.Prelude.{◌≡◌, ◌≢◌, ◌⊎◌, ℕ, zero, suc, ◌+◌, ◌-◌, ◌<◌, ◌≤◌, Bool, true, false, not, ◌&&◌, List, [], ◌∷◌, ◌++◌, map, length, Option, Some, None, slice_get, slice_set, refl}
+use Rattle.std.specs.Prelude.{◌≡◌, ◌⊎◌, ℕ, ◌+◌, ◌<◌, ◌≤◌, Bool, true, false, not, ◌&&◌, List, [], ◌∷◌, ◌++◌, map, length, Option, Some, None, slice_get, slice_set, refl}
 use Rattle.std.proofs.Common.{inl, inr, ap, sym, subst, ◌∙◌, arith}
 use Rattle.std.proofs.lemmas.List.{length-map, length-set, length-append}
 use Rattle.std.proofs.lemmas.Option.{same_Some, none-some}
-use Rattle.std.proofs.lemmas.Bool.{cases_lt, and_parts}
+use Rattle.std.proofs.lemmas.Bool.{cases_lt}
 use Rattle.std.proofs.lemmas.Bool.Decides.{eqb_tells}
-use Rattle.pc_caps.specs.Gets.{get_below, get_within, get_front, get_behind, get_set_same, get_set_other}
-use Rattle.pc_caps.specs.Tables.{stored}
+use Rattle.pc_caps.specs.Gets.{get_below, get_within, get_front, get_behind, get_set_other}
 use Rattle.pc_caps.specs.declared.capability.Cap.{Cap}
 use Rattle.pc_core.specs.declared.declarations.Method.{Method}
 use Rattle.pc_core.specs.declared.nodes.Slot.{Slot}
@@ -14,36 +13,28 @@ use Rattle.pc_core.specs.declared.nodes.Node.{Node}
 use Rattle.pc_core.specs.declared.nodes.NodeKind.{NodeKind}
 use Rattle.pc_core.specs.declared.nodes.NodeKind.TheVariants as node
 use Rattle.pc_core.specs.CoreData.{CoreData}
-use Rattle.pc_core.specs.Words.{◌>>=◌, Each}
-use Rattle.pc_core.specs.Lookup.{own_slots}
-use Rattle.pc_core.specs.Members.{bind_some}
-use Rattle.pc_core.specs.Methods.{LocalFits, SlotsFit, Uses, this_slot}
-use Rattle.pc_core.specs.Nodes.{NamesFit, NamesSlot, NamesLocal}
-use Rattle.pc_core.specs.Runs.{get_map, map_get, get_range, range_get}
+use Rattle.pc_core.specs.Words.{Each}
+use Rattle.pc_core.specs.Runs.{get_map}
 use Rattle.pc_core.specs.Formed.{Formed}
-use Rattle.pc_ann.specs.declared.mask.Mask.{Mask}
 use Rattle.pc_ann.specs.declared.annotation.Note.{Note}
 use Rattle.pc_ann.specs.declared.annotation.Ann.{Ann}
 use Rattle.pc_ann.specs.declared.annotation.Rule.{Rule}
-use Rattle.pc_ann.specs.declared.annotation.Rule.TheVariants as rule
 use Rattle.pc_sub.specs.Declarations.{DeclOk}
 use Rattle.pc_rules.specs.declared.said.Said.{Said}
-use Rattle.pc_rules.specs.Parts.{Ty, Masks, constructs, full, before, after, type_of, one_child, slot_of}
-use Rattle.pc_rules.specs.Values.{defined_type}
-use Rattle.pc_rules.specs.Rules.{says, said_by, Meets}
-use Rattle.pc_rules.specs.Valid.{Valid, KeepsWritten, SetsFields, Reaches, MeetsReached, Infers, DifferAt, NoRule, Unset}
+use Rattle.pc_rules.specs.Parts.{Masks, constructs, full, before}
+use Rattle.pc_rules.specs.Rules.{says, Meets}
+use Rattle.pc_rules.specs.Valid.{Valid, SetsFields, Reaches, MeetsReached}
 use Rattle.pc_rules.specs.Valid.Reaches.{body, first_child, else_branch, next_child}
-use Rattle.pc_rules.specs.Alike.{looked_at, LooksAlike, SameNotes, slot_same, says_same}
+use Rattle.pc_rules.specs.Alike.{LooksAlike, SameNotes, slot_same, says_same}
 use Rattle.pc_rules.specs.Trees.{tree_le}
-use Rattle.pc_rules.specs.FirstRules.{false_true}
+use Rattle.pc_rules.specs.Threads.{false_true}
 use Rattle.pc_rules.specs.Agreeing.{body_method}
 use Rattle.pc_check.specs.declared.sources.Source.{Source}
 use Rattle.pc_check.specs.declared.sources.Source.TheVariants as source
 use Rattle.pc_check.specs.Sources.{Comes, Placed}
-use Rattle.pc_check.specs.Inference.{masks_in, masks_behind, written_type, first_types, unwritten, slot_type, inferred_slot, with_slot, with_inferred, masks_from, rules_for, note_of, or_else, first_note, is_body, lacks_field, leaves_unset}
-use Rattle.pc_check.specs.Faults.{StopsAt, LeavesUnset}
+use Rattle.pc_check.specs.Inference.{masks_in, masks_behind, written_type, first_types, inferred_slot, with_slot, with_inferred, masks_from, note_of, or_else, first_note, is_body, lacks_field, leaves_unset}
 use Rattle.pc_check.specs.Walked.{Walked}
-use Rattle.pc_check.proofs.Homes.{Home, home, home_method, home_body, children_before, earlier_body}
+use Rattle.pc_rules.specs.Homes.{children_before}
 use Rattle.pc_check.proofs.Definitions.{inferred_inv, other_place}
 
 -- ---- before the first node

@@ -1,5 +1,5 @@
 -- What shows that a core gets no annotation.
-use Rattle.std.specs.Prelude.{◌≡◌, ℕ, ◌+◌, length, Some}
+use Rattle.std.specs.Prelude.{◌≡◌, ◌⊎◌, ℕ, ◌+◌, length, Some, Result, Err}
 use Rattle.pc_core.specs.CoreData.{CoreData}
 use Rattle.pc_ann.specs.declared.annotation.Ann.{Ann}
 use Rattle.pc_sub.specs.Declarations.{first_fault}
@@ -24,3 +24,7 @@ Refuses core (fault.Decl f) = first_fault core ≡ Some f
 Refuses core (fault.NoRule n l s ann) = StopsAt core n (l, s) ann
 Refuses core (fault.Unset m ann) = LeavesUnset core m ann
 Refuses core fault.Memory = Unit {0}
+
+-- The answer is this one, or memory ran out.
+abbrev pub Answers : Result Ann CheckFault → Result Ann CheckFault → Type 0
+Answers result wanted = (result ≡ wanted) ⊎ (result ≡ Err fault.Memory)

@@ -2,3 +2,4 @@ pub mod Sources
 pub mod Inference
 pub mod Faults
 pub mod Walked
+pub mod Laws

@@ -1,10 +1,11 @@
 //! The walk through the nodes.
-ghost use Rattle.std.specs.Prelude.{◌≡◌, Some, Err, IfOk, IfErr};
+ghost use Rattle.std.specs.Prelude.{◌≡◌, Some, Ok, Err, IfOk, IfErr};
+ghost use Rattle.pc_ann.specs.declared.annotation.Ann.{Ann};
 ghost use Rattle.pc_sub.specs.declared.faults.DeclFault.{DeclFault};
 ghost use Rattle.pc_sub.specs.Declarations.{DeclOk, first_fault};
 ghost use Rattle.pc_rules.specs.Valid.{Valid};
 ghost use Rattle.pc_check.specs.declared.fault.CheckFault.TheVariants as fault_of;
-ghost use Rattle.pc_check.specs.Faults.{Refuses};
+ghost use Rattle.pc_check.specs.Faults.{Refuses, Answers};
 ghost use Rattle.pc_check.specs.Sources.{Sourced};
 ghost use Rattle.pc_check.specs.Walked.{Walked};
 
@@ -15,6 +16,7 @@ use crate::sources::{Source, source_at, sources};
 use pc_ann::Ann;
 use pc_caps::List;
 use pc_core::Core;
+use pc_rules::one_annotation_is_valid;
 use pc_sub::declarations;
 use std::alloc::{AllocError, Global};
 
@@ -75,7 +77,19 @@ fn infer(alloc: Global, core: &Core) -> Result<Ann, CheckFault>
     note_nodes(core, &sources, ann)
 }
 
-/// The core's annotation: its declarations are looked at first, and then its nodes, one after the other.
+// The declarations, and then the nodes.
+fn looked_through(alloc: Global, core: &Core) -> Result<Ann, CheckFault>
+    ensures ok { IfOk result (Valid core.now) }
+    ensures err { IfErr result (Refuses core.now) }
+    ensures declarations { (fault : DeclFault) → first_fault core.now ≡ Some fault → result ≡ Err (fault_of.Decl fault) }
+{
+    match declarations(core) {
+        Ok(()) => infer(alloc, core),
+        Err(fault) => Err(CheckFault::Decl(fault)),
+    }
+}
+
+/// The core's annotation: the declarations are looked at first, and then the nodes, one after the other.
 ///
 /// `Decl` comes exactly where the declarations fail, with the first that does. `NoRule` names a node of which no rule says
 /// anything, from the masks that reach it, and `Unset` the first constructor that leaves a field unset; `so_far` has a
@@ -86,11 +100,12 @@ pub fn check(alloc: Global, core: &Core) -> Result<Ann, CheckFault>
     ensures ok { IfOk result (Valid core.now) }
     // The fault is shown by what it carries.
     ensures err { IfErr result (Refuses core.now) }
+    // Where an annotation is valid, it is the answer, unless memory ran out.
+    ensures exact { (ann : Ann) → Valid core.now ann → Answers result (Ok ann) }
     // Where the declarations fail, no want of memory comes before their fault.
     ensures declarations { (fault : DeclFault) → first_fault core.now ≡ Some fault → result ≡ Err (fault_of.Decl fault) }
 {
-    match declarations(core) {
-        Ok(()) => infer(alloc, core),
-        Err(fault) => Err(CheckFault::Decl(fault)),
-    }
+    core.formed();
+    one_annotation_is_valid();
+    looked_through(alloc, core)
 }

@@ -158,7 +158,7 @@ module _ (core : CoreData) (a b : Ann) (formed : Formed core) (wa : KeepsWritten
       let y : p.slot.0 ≡ q.slot.0 = same_Some p.slot.0 q.slot.0 (sym pa.0 ∙ pb.0) in
       pa.1 ∙ ap Some (p.ty ∙ ap (λ (z : Slot). defined_type z.written p.value) y ∙ ap (defined_type q.slot.0.written) v ∙ sym q.ty) ∙ sym pb.1
 
-  this_alike : (n : ℕ) (x : Node) → slice_get core.nodes n ≡ Some x → (f : Method) → slice_get core.methods x.method ≡ Some f → slice_get a.slots (f.first_slot + 0) ≡ slice_get b.slots (f.first_slot + 0)
+  pub this_alike : (n : ℕ) (x : Node) → slice_get core.nodes n ≡ Some x → (f : Method) → slice_get core.methods x.method ≡ Some f → slice_get a.slots (f.first_slot + 0) ≡ slice_get b.slots (f.first_slot + 0)
   this_alike n x g f i =
       let h = home core n formed (get_below core.nodes n x g) in
       let is : f ≡ h.method = same_Some f h.method (sym i ∙ ap (slice_get core.methods) (home_method core n x h g) ∙ h.is_method) in
@@ -168,7 +168,7 @@ module _ (core : CoreData) (a b : Ann) (formed : Formed core) (wa : KeepsWritten
   looks_at : (x : Node) (s i : ℕ) → Some s ≡ Some i → ((f : Method) → slice_get core.methods x.method ≡ Some f → slice_get a.slots (f.first_slot + s) ≡ slice_get b.slots (f.first_slot + s)) → slot_of core a x.method i ≡ slot_of core b x.method i
   looks_at x s i l h = subst (λ j. slot_of core a x.method j ≡ slot_of core b x.method j) (same_Some s i l) (slot_same a b core x.method s h)
 
-  use_alike : (n : ℕ) (x : Node) (k : NodeKind) (s : ℕ) → Agree core a b n → slice_get core.nodes n ≡ Some x → x.kind ≡ k → Uses s k → NamesSlot core x.method s → (f : Method) → slice_get core.methods x.method ≡ Some f → slice_get a.slots (f.first_slot + s) ≡ slice_get b.slots (f.first_slot + s)
+  pub use_alike : (n : ℕ) (x : Node) (k : NodeKind) (s : ℕ) → Agree core a b n → slice_get core.nodes n ≡ Some x → x.kind ≡ k → Uses s k → NamesSlot core x.method s → (f : Method) → slice_get core.methods x.method ≡ Some f → slice_get a.slots (f.first_slot + s) ≡ slice_get b.slots (f.first_slot + s)
   use_alike n x k s same g e u names = used_alike n x s same g names (subst (Uses s) (sym e) u)
 
   -- What node n looks at is the same in both.

@@ -1,7 +1,4 @@
-use Rattle.std.proofs.Common.{◌≡◌, ◌+◌, ap, sym, ◌∙◌, subst, slice_get, length, arith}
-use Rattle.pc_core.specs.declared.nodes.Node.{Node}
-use Rattle.pc_ann.specs.declared.annotation.Ann.{Ann}
-use Rattle.pc_rules.specs.Parts.{before, Masks}
+use Rattle.std.proofs.Common.{◌+◌, ap, sym, ◌∙◌, subst, length, arith}
 use Rattle.pc_rules.specs.Valid.{Reaches}
 use Rattle.pc_check.specs.Walked.{Walked}
 use Rattle.pc_check.specs.Faults.{LeavesUnset}

@@ -1,4 +1,4 @@
-use Rattle.std.proofs.Common.{ℕ, sym, subst, arith}
+use Rattle.std.proofs.Common.{ℕ, sym, subst}
 use Rattle.pc_check.specs.Sources.{PassesOn}
 use Rattle.pc_check.proofs.Filling.{first_placed}
 use Rattle.pc_check.proofs.sources.child_source.Goals as goal

@@ -1,4 +1,4 @@
-use Rattle.std.proofs.Common.{length, sym, ap, ◌∙◌, subst, arith}
+use Rattle.std.proofs.Common.{length, sym, ap, subst, arith}
 use Rattle.pc_check.specs.Sources.{Filled}
 use Rattle.pc_check.proofs.Filling.{filled_start, filled_end}
 use Rattle.pc_check.proofs.sources.sources.Goals as goal

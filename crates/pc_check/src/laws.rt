@@ -1,0 +1,18 @@
+//! What the faults show: there is no valid annotation. Each call does nothing, and its contract is the law.
+ghost use Rattle.pc_check.specs.Laws as law;
+
+/// A core with a node of which no rule says anything has no valid annotation.
+pub fn nothing_is_derivable_without_a_rule()
+    ensures { law.NoneWithoutRule }
+{}
+
+/// A core with a constructor that leaves a field unset has no valid annotation.
+pub fn nothing_is_derivable_with_a_field_unset()
+    ensures { law.NoneWithUnset }
+{}
+
+/// A core with a declaration that fails has no valid annotation.
+#[tactic(auto, using(crate::proofs::Agreement::none_with_fault))]
+pub fn nothing_is_derivable_with_a_declaration_that_fails()
+    ensures { law.NoneWithFault }
+{}
