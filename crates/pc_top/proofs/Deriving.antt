@@ -1,10 +1,13 @@
 -- From what the inference answers to the verdict of `check`.
-use Rattle.std.proofs.Common.{◌≡◌, ◌≤◌, ℕ, length, Option, Some, None, Ok, Err, refl, inl, sym, ap, ◌∙◌, subst, arith}
+use Rattle.std.proofs.Common.{◌≡◌, ◌≤◌, ℕ, true, length, Option, Some, None, Ok, Err, refl, inl, sym, ap, ◌∙◌, subst, arith}
 use Rattle.std.specs.Prelude.{Result}
 use Rattle.pc_core.specs.CoreData.{CoreData}
 use Rattle.pc_check.specs.Faults.{Refuses}
 use Rattle.pc_check.specs.declared.fault.CheckFault.{CheckFault}
 use Rattle.pc_check.specs.declared.fault.CheckFault.TheVariants as fault
+use Rattle.pc_ann.specs.declared.annotation.Ann.{Ann}
+use Rattle.pc_rules.specs.Valid.{Valid}
+use Rattle.pc_deriv.specs.Limits.{slot_limit, node_limit}
 use Rattle.pc_first.specs.Cores.{core_of}
 use Rattle.pc_first.specs.FirstForm.{Spell, FormedFirst}
 use Rattle.pc_first.specs.Naming.{well_named}
@@ -31,11 +34,11 @@ use Rattle.pc_top.proofs.Parts.{unchanged, kept}
 
 refused_at : (name : Text) (source : Source) (f : CheckFault) (status : ℕ) (line : Text) → Refuses source.core f → IsCoreRefusal name source f (Refused status line)
     → Deriving name source (Err (refused status line))
-refused_at name source (fault.Decl d) status line r h = rw (h.1, h.2) (declared r)
+refused_at name source (fault.Decl d) status line r h = rw (h.1, h.2) (declared d r)
 refused_at name source (fault.NoRule n l s ann) status line r h =
     let at : node_start (Some r.0.at) ≡ r.0.at.span.start = refl in
-    rw (h.1, h.2, r.0.is_at) (no_rule r.0)
-refused_at name source (fault.Unset m ann) status line r h = rw (h.1, h.2, r.0.is_method) (unset r.0)
+    rw (h.1, h.2, r.0.is_at) (no_rule ann n r.0)
+refused_at name source (fault.Unset m ann) status line r h = rw (h.1, h.2, r.0.is_method) (unset ann m r.0)
 refused_at name source fault.Memory status line r h = absurd (h.0 refl)
 
 -- where the inference stops
@@ -47,7 +50,7 @@ core_stops name source f Memory r h = tt
 
 -- a source that all stages let pass
 pub source_says : {name : Text} {r : Reading} {s : Source} → SourceStage name r (Ok s) → (r ≡ whole s.bytes) × CoreOf s.bytes s.core
-source_says (goes (fits {bytes = b}) (has_core (goes (lexed {ts = t} l) (says {p = p} a)))) = (refl, (p, (t, l.0, a), refl))
+source_says (goes (fits {bytes = b}) (has_core (goes (lexed {ts = t} l) (says p a)))) = (refl, (p, (t, l.0, a), refl))
 
 -- its core is that of a program of the first form
 pub source_first : {name : Text} {r : Reading} {s : Source} → SourceStage name r (Ok s) → (p : Program) × (core_of p ≡ s.core) × (well_named p ≡ true)
@@ -60,3 +63,21 @@ check_stops file source told f g (Refused status line) p h = (refused status lin
 check_stops file source told f g (File n) p h = absurd h
 check_stops file source told f g Sink p h = absurd h
 check_stops file source told f g Memory p h = inl (kept told)
+
+-- a core of that form is small
+pub small_source : FormedFirst → {name : Text} {r : Reading} {s : Source} → SourceStage name r (Ok s) → IsSmall s.core
+small_source law {s = s} h =
+    let f = source_first h in
+    let first = law f.0 f.2 in
+    let few = first.few_slots in
+    let nodes = first.few_nodes in
+    subst IsSmall f.1 (omega (arith, few), omega (arith, nodes))
+
+-- and so is its valid annotation
+pub small_notes : (core : CoreData) (ann : Ann) → IsSmall core → Valid core ann → (length ann.slots ≤ slot_limit) × (length ann.notes ≤ node_limit)
+small_notes core ann small v =
+    let few = small.0 in
+    let nodes = small.1 in
+    let a = v.slots in
+    let b = v.notes in
+    (omega (arith, few, a), omega (arith, nodes, b))

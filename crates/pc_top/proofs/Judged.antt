@@ -28,7 +28,7 @@ told_fault bytes deriv.TooMany h r = r
 told_fault bytes deriv.Memory h r = absurd (h refl)
 
 pub text_stops : (name bytes : Text) (f : DerivFault) (s : Stop) → Refuses bytes f → IsTextRefusal name f s → StageStops (Reads name bytes) s
-text_stops name bytes f (Refused status line) r h = rw (h.1, h.2) (refuses (told_fault bytes f h.0 r))
+text_stops name bytes f (Refused status line) r h = rw (h.1, h.2) (refuses f (told_fault bytes f h.0 r))
 text_stops name bytes f (File n) r h = h
 text_stops name bytes f Sink r h = h
 text_stops name bytes f Memory r h = tt
@@ -49,14 +49,14 @@ never_longer name s (goes l t) = elim l [ ]
 -- the derivation's stages stop behind those of the source
 pub derivation_stopped : (source derivation : Named) (s : Source) (v : Verdict) (d : Reading) → PartGives source_limit (SourceStage source.name) source s
     → Gives derivation derivation_limit d → DerivationStage derivation.name d (Err v) → IsJudge source derivation v
-derivation_stopped source derivation s v d p g h = source_stands p.1 p.2 g (stops h) refl
+derivation_stopped source derivation s v d p g h = source_stands p.0 d s (Err v) p.1 p.2 g (stops h) refl
 
 -- the judge stops behind them
 pub judge_stops : (source derivation : Named) (s : Source) (ann : Ann) (told : Option Text) (f g : ℕ) (stop : Stop)
     → PartGives source_limit (SourceStage source.name) source s → PartGives derivation_limit (DerivationStage derivation.name) derivation ann
     → StageStops (Judging source.name derivation.name s ann) stop
     → Stops (IsJudge source derivation) (λ name. FailedAt source name ⊎ FailedAt derivation name) (change told told f g) stop
-judge_stops source derivation s ann told f g (Refused status line) p d h = (refused status line, source_stands p.1 p.2 d.1 (goes d.2 h) refl, refl, refl, unchanged told)
+judge_stops source derivation s ann told f g (Refused status line) p d h = (refused status line, source_stands p.0 d.0 s (Err (refused status line)) p.1 p.2 d.1 (goes d.2 h) refl, refl, refl, unchanged told)
 judge_stops source derivation s ann told f g (File n) p d h = absurd h
 judge_stops source derivation s ann told f g Sink p d h = absurd h
 judge_stops source derivation s ann told f g Memory p d h = inl (kept told)

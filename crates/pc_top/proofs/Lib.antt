@@ -6,3 +6,5 @@ mod Judged
 mod One
 mod Parts
 mod Places
+mod Reaching
+mod Stopping

@@ -16,12 +16,12 @@ use Rattle.pc_top.specs.declared.source.Source.{Source}
 -- Its core: the derivation text of its valid annotation; and else 1, with the place of the first declaration that fails, of
 -- the node at which no rule holds, or of a constructor that leaves a field unset.
 pub data Deriving (name : Text) (source : Source) : Result Text Verdict → Type 0 where
-  derives : {ann : Ann} {text : Text} → Valid source.core ann → IsText text ann → Deriving name source (Ok text)
-  declared : {f : DeclFault} → first_fault source.core ≡ Some f
+  derives : (ann : Ann) {text : Text} → Valid source.core ann → IsText text ann → Deriving name source (Ok text)
+  declared : (f : DeclFault) → first_fault source.core ≡ Some f
       → Deriving name source (Err (refused 1 (offset_line name source.bytes (decl_offset source.core f) (decl_text f))))
-  no_rule : {ann : Ann} {n : ℕ} → (stop : NoRule source.core ann n)
+  no_rule : (ann : Ann) (n : ℕ) (stop : NoRule source.core ann n)
       → Deriving name source (Err (refused 1 (offset_line name source.bytes stop.at.span.start (codes "no rule"))))
-  unset : {ann : Ann} {m : ℕ} → (left : Unset source.core ann m)
+  unset : (ann : Ann) (m : ℕ) (left : Unset source.core ann m)
       → Deriving name source (Err (refused 1 (offset_line name source.bytes left.method.span.start (codes "field not set"))))
 
 -- The source's stages, and then its core's.

@@ -34,7 +34,7 @@ text_line name f = many_line name
 
 pub data Reads (name bytes : Text) : Result Ann Verdict → Type 0 where
   reads : {ann : Ann} → IsText bytes ann → Reads name bytes (Ok ann)
-  refuses : {f : DerivFault} → IsFault bytes f → Reads name bytes (Err (refused (text_status f) (text_line name f)))
+  refuses : (f : DerivFault) → IsFault bytes f → Reads name bytes (Err (refused (text_status f) (text_line name f)))
 
 -- The refusal of bytes that are no derivation's text, or want of memory.
 abbrev pub IsTextRefusal : Text → DerivFault → Stop → Type 0
@@ -57,7 +57,7 @@ judge_line source_name name source (fault.Unset m) = unset_line name m
 
 pub data Judging (source_name name : Text) (source : Source) (ann : Ann) : Result (Unit {0}) Verdict → Type 0 where
   holds : Valid source.core ann → Judging source_name name source ann (Ok tt)
-  fails : {f : JudgeFault} → FirstFault source.core ann f → Judging source_name name source ann (Err (refused 6 (judge_line source_name name source f)))
+  fails : (f : JudgeFault) → FirstFault source.core ann f → Judging source_name name source ann (Err (refused 6 (judge_line source_name name source f)))
 
 -- The stages of the derivation, and then those of its annotation.
 abbrev pub JudgeStage : Text → Text → Source → Reading → Result (Unit {0}) Verdict → Type 0
@@ -70,6 +70,6 @@ judged (Err v) = v
 
 -- The verdict of `judge` on this source and this derivation. The derivation is not looked at where the source is refused.
 pub data IsJudge (source derivation : Named) (v : Verdict) : Type 0 where
-  source_stops : {r : Reading} → Gives source source_limit r → SourceStage source.name r (Err v) → IsJudge source derivation v
-  source_stands : {r d : Reading} {s : Source} {end : Result (Unit {0}) Verdict} → Gives source source_limit r → SourceStage source.name r (Ok s)
+  source_stops : (r : Reading) → Gives source source_limit r → SourceStage source.name r (Err v) → IsJudge source derivation v
+  source_stands : (r d : Reading) (s : Source) (end : Result (Unit {0}) Verdict) → Gives source source_limit r → SourceStage source.name r (Ok s)
       → Gives derivation derivation_limit d → JudgeStage source.name derivation.name s d end → v ≡ judged end → IsJudge source derivation v

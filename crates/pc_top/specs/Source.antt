@@ -32,7 +32,7 @@ pub data Lexing (name : Text) (bytes : Text) : Result (List Token) Verdict → T
 
 -- Its form: 14 where the tokens are not those of the first form, and else the core of what they say.
 pub data Form (name : Text) (ts : List Token) : Result CoreData Verdict → Type 0 where
-  says : {p : Program} → Spell ts p → Form name ts (Ok (core_of p))
+  says : (p : Program) → Spell ts p → Form name ts (Ok (core_of p))
   not_built : ((p : Program) → Spell ts p → ⊥) → Form name ts (Err (refused 14 (not_built_line name)))
 
 -- From its bytes to its core.

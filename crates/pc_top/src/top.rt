@@ -13,9 +13,16 @@ use crate::finish::finish;
 use crate::judge::run_judge;
 use crate::lines::make_usage_line;
 use crate::stop::Stop;
-use pc_first::programs_are_one;
+use pc_check::{
+    nothing_is_derivable_with_a_declaration_that_fails, nothing_is_derivable_without_a_rule,
+};
+use pc_deriv::{annotations_are_one, faults_are_one};
+use pc_first::{cores_are_formed, programs_are_one};
 use pc_io::{Files, Sink};
+use pc_judge::{faulted_is_not_valid, one_fault_is_first};
 use pc_lex::{faults_are_told, tokens_are_one};
+use pc_rules::one_annotation_is_valid;
+use pc_sub::no_fault_where_declarations_fit;
 use std::alloc::Global;
 
 /// Does what the words after the program's name ask for, and answers the exit status.
@@ -88,4 +95,13 @@ pub fn verdict_is_one()
     tokens_are_one();
     faults_are_told();
     programs_are_one();
+    cores_are_formed();
+    no_fault_where_declarations_fit();
+    one_annotation_is_valid();
+    nothing_is_derivable_without_a_rule();
+    nothing_is_derivable_with_a_declaration_that_fails();
+    annotations_are_one();
+    faults_are_one();
+    one_fault_is_first();
+    faulted_is_not_valid();
 }
