@@ -2,3 +2,4 @@ pub mod Kept
 pub mod AtNode
 pub mod Bodies
 pub mod Exact
+pub mod Faulty

@@ -1,12 +1,14 @@
 //! The judge: whether an annotation of a core is valid, and else what is first wrong of it.
 #![tactic(auto)]
 
+mod examples;
 mod faults;
 mod judging;
 mod laws;
 mod nodes;
 mod slots;
 
+pub use examples::faults_of_a_small_program;
 pub use faults::JudgeFault;
 pub use judging::judge;
 pub use laws::{faulted_is_not_valid, one_fault_is_first};

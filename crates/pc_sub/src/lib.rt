@@ -2,6 +2,7 @@
 #![tactic(auto)]
 
 mod checks;
+mod examples;
 mod faults;
 mod laws;
 mod parameters;
@@ -10,6 +11,7 @@ mod subtypes;
 mod traits;
 
 pub use checks::declarations;
+pub use examples::faults_of_small_declarations;
 pub use faults::DeclFault;
 pub use laws::no_fault_where_declarations_fit;
 pub use subtypes::is_sub;

@@ -1,0 +1,128 @@
+-- The faults of the small program's wrong derivations.
+use Rattle.std.specs.Prelude.{◌≡◌, ℕ, zero, suc, ◌<◌, Bool, true, false, List, [], ◌∷◌, Option, Some, None, slice_get, refl}
+use Rattle.std.proofs.Common.{ap, sym, subst, ◌∙◌, arith}
+use Rattle.std.proofs.lemmas.Option.{same_Some, none-some}
+use Rattle.pc_caps.specs.declared.capability.Cap.{Cap}
+use Rattle.pc_caps.specs.declared.capability.Cap.TheVariants as cap
+use Rattle.pc_caps.specs.Tables.{sendable}
+use Rattle.pc_caps.specs.declared.capability.Form.{Form}
+use Rattle.pc_caps.specs.declared.capability.Form.TheVariants as form
+use Rattle.pc_core.specs.declared.declarations.Method.{Method}
+use Rattle.pc_core.specs.declared.declarations.ParamInfo.{ParamInfo}
+use Rattle.pc_core.specs.declared.nodes.Node.{Node}
+use Rattle.pc_core.specs.declared.nodes.NodeKind.TheVariants as node
+use Rattle.pc_core.specs.declared.nodes.Slot.{Slot}
+use Rattle.pc_core.specs.declared.nodes.SlotKind.TheVariants as slot
+use Rattle.pc_core.specs.Words.{Each}
+use Rattle.pc_core.specs.Entities.{print_method}
+use Rattle.pc_ann.specs.declared.annotation.Note.{Note}
+use Rattle.pc_ann.specs.declared.annotation.Rule.TheVariants as rule
+use Rattle.pc_sub.specs.Declarations.{TakesSendable, Conforms, DeclOk}
+use Rattle.pc_rules.specs.declared.said.Said.{Said}
+use Rattle.pc_rules.specs.Parts.{constructs, full}
+use Rattle.pc_rules.specs.Rules.{Meets, MeetsRule}
+use Rattle.pc_rules.specs.Valid.{KeepsWritten}
+use Rattle.pc_rules.specs.Example.{four_slots, create_c, create_main, at, node_of, noted}
+use Rattle.pc_judge.specs.Faults as spec
+use Rattle.pc_judge.specs.Example as example
+
+-- ---- lists, element by element
+
+-- The first element has the property, and so on.
+abbrev All : {T : Type 0} → (ℕ → T → Type 0) → List T → Type 0
+All P [] = zero ≡ zero
+All P (x ∷ xs) = P 0 x × All (λ i. P (suc i)) xs
+
+each : {T : Type 0} → (P : ℕ → T → Type 0) (xs : List T) → All P xs → Each P xs
+each P [] h i x e = absurd (none-some x e)
+each P (y ∷ ys) h zero x e = subst (P 0) (same_Some y x e) h.0
+each P (y ∷ ys) h (suc i) x e = each (λ j. P (suc j)) ys h.1 i x e
+
+none : {T : Type 0} → (P : ℕ → T → Type 0) → Each P []
+none P i x e = absurd (none-some x e)
+
+-- ---- what is right
+
+abbrev Sent : ℕ → ParamInfo → Type 0
+Sent i p = sendable p.cap ≡ true
+
+declared : DeclOk four_slots
+declared = record {
+  sendable =
+      each (λ m x. TakesSendable x) four_slots.methods
+      (λ h. each Sent (print_method 1).params (refl, refl), (λ h. each Sent create_c.params refl, (λ h. each Sent create_main.params (refl, refl), refl)));
+  conform =
+      each (λ e x. Each (λ i b. Conforms four_slots e b) x.provides) four_slots.entities
+      (none _, (none _, (none _, (none _, (none _, (none _, (none _, (none _, refl))))))));
+}
+
+written : KeepsWritten four_slots example.noted_as_ref
+written = each (λ k y. spec.KeepsType example.noted_as_ref k y) four_slots.slots (λ ty e. e, (λ ty e. e, (λ ty e. e, (λ ty e. e, refl))))
+
+-- Of the nodes before node 3, the last is a body, behind which no field is left, since there is none.
+set_behind : (n : ℕ) → n < 3 → spec.SetsBehind four_slots example.noted_as_ref n
+set_behind n l zero x e body c b t there h = absurd (let bad : false ≡ true = subst (λ (y : Method). constructs y.kind ≡ true) (sym (same_Some _ x e)) c in cc)
+set_behind n l (suc zero) x e body c b t there h =
+    let at : 2 ≡ b = same_Some 2 b (ap (λ (y : Method). y.body) (same_Some _ x e) ∙ there) in
+    let note : noted rule.Body None 1 1 ≡ t = same_Some _ t (ap (slice_get example.noted_as_ref.notes) at ∙ h) in
+    subst (λ (y : Method). full four_slots y.entity t.set_after ≡ true) (same_Some _ x e) (subst (λ (u : Note). full four_slots 6 u.set_after ≡ true) note refl)
+set_behind n l (suc (suc zero)) x e body c b t there h = let at : 6 ≡ n = same_Some 6 n (ap (λ (y : Method). y.body) (same_Some _ x e) ∙ body) in absurd (omega (arith, at, l))
+set_behind n l (suc (suc (suc m))) x e body c b t there h = absurd (none-some x e)
+
+rules_met : (n : ℕ) → n < 3 → MeetsRule four_slots example.noted_as_ref n
+rules_met zero l = (_, _, refl, refl, refl)
+rules_met (suc zero) l = (_, _, refl, refl, refl)
+rules_met (suc (suc zero)) l = (_, _, refl, refl, refl)
+rules_met (suc (suc (suc n))) l = absurd (omega (arith, l))
+
+-- ---- what is wrong
+
+-- A type is one of form `ref`.
+abbrev says_ref : Option (ℕ × Form) → Bool
+says_ref (Some (e, form.Ref)) = true
+says_ref ty = false
+
+not_same : true ≡ false → ⊥
+not_same e = cc e
+
+wrong_note : Meets four_slots example.noted_as_ref (node_of 2 (node.New 1) [] (at 64 65)) (noted rule.New (Some (6, form.Ref)) 3 3) → ⊥
+wrong_note e = not_same (sym (ap (λ (q : Said). says_ref q.ty) (same_Some _ _ e)))
+
+wrong_node : MeetsRule four_slots example.noted_as_ref 3 → ⊥
+wrong_node h =
+    let x : node_of 2 (node.New 1) [] (at 64 65) ≡ h.0 = same_Some _ h.0 h.2 in
+    let t : noted rule.New (Some (6, form.Ref)) 3 3 ≡ h.1 = same_Some _ h.1 h.3 in
+    wrong_note (subst (λ (u : Note). Meets four_slots example.noted_as_ref (node_of 2 (node.New 1) [] (at 64 65)) u) (sym t)
+    (subst (λ (y : Node). Meets four_slots example.noted_as_ref y h.1) (sym x) h.4))
+
+node_named : spec.FailsRule four_slots example.noted_as_ref 3
+node_named = (
+  omega arith,
+  record { declarations = declared; shape = (refl, refl); written = written; rules = rules_met; sets = set_behind },
+  wrong_node,
+)
+
+abbrev is_val : Option (ℕ × Cap) → Bool
+is_val (Some (e, cap.Val)) = true
+is_val o = false
+
+abbrev local : Slot
+local = record { method = 2; kind = slot.Let; depth = 0; written = Some (6, cap.Iso) }
+
+wrong_slot : spec.KeepsType example.held_as_val 3 local → ⊥
+wrong_slot h = let e : Some (6, cap.Val) ≡ Some (6, cap.Iso) = h (6, cap.Iso) refl in not_same (ap is_val e)
+
+slots_before : (j : ℕ) (y : Slot) → j < 3 → slice_get four_slots.slots j ≡ Some y → spec.KeepsType example.held_as_val j y
+slots_before zero y l e ty g = subst (λ (z : Slot). z.written ≡ Some ty) (sym (same_Some _ y e)) g
+slots_before (suc zero) y l e ty g = subst (λ (z : Slot). z.written ≡ Some ty) (sym (same_Some _ y e)) g
+slots_before (suc (suc zero)) y l e ty g = subst (λ (z : Slot). z.written ≡ Some ty) (sym (same_Some _ y e)) g
+slots_before (suc (suc (suc j))) y l e ty g = absurd (omega (arith, l))
+
+slot_named : spec.FirstWrong four_slots example.held_as_val 3
+slot_named = ((local, refl, wrong_slot), slots_before)
+
+no_shape : spec.HasShape four_slots example.without_notes → ⊥
+no_shape h = let k : 0 ≡ 7 = h.1 in omega (arith, k)
+
+pub faults_named : example.FaultsNamed
+faults_named = (node_named, (declared, (refl, refl), slot_named), (declared, no_shape))

@@ -1,0 +1,60 @@
+-- Small declarations that do not fit, and the first that fails of each. Only the lists that are looked at are filled.
+use Rattle.std.specs.Prelude.{◌≡◌, ℕ, List, [], ◌∷◌, None, Some}
+use Rattle.pc_caps.specs.declared.capability.Cap.{Cap}
+use Rattle.pc_caps.specs.declared.capability.Cap.TheVariants as cap
+use Rattle.pc_caps.specs.declared.capability.Form.TheVariants as form
+use Rattle.pc_tree.specs.declared.kinds.EntityKind.{EntityKind}
+use Rattle.pc_tree.specs.declared.kinds.EntityKind.TheVariants as kind
+use Rattle.pc_core.specs.declared.declarations.EntityDef.{EntityDef}
+use Rattle.pc_core.specs.declared.declarations.Method.{Method}
+use Rattle.pc_core.specs.declared.declarations.MethodKind.{MethodKind}
+use Rattle.pc_core.specs.declared.declarations.MethodKind.TheVariants as method
+use Rattle.pc_core.specs.declared.declarations.ParamInfo.{ParamInfo}
+use Rattle.pc_core.specs.CoreData.{CoreData}
+use Rattle.pc_core.specs.Entities.{nowhere}
+use Rattle.pc_sub.specs.declared.faults.DeclFault.TheVariants as fault
+use Rattle.pc_sub.specs.Declarations.{first_fault}
+
+-- An entity with these traits, whose methods are those from a number on.
+abbrev pub entity : EntityKind → List ℕ → ℕ → ℕ → EntityDef
+entity k traits first count = record { kind = k; cap = cap.Ref; name = []; span = nowhere; provides = traits; above = traits; fields = []; first_method = first; methods = count }
+
+-- A method of name 0 of an entity, of this kind, receiver and parameters, that gives entity 0 as `val`.
+abbrev pub declared : ℕ → MethodKind → Cap → List ParamInfo → Method
+declared e k c params = record {
+  entity = e;
+  name = 0;
+  kind = k;
+  receiver = c;
+  params = params;
+  result = (0, form.Val);
+  first_slot = 0;
+  slots = 0;
+  first_node = 0;
+  body = None;
+  span = nowhere;
+}
+
+abbrev pub core_of : List EntityDef → List Method → CoreData
+core_of entities methods = record { entities = entities; methods = methods; slots = []; nodes = []; names = [] }
+
+-- Entity 0 is a trait with a `fun box`, and entity 1 is a class below it with a `fun` of this receiver.
+abbrev pub answers : Cap → CoreData
+answers c = core_of (entity kind.Trait [] 0 1 ∷ entity kind.Class (0 ∷ []) 1 1 ∷ []) (declared 0 method.Fun cap.Box [] ∷ declared 1 method.Fun c [] ∷ [])
+
+-- The class has no method.
+abbrev pub answers_nothing : CoreData
+answers_nothing = core_of (entity kind.Trait [] 0 1 ∷ entity kind.Class (0 ∷ []) 1 0 ∷ []) (declared 0 method.Fun cap.Box [] ∷ [])
+
+-- An actor with a behaviour that takes a `tag` and then a `ref`.
+abbrev pub takes_ref : CoreData
+takes_ref =
+    core_of (entity kind.Actor [] 0 1 ∷ [])
+    (declared 0 method.Be cap.Ref (record { entity = 0; cap = cap.Tag; span = nowhere } ∷ record { entity = 0; cap = cap.Ref; span = nowhere } ∷ []) ∷ [])
+
+abbrev pub FaultsNamed : Type 0
+FaultsNamed =
+    (first_fault (answers cap.Box) ≡ None) × (first_fault (answers cap.Tag) ≡ None)
+    × (first_fault (answers cap.Ref) ≡ Some (fault.Mismatch 1 1))
+    × (first_fault answers_nothing ≡ Some (fault.MissingMethod 1 0))
+    × (first_fault takes_ref ≡ Some (fault.NotSendable 0 1))
