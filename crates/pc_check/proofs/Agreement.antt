@@ -46,7 +46,7 @@ row_end : (core : CoreData) (low high : ℕ) → Forest core low high [] → low
 row_end core low high empty = refl
 
 mutual
-  tree_one : (core : CoreData) (low from n : ℕ) → Tree core low n → Tree core from n → low ≡ from
+  pub tree_one : (core : CoreData) (low from n : ℕ) → Tree core low n → Tree core from n → low ≡ from
   tree_one core low from n (tree x g f) t = forest_one core low from n x.children f (children_of core from n x g t)
 
   forest_one : (core : CoreData) (low from high : ℕ) (cs : List ℕ) → Forest core low high cs → Forest core from high cs → low ≡ from
@@ -55,7 +55,7 @@ mutual
 
 -- ---- the masks that reach a node depend on the notes before its tree
 
-reaches_same : (core : CoreData) (a b : Ann) (n : ℕ) (m : Masks) (low : ℕ) → Formed core → Tree core low n → ((c : ℕ) → c < low → slice_get a.notes c ≡ slice_get b.notes c) → Reaches core a n m → Reaches core b n m
+pub reaches_same : (core : CoreData) (a b : Ann) (n : ℕ) (m : Masks) (low : ℕ) → Formed core → Tree core low n → ((c : ℕ) → c < low → slice_get a.notes c ≡ slice_get b.notes c) → Reaches core a n m → Reaches core b n m
 reaches_same core a b n m low formed t h (body x f g k e) = body x f g k e
 reaches_same core a b n m low formed t h (first_child p x g e r) =
     let tp = own_tree core p formed (get_below core.nodes p x g) in
@@ -73,6 +73,9 @@ reaches_same core a b n m low formed t h (next_child p c i x u g k e f j) =
     let eq = tree_one core (low_at tp.0 x.children (suc i)) low n (tree_at core tp.0 p (suc i) n x.children row e) t in
     let at = low_next tp.0 i c x.children f in
     next_child p c i x u g k e f (sym (h c (omega (arith, eq, at))) ∙ j)
+
+pub nothing_yet : (core : CoreData) (a b : Ann) → Agree core a b 0
+nothing_yet core a b = record { notes = λ k l. absurd (omega (arith, l)); slots = λ d y s f l g e m. absurd (omega (arith, l)) }
 
 -- ---- in a valid annotation each node starts from the masks that reach it
 
@@ -152,9 +155,6 @@ module _ (core : CoreData) (b : Ann) (formed : Formed core) (v : Valid core b) w
   -- ---- up to a node
 
   module _ (a : Ann) (wa : KeepsWritten core a) where
-    nothing_yet : Agree core a b 0
-    nothing_yet = record { notes = λ k l. absurd (omega (arith, l)); slots = λ d y s f l g e m. absurd (omega (arith, l)) }
-
     -- The masks that reach node n in one reach it in the other.
     starts_there : (n : ℕ) (x : Node) (m : Masks) (t : Note) → Agree core a b n → slice_get core.nodes n ≡ Some x → Reaches core a n m → slice_get b.notes n ≡ Some t → before t ≡ m
     starts_there n x m t same g r h =
@@ -163,7 +163,7 @@ module _ (core : CoreData) (b : Ann) (formed : Formed core) (v : Valid core b) w
         valid_reached n m t h (reaches_same core a b n m own.0 formed own.1 (λ c l. same.notes c (omega (arith, l, low))) r)
 
     agree_up : (n : ℕ) → n ≤ length core.nodes → ((k : ℕ) → k < n → MeetsReached core a k) → Agree core a b n
-    agree_up zero l h = nothing_yet
+    agree_up zero l h = nothing_yet core a b
     agree_up (suc n) l h =
         let same = agree_up n (omega (arith, l)) (λ k m. h k (omega (arith, m))) in
         let r = h n (omega arith) in
@@ -172,55 +172,54 @@ module _ (core : CoreData) (b : Ann) (formed : Formed core) (v : Valid core b) w
         subst (Agree core a b) e
         (node_step core a b formed wa v.written n r.0 r.1 t.0 r.2 (children_before core n r.0 formed r.2) same r.3 t.1 r.4 (valid_meets core b n r.0 t.0 v r.2 t.1) (sym (starts_there n r.0 (before r.1) t.0 same r.2 r.5 t.1)))
 
-    -- ---- at a node without a rule
+-- ---- at a node without a rule
 
-    -- Types of the slots, of which only what follows from node x may differ, so that x looks at the same.
-    abbrev Chosen : Node → Type 0
-    Chosen x = (slots : List (ℕ × Cap)) × DifferAt core x a.slots slots × ((s : ℕ) (f : Method) → looked_at x.kind ≡ Some s → slice_get core.methods x.method ≡ Some f → slice_get slots (f.first_slot + s) ≡ slice_get b.slots (f.first_slot + s))
+module _ (core : CoreData) (b : Ann) (formed : Formed core) (wb : KeepsWritten core b) (sb : length b.slots ≡ length core.slots) (a : Ann) (wa : KeepsWritten core a) where
+  -- Types of the slots, of which only what follows from node x may differ, so that x looks at the same.
+  abbrev pub Chosen : Node → Type 0
+  Chosen x = (slots : List (ℕ × Cap)) × DifferAt core x a.slots slots × ((s : ℕ) (f : Method) → looked_at x.kind ≡ Some s → slice_get core.methods x.method ≡ Some f → slice_get slots (f.first_slot + s) ≡ slice_get b.slots (f.first_slot + s))
 
-    unchanged : (x : Node) → DifferAt core x a.slots a.slots
-    unchanged x = (refl, λ k h. refl)
+  unchanged : (x : Node) → DifferAt core x a.slots a.slots
+  unchanged x = (refl, λ k h. refl)
 
-    chosen_define : (n : ℕ) (x : Node) (s : ℕ) (f : Method) (y : Slot) (w : Option (ℕ × Cap)) → length a.slots ≡ length core.slots → x.kind ≡ node.Define s → slice_get core.methods x.method ≡ Some f → slice_get core.slots (f.first_slot + s) ≡ Some y → y.written ≡ w → (slots : List (ℕ × Cap)) × DifferAt core x a.slots slots × (slice_get slots (f.first_slot + s) ≡ slice_get b.slots (f.first_slot + s))
-    chosen_define n x s f y (Some ty) count k gf gy w = (a.slots, unchanged x, wa (f.first_slot + s) y gy ty w ∙ sym (v.written (f.first_slot + s) y gy ty w))
-    chosen_define n x s f y None count k gf gy w =
-        let l = get_below core.slots (f.first_slot + s) y gy in
-        let other = v.slots in
-        let ty = get_within b.slots (f.first_slot + s) (omega (arith, l, other)) in (
-          slice_set a.slots (f.first_slot + s) ty.0,
-          (
-            length-set a.slots (f.first_slot + s) ty.0,
-            λ j h. elim (eqb_tells j (f.first_slot + s)) [
-              | inl same ↦ absurd (h (s, f, y, k, gf, same.1, ap (slice_get core.slots) same.1 ∙ gy, w))
-              | inr apart ↦ get_set_other a.slots (f.first_slot + s) ty.0 j apart.1
-            ],
-          ),
-          get_set_same a.slots (f.first_slot + s) ty.0 (omega (arith, l, count)) ∙ sym ty.1,
-        )
+  chosen_define : (n : ℕ) (x : Node) (s : ℕ) (f : Method) (y : Slot) (w : Option (ℕ × Cap)) → length a.slots ≡ length core.slots → x.kind ≡ node.Define s → slice_get core.methods x.method ≡ Some f → slice_get core.slots (f.first_slot + s) ≡ Some y → y.written ≡ w → (slots : List (ℕ × Cap)) × DifferAt core x a.slots slots × (slice_get slots (f.first_slot + s) ≡ slice_get b.slots (f.first_slot + s))
+  chosen_define n x s f y (Some ty) count k gf gy w = (a.slots, unchanged x, wa (f.first_slot + s) y gy ty w ∙ sym (wb (f.first_slot + s) y gy ty w))
+  chosen_define n x s f y None count k gf gy w =
+      let l = get_below core.slots (f.first_slot + s) y gy in
+      let other = sb in
+      let ty = get_within b.slots (f.first_slot + s) (omega (arith, l, other)) in (
+        slice_set a.slots (f.first_slot + s) ty.0,
+        (
+          length-set a.slots (f.first_slot + s) ty.0,
+          λ j h. elim (eqb_tells j (f.first_slot + s)) [
+            | inl same ↦ absurd (h (s, f, y, k, gf, same.1, ap (slice_get core.slots) same.1 ∙ gy, w))
+            | inr apart ↦ get_set_other a.slots (f.first_slot + s) ty.0 j apart.1
+          ],
+        ),
+        get_set_same a.slots (f.first_slot + s) ty.0 (omega (arith, l, count)) ∙ sym ty.1,
+      )
 
-    chosen : (n : ℕ) (x : Node) (k : NodeKind) → length a.slots ≡ length core.slots → Agree core a b n → slice_get core.nodes n ≡ Some x → x.kind ≡ k → Chosen x
-    chosen n x (node.Define s) count same g e =
-        let names = subst (NamesFit core x.method) e (formed.nodes n x g).names in
-        let c = chosen_define n x s names.0 names.1 names.1.written count e names.2 names.4 refl in (
-          c.0,
-          c.1,
-          λ i f look gf. let is : i ≡ s = same_Some i s (sym look ∙ ap looked_at e) in
-              let own : names.0 ≡ f = same_Some names.0 f (sym names.2 ∙ gf) in
-              subst (λ (z : Method). slice_get c.0 (z.first_slot + i) ≡ slice_get b.slots (z.first_slot + i)) own (subst (λ j. slice_get c.0 (names.0.first_slot + j) ≡ slice_get b.slots (names.0.first_slot + j)) (sym is) c.2),
-        )
-    chosen n x node.This count same g e = (a.slots, unchanged x, λ i f look gf. let is : 0 ≡ i = same_Some 0 i (sym (ap looked_at e) ∙ look) in subst (λ j. slice_get a.slots (f.first_slot + j) ≡ slice_get b.slots (f.first_slot + j)) is (this_alike core a b formed wa v.written n x g f gf))
-    chosen n x (node.Local s) count same g e = (a.slots, unchanged x, λ i f look gf. let is : s ≡ i = same_Some s i (sym (ap looked_at e) ∙ look) in subst (λ j. slice_get a.slots (f.first_slot + j) ≡ slice_get b.slots (f.first_slot + j)) is (use_alike core a b formed wa v.written n x (node.Local s) s same g e refl (subst (NamesFit core x.method) e (formed.nodes n x g).names) f gf))
-    chosen n x (node.Consume s) count same g e = (a.slots, unchanged x, λ i f look gf. let is : s ≡ i = same_Some s i (sym (ap looked_at e) ∙ look) in subst (λ j. slice_get a.slots (f.first_slot + j) ≡ slice_get b.slots (f.first_slot + j)) is (use_alike core a b formed wa v.written n x (node.Consume s) s same g e refl (subst (NamesFit core x.method) e (formed.nodes n x g).names) f gf))
-    chosen n x (node.Assign s) count same g e = (a.slots, unchanged x, λ i f look gf. let is : s ≡ i = same_Some s i (sym (ap looked_at e) ∙ look) in subst (λ j. slice_get a.slots (f.first_slot + j) ≡ slice_get b.slots (f.first_slot + j)) is (use_alike core a b formed wa v.written n x (node.Assign s) s same g e refl (subst (NamesFit core x.method) e (formed.nodes n x g).names) f gf))
-    chosen n x k count same g e = (a.slots, unchanged x, λ i f look gf. absurd (none-some i (sym (ap looked_at e) ∙ look)))
+  pub chosen : (n : ℕ) (x : Node) (k : NodeKind) → length a.slots ≡ length core.slots → Agree core a b n → slice_get core.nodes n ≡ Some x → x.kind ≡ k → Chosen x
+  chosen n x (node.Define s) count same g e =
+      let names = subst (NamesFit core x.method) e (formed.nodes n x g).names in
+      let c = chosen_define n x s names.0 names.1 names.1.written count e names.2 names.4 refl in (
+        c.0,
+        c.1,
+        λ i f look gf. let is : i ≡ s = same_Some i s (sym look ∙ ap looked_at e) in
+            let own : names.0 ≡ f = same_Some names.0 f (sym names.2 ∙ gf) in
+            subst (λ (z : Method). slice_get c.0 (z.first_slot + i) ≡ slice_get b.slots (z.first_slot + i)) own (subst (λ j. slice_get c.0 (names.0.first_slot + j) ≡ slice_get b.slots (names.0.first_slot + j)) (sym is) c.2),
+      )
+  chosen n x node.This count same g e = (a.slots, unchanged x, λ i f look gf. let is : 0 ≡ i = same_Some 0 i (sym (ap looked_at e) ∙ look) in subst (λ j. slice_get a.slots (f.first_slot + j) ≡ slice_get b.slots (f.first_slot + j)) is (this_alike core a b formed wa wb n x g f gf))
+  chosen n x (node.Local s) count same g e = (a.slots, unchanged x, λ i f look gf. let is : s ≡ i = same_Some s i (sym (ap looked_at e) ∙ look) in subst (λ j. slice_get a.slots (f.first_slot + j) ≡ slice_get b.slots (f.first_slot + j)) is (use_alike core a b formed wa wb n x (node.Local s) s same g e refl (subst (NamesFit core x.method) e (formed.nodes n x g).names) f gf))
+  chosen n x (node.Consume s) count same g e = (a.slots, unchanged x, λ i f look gf. let is : s ≡ i = same_Some s i (sym (ap looked_at e) ∙ look) in subst (λ j. slice_get a.slots (f.first_slot + j) ≡ slice_get b.slots (f.first_slot + j)) is (use_alike core a b formed wa wb n x (node.Consume s) s same g e refl (subst (NamesFit core x.method) e (formed.nodes n x g).names) f gf))
+  chosen n x (node.Assign s) count same g e = (a.slots, unchanged x, λ i f look gf. let is : s ≡ i = same_Some s i (sym (ap looked_at e) ∙ look) in subst (λ j. slice_get a.slots (f.first_slot + j) ≡ slice_get b.slots (f.first_slot + j)) is (use_alike core a b formed wa wb n x (node.Assign s) s same g e refl (subst (NamesFit core x.method) e (formed.nodes n x g).names) f gf))
+  chosen n x k count same g e = (a.slots, unchanged x, λ i f look gf. absurd (none-some i (sym (ap looked_at e) ∙ look)))
 
-    says_there : (n : ℕ) (x : Node) (m : Masks) → length a.slots ≡ length core.slots → Agree core a b n → slice_get core.nodes n ≡ Some x → Reaches core a n m → (c : Chosen x) → (t : Note) × (says core (record { slots = c.0; notes = a.notes }) x m t.rule x.kind ≡ Some (said_by t))
-    says_there n x m count same g r c =
-        let t = note_at n x g in
-        let meets = valid_meets core b n x t.0 v g t.1 in
-        let start = starts_there n x m t.0 same g r t.1 in
-        let looks : LooksAlike core (record { slots = c.0; notes = a.notes }) b x.method x.kind = λ s look. slot_same (record { slots = c.0; notes = a.notes }) b core x.method s (λ f gf. c.2 s f look gf) in
-        (t.0, says_same core (record { slots = c.0; notes = a.notes }) b x (λ i d h. same.notes d (children_before core n x formed g i d h)) t.0.rule x.kind m looks ∙ subst (λ k. says core b x k t.0.rule x.kind ≡ Some (said_by t.0)) start meets)
+  -- The other's note meets its rule with them.
+  pub says_there : (n : ℕ) (x : Node) (m : Masks) (t : Note) → Agree core a b n → slice_get core.nodes n ≡ Some x → Meets core b x t → before t ≡ m → (c : Chosen x) → says core (record { slots = c.0; notes = a.notes }) x m t.rule x.kind ≡ Some (said_by t)
+  says_there n x m t same g meets start c =
+      let looks : LooksAlike core (record { slots = c.0; notes = a.notes }) b x.method x.kind = λ s look. slot_same (record { slots = c.0; notes = a.notes }) b core x.method s (λ f gf. c.2 s f look gf) in
+      says_same core (record { slots = c.0; notes = a.notes }) b x (λ i d h. same.notes d (children_before core n x formed g i d h)) t.rule x.kind m looks ∙ subst (λ k. says core b x k t.rule x.kind ≡ Some (said_by t)) start meets
 
 -- ---- none is valid
 
@@ -228,9 +227,10 @@ pub none_without_rule : NoneWithoutRule
 none_without_rule core a n formed w d =
     let l = get_below core.nodes n w.at w.is_at in
     let same = agree_up core d.0 formed d.1 a w.written n (omega (arith, l)) w.before in
-    let c = chosen core d.0 formed d.1 a w.written n w.at w.at.kind w.slots same w.is_at refl in
-    let s = says_there core d.0 formed d.1 a w.written n w.at w.masks w.slots same w.is_at w.reaches c in
-    none-some _ (sym (w.none s.0.rule c.0 c.1) ∙ s.1)
+    let t = note_at core d.0 formed d.1 n w.at w.is_at in
+    let start = starts_there core d.0 formed d.1 a w.written n w.at w.masks t.0 same w.is_at w.reaches t.1 in
+    let c = chosen core d.0 formed d.1.written d.1.slots a w.written n w.at w.at.kind w.slots same w.is_at refl in
+    none-some _ (sym (w.none t.0.rule c.0 c.1) ∙ says_there core d.0 formed d.1.written d.1.slots a w.written n w.at w.masks t.0 same w.is_at (valid_meets core d.0 n w.at t.0 d.1 w.is_at t.1) start c)
 
 pub none_with_unset : NoneWithUnset
 none_with_unset core a m formed w d =

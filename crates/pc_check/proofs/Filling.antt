@@ -39,7 +39,7 @@ low_next low i d [] e = absurd (none-some d e)
 low_next low zero d (c ∷ cs) e = ap (λ k. k + 1) (same_Some c d e)
 low_next low (suc i) d (c ∷ cs) e = low_next (c + 1) i d cs e
 
-low_le : (core : CoreData) (low high i c : ℕ) (cs : List ℕ) → Forest core low high cs → slice_get cs i ≡ Some c → low ≤ low_at low cs i
+pub low_le : (core : CoreData) (low high i c : ℕ) (cs : List ℕ) → Forest core low high cs → slice_get cs i ≡ Some c → low ≤ low_at low cs i
 low_le core low high i c [] f e = absurd (none-some c e)
 low_le core low high zero c (d ∷ cs) (more t f) e = omega arith
 low_le core low high (suc i) c (d ∷ cs) (more t f) e = let l = tree_le core low d t in let m = low_le core (d + 1) high i c cs f e in omega (arith, l, m)

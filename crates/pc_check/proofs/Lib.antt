@@ -4,3 +4,4 @@ pub mod Definitions
 pub mod Walking
 pub mod Stopping
 pub mod Agreement
+pub mod OneFault

@@ -18,3 +18,15 @@ NoneWithUnset = (core : CoreData) (ann : Ann) (m : ℕ) → Formed core → Unse
 -- Nor has one with a declaration that fails.
 abbrev pub NoneWithFault : Type 0
 NoneWithFault = (core : CoreData) (fault : DeclFault) → Formed core → first_fault core ≡ Some fault → Derivable core → ⊥
+
+-- No rule says anything of at most one node.
+abbrev pub OneNode : Type 0
+OneNode = (core : CoreData) (a b : Ann) (n k : ℕ) → Formed core → NoRule core a n → NoRule core b k → n ≡ k
+
+-- At most one constructor is the first that leaves a field unset.
+abbrev pub OneConstructor : Type 0
+OneConstructor = (core : CoreData) (a b : Ann) (m k : ℕ) → Formed core → Unset core a m → Unset core b k → m ≡ k
+
+-- A core does not have both.
+abbrev pub OneKindOfFault : Type 0
+OneKindOfFault = (core : CoreData) (a b : Ann) (n m : ℕ) → Formed core → NoRule core a n → Unset core b m → ⊥

@@ -1,4 +1,4 @@
-//! What the faults show: there is no valid annotation. Each call does nothing, and its contract is the law.
+//! What the faults show: there is no valid annotation, and no other fault. Each call does nothing, and its contract is the law.
 ghost use Rattle.pc_check.specs.Laws as law;
 
 /// A core with a node of which no rule says anything has no valid annotation.
@@ -15,4 +15,12 @@ pub fn nothing_is_derivable_with_a_field_unset()
 #[tactic(auto, using(crate::proofs::Agreement::none_with_fault))]
 pub fn nothing_is_derivable_with_a_declaration_that_fails()
     ensures { law.NoneWithFault }
+{}
+
+/// A core has at most one fault: one node of which no rule says anything, or one constructor that is the first to leave a
+/// field unset, and not both.
+pub fn faults_are_one()
+    ensures node { law.OneNode }
+    ensures constructor { law.OneConstructor }
+    ensures kind { law.OneKindOfFault }
 {}

@@ -11,8 +11,8 @@ mod sources;
 pub use checking::check;
 pub use fault::CheckFault;
 pub use laws::{
-    nothing_is_derivable_with_a_declaration_that_fails, nothing_is_derivable_with_a_field_unset,
-    nothing_is_derivable_without_a_rule,
+    faults_are_one, nothing_is_derivable_with_a_declaration_that_fails,
+    nothing_is_derivable_with_a_field_unset, nothing_is_derivable_without_a_rule,
 };
 pub use pc_ann::{Ann, Mask, Note, Rule};
 pub use pc_sub::DeclFault;

@@ -1,40 +1,30 @@
 -- At most one annotation of a core is valid.
-use Rattle.std.specs.Prelude.{◌≡◌, ◌⊎◌, ℕ, zero, suc, ◌+◌, ◌-◌, ◌<◌, ◌≤◌, true, false, ◌&&◌, nat_eq, List, [], ◌∷◌, map, length, Option, Some, None, slice_get, refl}
+use Rattle.std.specs.Prelude.{◌≡◌, ◌⊎◌, ℕ, zero, suc, ◌+◌, ◌-◌, ◌<◌, ◌≤◌, false, List, [], ◌∷◌, map, length, Option, Some, None, slice_get, refl}
 use Rattle.std.proofs.Common.{inl, inr, ap, sym, subst, ◌∙◌, arith}
 use Rattle.std.proofs.lemmas.Option.{same_Some, none-some}
-use Rattle.std.proofs.lemmas.Bool.{cases_lt, and_parts, eqb-true}
 use Rattle.pc_caps.specs.Gets.{get_below, get_within}
-use Rattle.pc_caps.specs.declared.capability.Cap.{Cap}
-use Rattle.pc_caps.specs.declared.capability.Cap.TheVariants as cap
 use Rattle.pc_core.specs.declared.declarations.Method.{Method}
-use Rattle.pc_core.specs.declared.nodes.Slot.{Slot}
 use Rattle.pc_core.specs.declared.nodes.Node.{Node}
 use Rattle.pc_core.specs.declared.nodes.NodeKind.{NodeKind}
 use Rattle.pc_core.specs.declared.nodes.NodeKind.TheVariants as node
 use Rattle.pc_core.specs.CoreData.{CoreData}
 use Rattle.pc_core.specs.Words.{Each, Follow}
 use Rattle.pc_core.specs.Lookup.{node_end}
-use Rattle.pc_core.specs.Methods.{LocalFits, BodyFits, Uses}
+use Rattle.pc_core.specs.Methods.{BodyFits}
 use Rattle.pc_core.specs.Nodes.{HasArity}
 use Rattle.pc_core.specs.Formed.{Formed}
-use Rattle.pc_core.specs.Runs.{get_map, map_get, range_get, run_within, run_around}
+use Rattle.pc_core.specs.Runs.{map_get, run_around}
 use Rattle.pc_core.specs.Members.{bind_some}
-use Rattle.pc_ann.specs.declared.mask.Mask.{Mask}
 use Rattle.pc_ann.specs.declared.annotation.Note.{Note}
 use Rattle.pc_ann.specs.declared.annotation.Ann.{Ann}
-use Rattle.pc_ann.specs.declared.annotation.Rule.{Rule}
-use Rattle.pc_ann.specs.Masks.{same, first}
-use Rattle.pc_rules.specs.declared.said.Said.{Said}
-use Rattle.pc_rules.specs.Parts.{Ty, Masks, starts, before, after, through, type_of, one_child, slot_of, goes_to}
-use Rattle.pc_rules.specs.Values.{same_cap, same_place, defined_type, defines, defined, define_says}
-use Rattle.pc_rules.specs.Control.{start_set, starts_method, result_ok, body_says}
-use Rattle.pc_rules.specs.Rules.{says, said_by, Meets}
+use Rattle.pc_ann.specs.Masks.{same}
+use Rattle.pc_rules.specs.Parts.{Masks, starts, before, after, through}
+use Rattle.pc_rules.specs.Rules.{said_by, Meets}
 use Rattle.pc_rules.specs.Valid.{Valid}
-use Rattle.pc_rules.specs.Trees.{Tree, Forest, tree, empty, more, body_tree, tree_le, forest_below}
+use Rattle.pc_rules.specs.Trees.{Tree, Forest, tree, empty, more, body_tree, forest_below}
 use Rattle.pc_rules.specs.Statements.{OneValid}
 use Rattle.pc_rules.specs.Threads.{kept, Threaded, then_way, else_way, is_branch, threads, if_threads, starts_so, first_starts, next_starts}
 use Rattle.pc_rules.specs.Agreeing.{body_starts, body_method, body_says_at, Agree, known_alike, node_step}
-use Rattle.pc_rules.specs.Slotted.{slot_known}
 
 lists_equal : {T : Type 0} → (xs ys : List T) → length xs ≡ length ys → ((k : ℕ) → k < length xs → slice_get xs k ≡ slice_get ys k) → xs ≡ ys
 lists_equal [] [] e h = refl

@@ -1,6 +1,6 @@
 -- Two annotations of a core, node by node: where they agree before a node, and start it from the same
 -- masks, they agree at it.
-use Rattle.std.specs.Prelude.{◌≡◌, ℕ, zero, suc, ◌+◌, ◌-◌, ◌<◌, ◌≤◌, true, ◌&&◌, nat_eq, List, [], ◌∷◌, map, length, Option, Some, None, slice_get, refl}
+use Rattle.std.specs.Prelude.{◌≡◌, ℕ, ◌+◌, ◌-◌, ◌<◌, ◌≤◌, true, ◌&&◌, nat_eq, length, Some, slice_get, refl}
 use Rattle.std.proofs.Common.{inl, inr, ap, sym, subst, ◌∙◌, arith}
 use Rattle.std.proofs.lemmas.Option.{same_Some, none-some}
 use Rattle.std.proofs.lemmas.Bool.{cases_lt, and_parts, eqb-true}
@@ -13,12 +13,12 @@ use Rattle.pc_core.specs.declared.nodes.Node.{Node}
 use Rattle.pc_core.specs.declared.nodes.NodeKind.{NodeKind}
 use Rattle.pc_core.specs.declared.nodes.NodeKind.TheVariants as node
 use Rattle.pc_core.specs.CoreData.{CoreData}
-use Rattle.pc_core.specs.Words.{Each, Follow}
+use Rattle.pc_core.specs.Words.{Each}
 use Rattle.pc_core.specs.Lookup.{node_end}
 use Rattle.pc_core.specs.Methods.{LocalFits, BodyFits, Uses, this_slot}
 use Rattle.pc_core.specs.Nodes.{NamesSlot, NamesFit}
 use Rattle.pc_core.specs.Formed.{Formed}
-use Rattle.pc_core.specs.Runs.{get_map, map_get, range_get, run_within, run_around}
+use Rattle.pc_core.specs.Runs.{get_map, range_get, run_within}
 use Rattle.pc_core.specs.Members.{bind_some}
 use Rattle.pc_ann.specs.declared.mask.Mask.{Mask}
 use Rattle.pc_ann.specs.declared.annotation.Note.{Note}
@@ -26,12 +26,11 @@ use Rattle.pc_ann.specs.declared.annotation.Ann.{Ann}
 use Rattle.pc_ann.specs.declared.annotation.Rule.{Rule}
 use Rattle.pc_ann.specs.Masks.{same, first}
 use Rattle.pc_rules.specs.declared.said.Said.{Said}
-use Rattle.pc_rules.specs.Parts.{Ty, Masks, starts, before, after, through, type_of, one_child, slot_of, goes_to}
+use Rattle.pc_rules.specs.Parts.{Ty, Masks, before, through, type_of, one_child, slot_of, goes_to}
 use Rattle.pc_rules.specs.Values.{same_cap, same_place, defined_type, defines, defined, define_says}
 use Rattle.pc_rules.specs.Control.{start_set, starts_method, result_ok, body_says}
 use Rattle.pc_rules.specs.Rules.{says, said_by, Meets}
 use Rattle.pc_rules.specs.Valid.{KeepsWritten}
-use Rattle.pc_rules.specs.Trees.{Tree, Forest, tree, empty, more, body_tree}
 use Rattle.pc_rules.specs.Threads.{kept, false_true}
 use Rattle.pc_rules.specs.OneRule.{is_rule_at, define_rule, body_rule}
 use Rattle.pc_rules.specs.Homes.{home, home_method}

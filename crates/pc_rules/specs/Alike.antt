@@ -1,9 +1,8 @@
 -- What a rule says of a node is the same in two annotations that have the same notes of its children and the same type of
 -- the slot that it looks at.
-use Rattle.std.specs.Prelude.{◌≡◌, ℕ, suc, ◌+◌, ◌-◌, Bool, true, false, cond, ◌&&◌, nat_eq, List, [], ◌∷◌, length, Option, Some, None, slice_get, zero, refl}
+use Rattle.std.specs.Prelude.{◌≡◌, ℕ, suc, ◌+◌, ◌-◌, Bool, cond, ◌&&◌, nat_eq, List, [], ◌∷◌, length, Option, Some, None, slice_get, zero, refl}
 use Rattle.std.proofs.Common.{ap, subst, ◌∙◌}
 use Rattle.std.proofs.lemmas.Option.{same_Some, none-some}
-use Rattle.pc_tree.specs.declared.kinds.Op.{Op}
 use Rattle.pc_caps.specs.declared.capability.Cap.{Cap}
 use Rattle.pc_caps.specs.declared.capability.Form.{Form}
 use Rattle.pc_caps.specs.declared.capability.Form.TheVariants as form
@@ -16,7 +15,6 @@ use Rattle.pc_core.specs.declared.nodes.NodeKind.{NodeKind}
 use Rattle.pc_core.specs.declared.nodes.NodeKind.TheVariants as node
 use Rattle.pc_core.specs.CoreData.{CoreData}
 use Rattle.pc_core.specs.Words.{◌>>=◌, Each}
-use Rattle.pc_core.specs.Lookup.{method_named}
 use Rattle.pc_core.specs.Runs.{get_take}
 use Rattle.pc_ann.specs.declared.mask.Mask.{Mask}
 use Rattle.pc_ann.specs.Masks.{has}
@@ -26,9 +24,9 @@ use Rattle.pc_ann.specs.declared.annotation.Rule.{Rule}
 use Rattle.pc_ann.specs.declared.annotation.Rule.TheVariants as rule
 use Rattle.pc_rules.specs.declared.said.Said.{Said}
 use Rattle.pc_rules.specs.Parts.{Ty, Masks, says_of, reads_as, constructs, starts, after, through, type_of, one_child, two_children, three_children, two_types, last_child, slot_of}
-use Rattle.pc_rules.specs.Values.{used, defines, defined, define_says, assigns, assigned, assign_says, this_says}
-use Rattle.pc_rules.specs.Fields.{own_field, own_set, lacks_fields, incomplete_in, incomplete, field_type, read_says, get_says, own_read_says, getown_says, old_type, write_says, put_says, value_type, own_writes, own_old, own_write_says, putown_says, is_this}
-use Rattle.pc_rules.specs.Calls.{argument_goes, arguments_go, new_says, spawn_says, arguments, called, calls, call_says, argument_sendable, arguments_sendable, is_function, lends, recovers, recovered_result, callrecover_says, is_behaviour, sends, send_says, has_string, builtin_says}
+use Rattle.pc_rules.specs.Values.{used, defines, define_says, assigns, assign_says, this_says}
+use Rattle.pc_rules.specs.Fields.{own_field, own_set, lacks_fields, incomplete_in, incomplete, field_type, read_says, get_says, own_read_says, getown_says, old_type, write_says, put_says, value_type, own_write_says, putown_says}
+use Rattle.pc_rules.specs.Calls.{argument_goes, arguments_go, new_says, spawn_says, arguments, called, calls, call_says, argument_sendable, arguments_sendable, is_function, lends, recovers, recovered_result, callrecover_says, is_behaviour, sends, send_says, builtin_says}
 use Rattle.pc_rules.specs.Operators.{is_arithmetic, is_comparison, is_equality, is_add, is_xor, comparable, value_says, lazy_masks, lazy_says, both_read_as}
 use Rattle.pc_rules.specs.Control.{seq_says, branch_masks, branch_types, is_condition, joined, if_says, loop_masks, while_says, recovered, recover_says, body_says}
 use Rattle.pc_rules.specs.Rules.{says}

@@ -1,19 +1,19 @@
 -- The method and the tree of a node.
-use Rattle.std.specs.Prelude.{◌≡◌, ◌⊎◌, ℕ, zero, suc, ◌+◌, ◌-◌, ◌<◌, ◌≤◌, List, [], ◌∷◌, map, length, Option, Some, None, slice_get, refl}
+use Rattle.std.specs.Prelude.{◌≡◌, ℕ, ◌+◌, ◌-◌, ◌<◌, ◌≤◌, List, [], ◌∷◌, length, Option, Some, None, slice_get, refl}
 use Rattle.std.proofs.Common.{inl, inr, ap, sym, subst, ◌∙◌, arith}
-use Rattle.std.proofs.lemmas.Option.{same_Some, none-some}
+use Rattle.std.proofs.lemmas.Option.{same_Some}
 use Rattle.std.proofs.lemmas.Bool.{cases_lt}
-use Rattle.pc_caps.specs.Gets.{get_below, get_within}
+use Rattle.pc_caps.specs.Gets.{get_below}
 use Rattle.pc_core.specs.declared.declarations.Method.{Method}
 use Rattle.pc_core.specs.declared.nodes.Node.{Node}
 use Rattle.pc_core.specs.declared.nodes.NodeKind.TheVariants as node
 use Rattle.pc_core.specs.CoreData.{CoreData}
-use Rattle.pc_core.specs.Words.{Each, Has, Follow}
+use Rattle.pc_core.specs.Words.{Each}
 use Rattle.pc_core.specs.Lookup.{node_end}
 use Rattle.pc_core.specs.Methods.{BodyFits}
-use Rattle.pc_core.specs.Runs.{map_get, get_map, range_get, run_around, run_within}
+use Rattle.pc_core.specs.Runs.{map_get, range_get, run_around}
 use Rattle.pc_core.specs.Formed.{Formed}
-use Rattle.pc_rules.specs.Trees.{Tree, Forest, tree, empty, more, body_tree, tree_le, forest_le, forest_below}
+use Rattle.pc_rules.specs.Trees.{Tree, Forest, tree, empty, more, body_tree, forest_below}
 
 -- The method with a body in which node n stands.
 pub record Home (core : CoreData) (n : ℕ) : Type 0 where

@@ -1,7 +1,7 @@
 -- At most one rule says something of a node, by its kind, its children and the method that it calls.
-use Rattle.std.specs.Prelude.{◌≡◌, ◌⊎◌, ℕ, ◌+◌, Bool, true, false, cond, ◌&&◌, ◌||◌, not, List, [], ◌∷◌, length, take, drop, Option, Some, None, nat_eq, slice_get, slice_range, codes, if◌then◌else◌, refl}
-use Rattle.std.proofs.Common.{inl, inr, ap, sym, subst, ◌∙◌}
-use Rattle.std.proofs.lemmas.Option.{same_Some, none-some}
+use Rattle.std.specs.Prelude.{◌≡◌, ◌⊎◌, ℕ, ◌+◌, Bool, true, false, cond, ◌&&◌, ◌||◌, not, List, [], ◌∷◌, take, drop, Option, Some, None, nat_eq, slice_get, slice_range, codes, if◌then◌else◌, refl}
+use Rattle.std.proofs.Common.{inl, inr, ap, sym, ◌∙◌}
+use Rattle.std.proofs.lemmas.Option.{none-some}
 use Rattle.std.proofs.lemmas.Bool.{and_parts, eqb-true}
 use Rattle.pc_caps.specs.Tables.{fits}
 use Rattle.pc_tree.specs.declared.kinds.Op.{Op}
@@ -25,9 +25,9 @@ use Rattle.pc_rules.specs.declared.said.Said.{Said}
 use Rattle.pc_rules.specs.Parts.{Ty, Masks, reads_as, readable, through, type_of, one_child, two_types, last_child}
 use Rattle.pc_rules.specs.Values.{define_says}
 use Rattle.pc_rules.specs.Control.{body_says}
-use Rattle.pc_rules.specs.Fields.{incomplete, read_says, own_read_says, get_says, getown_says, write_says, own_write_says, put_says, putown_says}
+use Rattle.pc_rules.specs.Fields.{incomplete, read_says, own_read_says, write_says, own_write_says}
 use Rattle.pc_rules.specs.Calls.{arguments, arguments_go, arguments_sendable, called, is_function, is_behaviour, calls, call_says, is_isolated, is_lent, lends, recovers, callrecover_says, sends, send_says, same_text, has_text, has_string, builtin_says}
-use Rattle.pc_rules.specs.Operators.{is_arithmetic, is_comparison, is_equality, is_add, is_xor, both_read_as, comparable, value_says, arith_says, compare_says, equal_says, join_says, xor_says}
+use Rattle.pc_rules.specs.Operators.{is_arithmetic, is_comparison, is_equality, is_add, is_xor, both_read_as, comparable, value_says}
 use Rattle.pc_rules.specs.Rules.{says}
 use Rattle.pc_rules.specs.Threads.{kept, kept_otherwise, false_true, bind_is}
 
