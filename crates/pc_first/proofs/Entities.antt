@@ -17,9 +17,9 @@ use Rattle.pc_first.specs.Naming.{is_reserved, class_names}
 use Rattle.pc_first.specs.Cores.{gather, built_ins, class_entity, class_create, main_entity, main_create, entities_of, methods_of, core_of}
 use Rattle.pc_first.specs.declared.program.Program.{Program}
 use Rattle.pc_first.specs.declared.program.Class.{Class}
-use Rattle.pc_first.specs.Gathering.{each_nil, each_cons, each_append, each_ones, ones_length, range_step, range_nil, differ_append, differ_one, differ_none}
+use Rattle.pc_first.proofs.Gathering.{each_nil, each_cons, each_append, each_ones, ones_length, range_step, range_nil, differ_append, differ_one, differ_none}
 use Rattle.pc_first.proofs.Named.{InOrder}
-use Rattle.pc_first.specs.Places.{entities_length, class_create_get, main_create_get}
+use Rattle.pc_first.proofs.Places.{entities_length, class_create_get, main_create_get}
 
 abbrev pub env_entity : EntityDef
 env_entity = built_in kind.Class cap.Val (codes "Env") (out_field 0 ∷ []) 0

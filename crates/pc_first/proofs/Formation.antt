@@ -15,12 +15,12 @@ use Rattle.pc_first.specs.Cores.{texts, gather, class_entity, class_create, main
 use Rattle.pc_first.specs.declared.program.Program.{Program}
 use Rattle.pc_first.specs.declared.program.Class.{Class}
 use Rattle.pc_first.specs.declared.program.Definition.{Definition}
-use Rattle.pc_first.specs.Gathering.{each_cons, each_append, each_ones, follow_ones, differ_by}
+use Rattle.pc_first.proofs.Gathering.{each_cons, each_append, each_ones, follow_ones, differ_by}
 use Rattle.pc_first.proofs.Entities.{single, stream_entity, entities_fit, names_differ}
 use Rattle.pc_first.proofs.Methods.{methods_fit}
 use Rattle.pc_first.proofs.Named.{InOrder, in_order}
 use Rattle.pc_first.proofs.Nodes.{nodes_fit, of_first_kinds}
-use Rattle.pc_first.specs.Places.{class_slot, class_entity_get, main_entity_get, main_create_get, entities_length, methods_length, slots_length, nodes_length}
+use Rattle.pc_first.proofs.Places.{class_slot, class_entity_get, main_entity_get, main_create_get, entities_length, methods_length, slots_length, nodes_length}
 
 -- ---- runs
 
@@ -122,32 +122,6 @@ formed_in_order p o =
       nodes = nodes_fit p o;
     }
 
--- ---- the rest
-
-slots_written : (p : Program) → Each (λ k y. IsSome y.written) (slots_of p)
-slots_written p =
-    let xs = gather (λ k c. class_slot p k c ∷ []) 0 p.classes in
-    let this = this_slot (1 + length p.classes) (main_create p) in
-    let env = param_slot (1 + length p.classes) (env_param p) in
-    let locals = gather (λ k d. local_slot p d ∷ []) 0 p.definitions in
-    each_append (λ k y. IsSome y.written) xs (main_slots p) (each_ones (class_slot p) (λ k y. IsSome y.written) p.classes (λ i c e. refl))
-    (each_cons (λ k y. IsSome y.written) this (env ∷ locals) refl
-    (each_cons (λ k y. IsSome y.written) env locals refl (each_ones (λ k d. local_slot p d) (λ k y. IsSome y.written) p.definitions (λ i d e. refl))))
-
-abbrev NoFields : Program → ℕ → Type 0
-NoFields p e = (y : EntityDef) → slice_get (entities_of p) e ≡ Some y → y.fields ≡ []
-
-is_bare : (p : Program) (e : ℕ) (x : EntityDef) → slice_get (entities_of p) e ≡ Some x → x.fields ≡ [] → NoFields p e
-is_bare p e x g none y h = subst (λ (z : EntityDef). z.fields ≡ []) (same_Some x y (sym g ∙ h)) none
-
-owners_bare : (p : Program) → Each (λ m x. NoFields p x.entity) (methods_of p)
-owners_bare p =
-    let xs = gather (λ k c. class_create k c ∷ []) 0 p.classes in
-    each_append (λ m x. NoFields p x.entity) (print_method 1 ∷ []) (xs ++ main_create p ∷ []) (single (λ m x. NoFields p x.entity) (print_method 1) (is_bare p 5 stream_entity refl refl))
-    (each_append (λ m x. NoFields p x.entity) xs (main_create p ∷ [])
-    (each_ones class_create (λ m x. NoFields p x.entity) p.classes (λ i c e. is_bare p (6 + i) (class_entity i c) (class_entity_get p i c e) refl))
-    (single (λ m x. NoFields p x.entity) (main_create p) (is_bare p (6 + length p.classes) (main_entity p) (main_entity_get p) refl)))
-
 first_core : (p : Program) → InOrder p → IsFirstCore (core_of p)
 first_core p o =
     let c = o.few_classes in
@@ -159,8 +133,6 @@ first_core p o =
       kinds = of_first_kinds p;
       few_slots = omega (arith, c, d, ss);
       few_nodes = omega (arith, c, d, ns);
-      written = slots_written p;
-      no_fields = owners_bare p;
     }
 
 pub formed_first : FormedFirst

@@ -14,10 +14,10 @@ use Rattle.pc_first.specs.declared.program.Program.{Program}
 use Rattle.pc_first.specs.declared.program.Definition.{Definition}
 use Rattle.pc_first.specs.declared.program.Initial.{Initial}
 use Rattle.pc_first.specs.declared.program.Initial.TheVariants as initial
-use Rattle.pc_first.specs.Gathering.{ones_get}
+use Rattle.pc_first.proofs.Gathering.{ones_get}
 use Rattle.pc_first.proofs.Named.{InOrder, ReadsBelow}
-use Rattle.pc_first.specs.Places.At.{class_value, class_seq, class_body, value, define, sequence, body}
-use Rattle.pc_first.specs.Places.{At, nodes_at, define_of, seq_of, define_get, seq_get, entities_length}
+use Rattle.pc_first.proofs.Places.At.{class_value, class_seq, class_body, value, define, sequence, body}
+use Rattle.pc_first.proofs.Places.{At, nodes_at, define_of, seq_of, define_get, seq_get, entities_length}
 
 -- the slot that a node defines
 abbrev defined_slot : NodeKind → ℕ

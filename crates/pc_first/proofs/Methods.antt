@@ -16,12 +16,12 @@ use Rattle.pc_first.specs.declared.program.Class.{Class}
 use Rattle.pc_first.specs.declared.program.Definition.{Definition}
 use Rattle.pc_first.specs.declared.program.Initial.{Initial}
 use Rattle.pc_first.specs.declared.program.Initial.TheVariants as initial
-use Rattle.pc_first.specs.Gathering.{each_nil, each_append, each_ones, ones_length, gather_length, range_step, range_nil, range_back}
+use Rattle.pc_first.proofs.Gathering.{each_nil, each_append, each_ones, ones_length, gather_length, range_step, range_nil, range_back}
 use Rattle.pc_first.proofs.Entities.{single, stream_entity}
 use Rattle.pc_first.proofs.Locals.{local_fits}
 use Rattle.pc_first.proofs.Named.{InOrder}
-use Rattle.pc_first.specs.Places.At.{class_value, class_seq, class_body, value, define, sequence, body}
-use Rattle.pc_first.specs.Places.{At, nodes_at, three, class_value_of, class_seq_of, class_body_of, body_of, class_get, body_get, class_entity_get, main_entity_get, entities_length, class_slot, class_slot_get, main_slots_length, main_nodes_length}
+use Rattle.pc_first.proofs.Places.At.{class_value, class_seq, class_body, value, define, sequence, body}
+use Rattle.pc_first.proofs.Places.{At, nodes_at, three, class_value_of, class_seq_of, class_body_of, body_of, class_get, body_get, class_entity_get, main_entity_get, entities_length, class_slot, class_slot_get, main_slots_length, main_nodes_length}
 
 -- ---- post-order
 

@@ -15,7 +15,7 @@ use Rattle.pc_first.specs.declared.program.Class.{Class}
 use Rattle.pc_first.specs.declared.program.Definition.{Definition}
 use Rattle.pc_first.specs.declared.program.Initial.{Initial}
 use Rattle.pc_first.specs.declared.program.Initial.TheVariants as initial
-use Rattle.pc_first.specs.Gathering.{each_nil, each_cons}
+use Rattle.pc_first.proofs.Gathering.{each_nil, each_cons}
 
 -- a name among others has its place there
 place_by : (b : Bool) (name : List ℕ) (ns rest : List (List ℕ)) → (b || among ns name) ≡ true → (among ns name ≡ true → place_of name (ns ++ rest) < length ns)

@@ -13,10 +13,10 @@ use Rattle.pc_first.specs.declared.program.Program.{Program}
 use Rattle.pc_first.specs.declared.program.Definition.{Definition}
 use Rattle.pc_first.specs.declared.program.Initial.{Initial}
 use Rattle.pc_first.specs.declared.program.Initial.TheVariants as initial
-use Rattle.pc_first.specs.Gathering.{each_nil, ones_length}
+use Rattle.pc_first.proofs.Gathering.{each_nil, ones_length}
 use Rattle.pc_first.proofs.Named.{InOrder, MakesOne, ReadsBelow, length_names}
-use Rattle.pc_first.specs.Places.At.{class_value, class_seq, class_body, value, define, sequence, body}
-use Rattle.pc_first.specs.Places.{At, nodes_at, class_create_get, main_create_get, local_get}
+use Rattle.pc_first.proofs.Places.At.{class_value, class_seq, class_body, value, define, sequence, body}
+use Rattle.pc_first.proofs.Places.{At, nodes_at, class_create_get, main_create_get, local_get}
 
 -- ---- of each node, by what it is
 

@@ -1,10 +1,8 @@
 -- The first form of sources.
-use Rattle.std.specs.Prelude.{◌≡◌, ◌≤◌, true, List, [], length, Option, Some, IsSome, MatchOption, slice_get}
+use Rattle.std.specs.Prelude.{◌≡◌, ◌≤◌, true, List, length, Option, MatchOption}
 use Rattle.pc_token.specs.declared.kinds.Token.{Token}
-use Rattle.pc_core.specs.declared.declarations.EntityDef.{EntityDef}
 use Rattle.pc_core.specs.CoreData.{CoreData}
 use Rattle.pc_core.specs.Formed.{Formed}
-use Rattle.pc_core.specs.Words.{Each}
 use Rattle.pc_first.specs.declared.program.Program.{Program}
 use Rattle.pc_first.specs.Cores.{core_of}
 use Rattle.pc_first.specs.Kinds.{HasFirstKinds}
@@ -27,15 +25,13 @@ IsShapedAs ts read = MatchOption read ((p : Program) → IsWritten ts p → ⊥)
 abbrev pub OneProgram : Type 0
 OneProgram = (ts : List Token) (p q : Program) → Spell ts p → Spell ts q → p ≡ q
 
--- What the core of a program of the first form has: its parts fit together, its nodes are of the first kinds, it is small,
--- the type of each slot is written, and no entity with a method has a field.
+-- What the core of a program of the first form has: its parts fit together, its nodes are of the first kinds, and it is
+-- small.
 pub record IsFirstCore (core : CoreData) : Type 0 where
   pub formed : Formed core
   pub kinds : HasFirstKinds core
   pub few_slots : length core.slots ≤ 1063
   pub few_nodes : length core.nodes ≤ 3123
-  pub written : Each (λ k y. IsSome y.written) core.slots
-  pub no_fields : Each (λ m x. (y : EntityDef) → slice_get core.entities x.entity ≡ Some y → y.fields ≡ []) core.methods
 
 abbrev pub FormedFirst : Type 0
 FormedFirst = (p : Program) → well_named p ≡ true → IsFirstCore (core_of p)

@@ -6,5 +6,3 @@ mod Judged
 mod One
 mod Parts
 mod Places
-mod Reaching
-mod Stopping

@@ -1,7 +1,6 @@
 -- No two verdicts differ.
 use Rattle.std.proofs.Common.{◌≡◌, ◌<◌, ℕ, List, Option, Some, None, Ok, Err, refl, sym, ◌∙◌, ap, subst, length, arith, true, false, inl, inr}
-use Rattle.std.specs.Prelude.{Result, IsSome, [], not, nat_le, slice_get, codes}
-use Rattle.std.proofs.lemmas.Bool.{and_parts, leb-true}
+use Rattle.std.specs.Prelude.{Result, IsSome, slice_get, codes}
 use Rattle.std.proofs.lemmas.Option.{same_Some, none-some}
 use Rattle.pc_ann.specs.declared.annotation.Ann.{Ann}
 use Rattle.pc_core.specs.declared.nodes.Node.{Node}
@@ -13,7 +12,7 @@ use Rattle.pc_sub.specs.Declarations.{DeclOk, NoFaultWhereFit, first_fault}
 use Rattle.pc_sub.specs.declared.faults.DeclFault.{DeclFault}
 use Rattle.pc_rules.specs.Statements.{OneValid}
 use Rattle.pc_rules.specs.Valid.{Valid, NoRule, Unset}
-use Rattle.pc_check.specs.Laws.{NoneWithoutRule, NoneWithFault}
+use Rattle.pc_check.specs.Laws.{NoneWithoutRule, NoneWithUnset, NoneWithFault, OneNode, OneConstructor, OneKindOfFault}
 use Rattle.pc_deriv.specs.Faults.{IsText, IsFault}
 use Rattle.pc_deriv.specs.Laws.{OneAnnotation, NoFaultOfText, OneFault as OneTextFault}
 use Rattle.pc_deriv.specs.Text.{deriv_text}
@@ -21,8 +20,9 @@ use Rattle.pc_deriv.specs.declared.fault.DerivFault.{DerivFault}
 use Rattle.pc_judge.specs.Faults.{OneFirst, NotValid}
 use Rattle.pc_judge.specs.declared.faults.JudgeFault.{JudgeFault}
 use Rattle.pc_first.specs.Cores.{core_of}
-use Rattle.pc_first.specs.FirstForm.{FormedFirst, IsFirstCore, OneProgram}
-use Rattle.pc_first.specs.Naming.{well_named, class_names, names_of, among, distinct, classes_are_named, definitions_are_named, are_typed, read_earlier}
+use Rattle.pc_core.specs.declared.declarations.Method.{Method}
+use Rattle.pc_core.specs.Formed.{Formed}
+use Rattle.pc_first.specs.FirstForm.{FormedFirst, OneProgram}
 use Rattle.pc_first.specs.declared.program.Program.{Program}
 use Rattle.pc_top.specs.After.{After, IsOne}
 use Rattle.pc_top.specs.After.After.{stops, goes}
@@ -46,7 +46,6 @@ use Rattle.pc_top.specs.Source.TextStage.{has_core, has_none}
 use Rattle.pc_top.specs.Verdict.{Verdict, refused, ended}
 use Rattle.pc_top.specs.declared.source.Source.{Source}
 use Rattle.pc_top.proofs.Deriving.{source_first}
-use Rattle.pc_top.proofs.Stopping.{one_stop, never_unset}
 
 -- What the verdicts rest on.
 pub record Laws : Type 0 where
@@ -58,7 +57,11 @@ pub record Laws : Type 0 where
   pub fits : NoFaultWhereFit
   pub valid : OneValid
   pub ruleless : NoneWithoutRule
+  pub setless : NoneWithUnset
   pub failing : NoneWithFault
+  pub node : OneNode
+  pub constructor : OneConstructor
+  pub kind : OneKindOfFault
   pub annotation : OneAnnotation
   pub text_fault : OneTextFault
   pub apart : NoFaultOfText
@@ -91,19 +94,6 @@ one_length : (limit : ℕ) (name : Text) (r : Reading) → IsOne (Length limit n
 one_length limit name r _ _ fits fits = refl
 one_length limit name r _ _ is_longer is_longer = refl
 
--- a program has definitions
-has_definitions : (p : Program) → well_named p ≡ true → 0 < length p.definitions
-has_definitions p e =
-    let ns = class_names p.classes in
-    let ds = p.definitions in
-    let h = and_parts (classes_are_named p.classes) (definitions_are_named ns ds) e in
-    let a5 = and_parts _ (read_earlier [] ds) h.1 in
-    let a4 = and_parts _ (are_typed ns ds) a5.0 in
-    let a3 = and_parts _ (distinct (names_of ds)) a4.0 in
-    let a2 = and_parts _ (not (among (names_of ds) (codes "env"))) a3.0 in
-    let a1 = and_parts (nat_le 1 (length ds)) (nat_le (length ds) 62) a2.0 in
-    leb-true 1 (length ds) a1.0
-
 -- ---- the source
 
 module _ (laws : Laws) where
@@ -134,36 +124,42 @@ module _ (laws : Laws) where
 
   -- ---- check
 
-  no_fault : (core : CoreData) (f : DeclFault) → IsFirstCore core → DeclOk core → first_fault core ≡ Some f → ⊥
-  no_fault core f is d e = none-some f (sym ((laws.fits core is.formed).1 d) ∙ e)
+  no_fault : (core : CoreData) (f : DeclFault) → Formed core → DeclOk core → first_fault core ≡ Some f → ⊥
+  no_fault core f is d e = none-some f (sym ((laws.fits core is).1 d) ∙ e)
 
   node_same : (core : CoreData) (a b : Ann) (n m : ℕ) (s : NoRule core a n) (t : NoRule core b m) → n ≡ m → s.at ≡ t.at
   node_same core a b n m s t e = same_Some s.at t.at (sym s.is_at ∙ (ap (slice_get core.nodes) e ∙ t.is_at))
 
-  module _ (name : Text) (s : Source) (is : IsFirstCore s.core) (stop : (a b : Ann) (n m : ℕ) → NoRule s.core a n → NoRule s.core b m → n ≡ m) where
+  method_same : (core : CoreData) (a b : Ann) (n m : ℕ) (s : Unset core a n) (t : Unset core b m) → n ≡ m → s.method ≡ t.method
+  method_same core a b n m s t e = same_Some s.method t.method (sym s.is_method ∙ (ap (slice_get core.methods) e ∙ t.is_method))
+
+  module _ (name : Text) (s : Source) (is : Formed s.core) where
     one_deriving : IsOne (Deriving name s)
-    one_deriving _ _ (derives a v t) (derives b w u) = ap (λ (x : Text). Ok x) (t.same ∙ (ap deriv_text (laws.valid s.core a b is.formed v w) ∙ sym u.same))
-    one_deriving _ _ (derives a v t) (declared f e) = absurd (laws.failing s.core f is.formed e (a, v))
-    one_deriving _ _ (derives a v t) (no_rule b n h) = absurd (laws.ruleless s.core b n is.formed h (a, v))
-    one_deriving _ _ (derives a v t) (unset b m left) = absurd (never_unset s.core is b m left)
-    one_deriving _ _ (declared f e) (derives a v t) = absurd (laws.failing s.core f is.formed e (a, v))
+    one_deriving _ _ (derives a v t) (derives b w u) = ap (λ (x : Text). Ok x) (t.same ∙ (ap deriv_text (laws.valid s.core a b is v w) ∙ sym u.same))
+    one_deriving _ _ (derives a v t) (declared f e) = absurd (laws.failing s.core f is e (a, v))
+    one_deriving _ _ (derives a v t) (no_rule b n h) = absurd (laws.ruleless s.core b n is h (a, v))
+    one_deriving _ _ (derives a v t) (unset b m left) = absurd (laws.setless s.core b m is left (a, v))
+    one_deriving _ _ (declared f e) (derives a v t) = absurd (laws.failing s.core f is e (a, v))
     one_deriving _ _ (declared f e) (declared g h) = ap (λ (x : DeclFault). Err (refused 1 (offset_line name s.bytes (decl_offset s.core x) (decl_text x)))) (same_Some f g (sym e ∙ h))
     one_deriving _ _ (declared f e) (no_rule b n h) = absurd (no_fault s.core f is h.declarations e)
-    one_deriving _ _ (declared f e) (unset b m left) = absurd (never_unset s.core is b m left)
-    one_deriving _ _ (no_rule a n h) (derives b v t) = absurd (laws.ruleless s.core a n is.formed h (b, v))
+    one_deriving _ _ (declared f e) (unset b m left) = absurd (no_fault s.core f is left.declarations e)
+    one_deriving _ _ (no_rule a n h) (derives b v t) = absurd (laws.ruleless s.core a n is h (b, v))
     one_deriving _ _ (no_rule a n h) (declared f e) = absurd (no_fault s.core f is h.declarations e)
     one_deriving _ _ (no_rule a n h) (no_rule b m i) =
-        ap (λ (x : Node). Err (refused 1 (offset_line name s.bytes x.span.start (codes "no rule")))) (node_same s.core a b n m h i (stop a b n m h i))
-    one_deriving _ _ (no_rule a n h) (unset b m left) = absurd (never_unset s.core is b m left)
-    one_deriving _ _ (unset a m left) d = absurd (never_unset s.core is a m left)
+        ap (λ (x : Node). Err (refused 1 (offset_line name s.bytes x.span.start (codes "no rule")))) (node_same s.core a b n m h i (laws.node s.core a b n m is h i))
+    one_deriving _ _ (no_rule a n h) (unset b m left) = absurd (laws.kind s.core a b n m is h left)
+    one_deriving _ _ (unset a m left) (derives b v t) = absurd (laws.setless s.core a m is left (b, v))
+    one_deriving _ _ (unset a m left) (declared f e) = absurd (no_fault s.core f is left.declarations e)
+    one_deriving _ _ (unset a m left) (no_rule b n h) = absurd (laws.kind s.core b a n m is h left)
+    one_deriving _ _ (unset a m left) (unset b k right) =
+        ap (λ (x : Method). Err (refused 1 (offset_line name s.bytes x.span.start (codes "field not set")))) (method_same s.core a b m k left right (laws.constructor s.core a b m k is left right))
+
+  -- the core of a source that all stages let pass
+  formed_of : {name : Text} {r : Reading} {s : Source} → SourceStage name r (Ok s) → Formed s.core
+  formed_of h = let f = source_first h in subst Formed f.1 (laws.formed f.0 f.2).formed
 
   one_check : (name : Text) (r : Reading) → IsOne (CheckStage name r)
-  one_check name r =
-      after_is_one (SourceStage name r) (Deriving name) (one_source name r) (λ s h.
-        let f = source_first h in
-        let is = laws.formed f.0 f.2 in
-        one_deriving name s (subst IsFirstCore f.1 is)
-        (subst (λ (c : CoreData). (a b : Ann) (n m : ℕ) → NoRule c a n → NoRule c b m → n ≡ m) f.1 (one_stop f.0 is (has_definitions f.0 f.2))))
+  one_check name r = after_is_one (SourceStage name r) (Deriving name) (one_source name r) (λ s h. one_deriving name s (formed_of h))
 
   -- ---- judge
 
@@ -176,16 +172,15 @@ module _ (laws : Laws) where
   one_derivation : (name : Text) (r : Reading) → IsOne (DerivationStage name r)
   one_derivation name r = after_is_one (Length derivation_limit name r) (Reads name) (one_length derivation_limit name r) (λ bytes l. one_reads name bytes)
 
-  one_judging : (source_name name : Text) (s : Source) (ann : Ann) → IsFirstCore s.core → IsOne (Judging source_name name s ann)
+  one_judging : (source_name name : Text) (s : Source) (ann : Ann) → Formed s.core → IsOne (Judging source_name name s ann)
   one_judging source_name name s ann is _ _ (holds v) (holds w) = refl
-  one_judging source_name name s ann is _ _ (holds v) (fails f h) = absurd (laws.not_valid s.core ann f is.formed h v)
-  one_judging source_name name s ann is _ _ (fails f h) (holds v) = absurd (laws.not_valid s.core ann f is.formed h v)
-  one_judging source_name name s ann is _ _ (fails f h) (fails g i) = ap (λ (x : JudgeFault). Err (refused 6 (judge_line source_name name s x))) (laws.first s.core ann f g is.formed h i)
+  one_judging source_name name s ann is _ _ (holds v) (fails f h) = absurd (laws.not_valid s.core ann f is h v)
+  one_judging source_name name s ann is _ _ (fails f h) (holds v) = absurd (laws.not_valid s.core ann f is h v)
+  one_judging source_name name s ann is _ _ (fails f h) (fails g i) = ap (λ (x : JudgeFault). Err (refused 6 (judge_line source_name name s x))) (laws.first s.core ann f g is h i)
 
   one_judge : (source_name name : Text) (r d : Reading) (s : Source) → SourceStage source_name r (Ok s) → IsOne (JudgeStage source_name name s d)
   one_judge source_name name r d s h =
-      let f = source_first h in
-      after_is_one (DerivationStage name d) (Judging source_name name s) (one_derivation name d) (λ ann g. one_judging source_name name s ann (subst IsFirstCore f.1 (laws.formed f.0 f.2)))
+      after_is_one (DerivationStage name d) (Judging source_name name s) (one_derivation name d) (λ ann g. one_judging source_name name s ann (formed_of h))
 
 -- ---- the files
 

@@ -14,9 +14,10 @@ use crate::judge::run_judge;
 use crate::lines::make_usage_line;
 use crate::stop::Stop;
 use pc_check::{
-    nothing_is_derivable_with_a_declaration_that_fails, nothing_is_derivable_without_a_rule,
+    nothing_is_derivable_with_a_declaration_that_fails, nothing_is_derivable_with_a_field_unset,
+    nothing_is_derivable_without_a_rule,
 };
-use pc_deriv::{annotations_are_one, faults_are_one};
+use pc_deriv::annotations_are_one;
 use pc_first::{cores_are_formed, programs_are_one};
 use pc_io::{Files, Sink};
 use pc_judge::{faulted_is_not_valid, one_fault_is_first};
@@ -99,9 +100,11 @@ pub fn verdict_is_one()
     no_fault_where_declarations_fit();
     one_annotation_is_valid();
     nothing_is_derivable_without_a_rule();
+    nothing_is_derivable_with_a_field_unset();
     nothing_is_derivable_with_a_declaration_that_fails();
+    pc_check::faults_are_one();
     annotations_are_one();
-    faults_are_one();
+    pc_deriv::faults_are_one();
     one_fault_is_first();
     faulted_is_not_valid();
 }

@@ -12,10 +12,14 @@ returns c =
       fits = c.no_fault_where_declarations_fit.ensures;
       valid = c.one_annotation_is_valid.ensures;
       ruleless = c.nothing_is_derivable_without_a_rule.ensures;
+      setless = c.nothing_is_derivable_with_a_field_unset.ensures;
+      node = c.faults_are_one.ensures.node;
+      constructor = c.faults_are_one.ensures.constructor;
+      kind = c.faults_are_one.ensures.kind;
       failing = c.nothing_is_derivable_with_a_declaration_that_fails.ensures;
       annotation = c.annotations_are_one.ensures;
-      text_fault = c.faults_are_one.ensures.one;
-      apart = c.faults_are_one.ensures.apart;
+      text_fault = c.faults_are_one-2.ensures.one;
+      apart = c.faults_are_one-2.ensures.apart;
       first = c.one_fault_is_first.ensures;
       not_valid = c.faulted_is_not_valid.ensures;
     })

@@ -14,7 +14,7 @@ use Rattle.pc_first.specs.Cores.{gather, built_ins, node_of, class_entity, class
 use Rattle.pc_first.specs.declared.program.Program.{Program}
 use Rattle.pc_first.specs.declared.program.Class.{Class}
 use Rattle.pc_first.specs.declared.program.Definition.{Definition}
-use Rattle.pc_first.specs.Gathering.{each_nil, each_cons, each_append, gather_length, gather_get, each_gather, ones_length, ones_get}
+use Rattle.pc_first.proofs.Gathering.{each_nil, each_cons, each_append, gather_length, gather_get, each_gather, ones_length, ones_get}
 
 -- The nodes, each with its number.
 abbrev pub class_value_of : ℕ → Class → Node
