@@ -57,6 +57,10 @@ derivation_refuses : {name : Text} {r : Reading} {v : Verdict} → DerivationSta
 derivation_refuses (stops is_longer) e = omega arith
 derivation_refuses (goes fits (refuses f h)) e = text_refuses f e
 
+pub judge_refuses : {source_name name : Text} {s : Source} {r : Reading} {v : Verdict} → JudgeStage source_name name s r (Err v) → v.status ≡ 0 → ⊥
+judge_refuses (stops h) e = derivation_refuses h e
+judge_refuses (goes {x = ann} h (fails f g)) e = omega arith
+
 -- A source that all stages let pass, whose core has this valid annotation.
 abbrev pub Stands : Text → Reading → Source → Ann → Type 0
 Stands name r s ann = SourceStage name r (Ok s) × Valid s.core ann

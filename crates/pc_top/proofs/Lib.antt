@@ -3,6 +3,8 @@ mod Answers
 mod Deriving
 mod Facts
 mod Judged
+mod Lengths
 mod One
 mod Parts
 mod Places
+mod Written

@@ -17,3 +17,4 @@ pub mod Reading
 pub mod Source
 pub mod Stages
 pub mod Verdict
+pub mod Writes

@@ -16,4 +16,4 @@ mod stop;
 mod top;
 mod writing;
 
-pub use top::{rcap, verdict_is_one};
+pub use top::{rcap, verdict_is_one, written_derivations_are_accepted};

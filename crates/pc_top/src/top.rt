@@ -6,6 +6,7 @@ ghost use Rattle.pc_top.specs.Command.{texts};
 ghost use Rattle.pc_top.specs.Complete.{Completes};
 ghost use Rattle.pc_top.specs.Ends.{Ends, change};
 ghost use Rattle.pc_top.specs.One.{VerdictIsOne};
+ghost use Rattle.pc_top.specs.Writes.{Writes, WrittenIsAccepted};
 
 use crate::check::run_check;
 use crate::command::{Command, read_words};
@@ -47,6 +48,10 @@ pub fn rcap<F: Files, O: Sink, E: Sink>(
 
     // The source that is accepted has a core, and the core has a derivation.
     ensures accepted { result ≡ 0 → Accepts (F.bytes files.old) (texts words.now) }
+
+    // At 0 the derivation of the source, or `accepted`, is on out.
+    ensures writes { result ≡ 0 → Writes (F.bytes files.old) (texts words.now)
+        (change (O.written out.old) (O.written out.new) (O.faults out.old) (O.faults out.new)) }
 
     // Where no file of the command and no sink failed, the answer is the verdict or want of memory.
     ensures completes { let files = files_change (F.bytes files.old) (F.faults files.old) (F.faults files.new) (F.taken files.new) in
@@ -108,3 +113,8 @@ pub fn verdict_is_one()
     one_fault_is_first();
     faulted_is_not_valid();
 }
+
+/// What `check` writes for a source, `judge` accepts for the same source.
+pub fn written_derivations_are_accepted()
+    ensures { WrittenIsAccepted }
+{}
