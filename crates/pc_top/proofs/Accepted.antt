@@ -1,11 +1,10 @@
 -- What is accepted has a derivation.
-use Rattle.std.proofs.Common.{◌≡◌, ℕ, List, Option, Some, None, Ok, Err, refl, sym, ◌∙◌, subst, ap, arith}
+use Rattle.std.proofs.Common.{◌≡◌, ℕ, List, Option, Some, None, Ok, Err, sym, ◌∙◌, subst, ap, arith}
 use Rattle.std.specs.Prelude.{IfSome, Result}
 use Rattle.pc_lex.specs.declared.fault.LexFault.{LexFault}
 use Rattle.pc_lex.specs.declared.fault.LexFault.TheVariants as fault
 use Rattle.pc_deriv.specs.declared.fault.DerivFault.{DerivFault}
 use Rattle.pc_deriv.specs.declared.fault.DerivFault.TheVariants as deriv
-use Rattle.pc_core.specs.CoreData.{CoreData}
 use Rattle.pc_ann.specs.declared.annotation.Ann.{Ann}
 use Rattle.pc_rules.specs.Valid.{Valid}
 use Rattle.pc_top.specs.After.After.{stops, goes}
@@ -17,17 +16,17 @@ use Rattle.pc_top.specs.Check.Deriving.{derives, declared, no_rule, unset}
 use Rattle.pc_top.specs.Command.{Text, Asked, check, judge, command_of}
 use Rattle.pc_top.specs.Ends.{Change}
 use Rattle.pc_top.specs.Faults.{fault_status}
-use Rattle.pc_top.specs.FirstForm.{CoreOf, IsDerivable}
-use Rattle.pc_top.specs.Judge.{Reads, DerivationStage, Judging, JudgeStage, IsJudge, judged, text_status}
-use Rattle.pc_top.specs.Judge.Reads.{reads, refuses}
+use Rattle.pc_top.specs.FirstForm.{IsDerivable}
+use Rattle.pc_top.specs.Judge.{DerivationStage, JudgeStage, IsJudge, judged, text_status}
+use Rattle.pc_top.specs.Judge.Reads.{refuses}
 use Rattle.pc_top.specs.Judge.Judging.{holds, fails}
 use Rattle.pc_top.specs.Judge.IsJudge.{source_stops, source_stands}
 use Rattle.pc_top.specs.Named.{Named, Reading, whole, Gives}
 use Rattle.pc_top.specs.Source.{CoreStage, SourceStage, source_limit}
 use Rattle.pc_top.specs.Source.Length.{fits, is_longer}
-use Rattle.pc_top.specs.Source.Lexing.{lexed, faulty}
-use Rattle.pc_top.specs.Source.Form.{says, not_built}
-use Rattle.pc_top.specs.Source.TextStage.{has_core, has_none}
+use Rattle.pc_top.specs.Source.Lexing.{faulty}
+use Rattle.pc_top.specs.Source.Form.{not_built}
+use Rattle.pc_top.specs.Source.TextStage.{has_none}
 use Rattle.pc_top.specs.Verdict.{Verdict, ended}
 use Rattle.pc_top.specs.declared.source.Source.{Source}
 use Rattle.pc_top.proofs.Deriving.{source_says}

@@ -1,6 +1,5 @@
 -- From what the inference answers to the verdict of `check`.
-use Rattle.std.proofs.Common.{◌≡◌, ◌≤◌, ℕ, true, length, Option, Some, None, Ok, Err, refl, inl, sym, ap, ◌∙◌, subst, arith}
-use Rattle.std.specs.Prelude.{Result}
+use Rattle.std.proofs.Common.{◌≡◌, ◌≤◌, ℕ, true, length, Option, Some, Ok, Err, refl, inl, subst, arith}
 use Rattle.pc_core.specs.CoreData.{CoreData}
 use Rattle.pc_check.specs.Faults.{Refuses}
 use Rattle.pc_check.specs.declared.fault.CheckFault.{CheckFault}
@@ -9,24 +8,24 @@ use Rattle.pc_ann.specs.declared.annotation.Ann.{Ann}
 use Rattle.pc_rules.specs.Valid.{Valid}
 use Rattle.pc_deriv.specs.Limits.{slot_limit, node_limit}
 use Rattle.pc_first.specs.Cores.{core_of}
-use Rattle.pc_first.specs.FirstForm.{Spell, FormedFirst}
+use Rattle.pc_first.specs.FirstForm.{FormedFirst}
 use Rattle.pc_first.specs.Naming.{well_named}
 use Rattle.pc_first.specs.declared.program.Program.{Program}
-use Rattle.pc_top.specs.After.After.{stops, goes}
-use Rattle.pc_top.specs.Check.{Deriving, CheckStage, IsCheck}
-use Rattle.pc_top.specs.Check.Deriving.{derives, declared, no_rule, unset}
+use Rattle.pc_top.specs.After.After.{goes}
+use Rattle.pc_top.specs.Check.{Deriving, IsCheck}
+use Rattle.pc_top.specs.Check.Deriving.{declared, no_rule, unset}
 use Rattle.pc_top.specs.Command.{Text}
-use Rattle.pc_top.specs.CoreFaults.{IsCoreRefusal, IsSmall, offset_line, node_start, method_start}
+use Rattle.pc_top.specs.CoreFaults.{IsCoreRefusal, IsSmall, node_start}
 use Rattle.pc_top.specs.Ends.{Stops, change}
-use Rattle.pc_top.specs.FirstForm.{Says, CoreOf}
-use Rattle.pc_top.specs.Named.{Named, Reading, whole, Gives, FailedAt}
+use Rattle.pc_top.specs.FirstForm.{CoreOf}
+use Rattle.pc_top.specs.Named.{Named, Reading, whole, FailedAt}
 use Rattle.pc_top.specs.Source.{SourceStage, source_limit}
 use Rattle.pc_top.specs.Source.Length.{fits}
 use Rattle.pc_top.specs.Source.Lexing.{lexed}
 use Rattle.pc_top.specs.Source.Form.{says}
 use Rattle.pc_top.specs.Source.TextStage.{has_core}
 use Rattle.pc_top.specs.Stages.{StageStops, PartGives}
-use Rattle.pc_top.specs.Verdict.{Verdict, refused}
+use Rattle.pc_top.specs.Verdict.{refused}
 use Rattle.pc_top.specs.declared.source.Source.{Source}
 use Rattle.pc_top.specs.declared.stop.Stop.{Stop}
 use Rattle.pc_top.specs.declared.stop.Stop.TheVariants.{Refused, File, Sink, Memory}

@@ -1,5 +1,5 @@
 -- From what the judge answers to the verdict of `judge`.
-use Rattle.std.proofs.Common.{◌≡◌, ◌⊎◌, ℕ, Option, Some, None, Ok, Err, refl, inl, inr, sym, ap, ◌∙◌, subst}
+use Rattle.std.proofs.Common.{◌≡◌, ◌⊎◌, ℕ, Option, Ok, Err, refl, inl, subst}
 use Rattle.std.specs.Prelude.{Result}
 use Rattle.pc_ann.specs.declared.annotation.Ann.{Ann}
 use Rattle.pc_deriv.specs.Faults.{IsFault, Refuses}
@@ -8,13 +8,13 @@ use Rattle.pc_deriv.specs.declared.fault.DerivFault.TheVariants as deriv
 use Rattle.pc_top.specs.After.After.{stops, goes}
 use Rattle.pc_top.specs.Command.{Text}
 use Rattle.pc_top.specs.Ends.{Stops, change}
-use Rattle.pc_top.specs.Judge.{IsTextRefusal, Reads, DerivationStage, Judging, JudgeStage, IsJudge, judged, derivation_limit}
-use Rattle.pc_top.specs.Judge.Reads.{reads, refuses}
-use Rattle.pc_top.specs.Judge.IsJudge.{source_stops, source_stands}
+use Rattle.pc_top.specs.Judge.{IsTextRefusal, Reads, DerivationStage, Judging, IsJudge, derivation_limit}
+use Rattle.pc_top.specs.Judge.Reads.{refuses}
+use Rattle.pc_top.specs.Judge.IsJudge.{source_stands}
 use Rattle.pc_top.specs.Named.{Named, Reading, whole, longer, Gives, FailedAt}
 use Rattle.pc_top.specs.Source.{SourceStage, source_limit}
 use Rattle.pc_top.specs.Source.Length.{fits}
-use Rattle.pc_top.specs.Stages.{StageStops, StageEnds, PartStops, PartGives, PartEnds}
+use Rattle.pc_top.specs.Stages.{StageStops, StageEnds, PartGives, PartEnds}
 use Rattle.pc_top.specs.Verdict.{Verdict, refused}
 use Rattle.pc_top.specs.declared.source.Source.{Source}
 use Rattle.pc_top.specs.declared.stop.Stop.{Stop}

@@ -1,5 +1,5 @@
 -- A derivation's text is within the limit of a derivation.
-use Rattle.std.proofs.Common.{◌≡◌, ◌≤◌, ◌<◌, ◌+◌, ◌*◌, ◌/◌, ◌%◌, ◌^◌, ℕ, zero, suc, cond, false, length, List, [], ◌∷◌, ◌++◌, Option, Some, None, refl, inl, inr, sym, ap, ◌∙◌, subst, arith}
+use Rattle.std.proofs.Common.{◌≡◌, ◌≤◌, ◌<◌, ◌+◌, ◌*◌, ◌/◌, ◌%◌, ◌^◌, ℕ, zero, suc, cond, false, length, List, [], ◌∷◌, ◌++◌, Option, Some, None, inl, inr, ap, arith}
 use Rattle.std.specs.Prelude.{codes, decimal}
 use Rattle.std.specs.List.{AllByRecursion}
 use Rattle.std.specs.Fmt.{digit_glyph, digits_onto, digits}
@@ -18,7 +18,7 @@ use Rattle.pc_ann.specs.declared.annotation.Rule.{Rule}
 use Rattle.pc_ann.specs.declared.annotation.Rule.TheVariants as rule
 use Rattle.pc_deriv.specs.Faults.{IsText}
 use Rattle.pc_deriv.specs.Names.{rule_name, cap_name, form_name}
-use Rattle.pc_deriv.specs.Text.{head_line, slot_line, type_text, mask_text, masks_text, note_line, lines, deriv_text, line_end, blank, SlotFits, TypeFits, MaskFits, MasksFit, NoteFits}
+use Rattle.pc_deriv.specs.Text.{head_line, slot_line, type_text, mask_text, masks_text, note_line, lines, line_end, blank, SlotFits, TypeFits, MaskFits, MasksFit, NoteFits}
 use Rattle.pc_top.specs.Judge.{derivation_limit}
 
 -- The parts of a line.

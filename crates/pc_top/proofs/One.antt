@@ -1,5 +1,5 @@
 -- No two verdicts differ.
-use Rattle.std.proofs.Common.{◌≡◌, ◌<◌, ℕ, List, Option, Some, None, Ok, Err, refl, sym, ◌∙◌, ap, subst, length, arith, true, false, inl, inr}
+use Rattle.std.proofs.Common.{◌≡◌, ◌<◌, ℕ, List, Option, Some, None, Ok, Err, refl, sym, ◌∙◌, ap, subst, length, arith, true, false}
 use Rattle.std.specs.Prelude.{Result, IsSome, slice_get, codes}
 use Rattle.std.proofs.lemmas.Option.{same_Some, none-some}
 use Rattle.pc_ann.specs.declared.annotation.Ann.{Ann}
@@ -11,9 +11,8 @@ use Rattle.pc_lex.specs.declared.fault.LexFault.{LexFault}
 use Rattle.pc_sub.specs.Declarations.{DeclOk, NoFaultWhereFit, first_fault}
 use Rattle.pc_sub.specs.declared.faults.DeclFault.{DeclFault}
 use Rattle.pc_rules.specs.Statements.{OneValid}
-use Rattle.pc_rules.specs.Valid.{Valid, NoRule, Unset}
+use Rattle.pc_rules.specs.Valid.{NoRule, Unset}
 use Rattle.pc_check.specs.Laws.{NoneWithoutRule, NoneWithUnset, NoneWithFault, OneNode, OneConstructor, OneKindOfFault}
-use Rattle.pc_deriv.specs.Faults.{IsText, IsFault}
 use Rattle.pc_deriv.specs.Laws.{OneAnnotation, NoFaultOfText, OneFault as OneTextFault}
 use Rattle.pc_deriv.specs.Text.{deriv_text}
 use Rattle.pc_deriv.specs.declared.fault.DerivFault.{DerivFault}

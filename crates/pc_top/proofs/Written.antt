@@ -1,5 +1,5 @@
 -- What is written at status 0, and that it is accepted.
-use Rattle.std.proofs.Common.{◌≡◌, ◌≤◌, ℕ, List, [], ◌++◌, length, Option, Some, None, Ok, Err, refl, sym, ap, ◌∙◌, subst, arith}
+use Rattle.std.proofs.Common.{◌≡◌, ◌≤◌, ℕ, List, ◌++◌, length, Option, Some, None, Ok, Err, refl, sym, ap, ◌∙◌, subst, arith}
 use Rattle.std.specs.Prelude.{IfSome, Result, codes}
 use Rattle.std.specs.Io.KnownBytes.{Appends}
 use Rattle.pc_ann.specs.declared.annotation.Ann.{Ann}

@@ -1,5 +1,5 @@
 -- What stands on out at status 0.
-use Rattle.std.specs.Prelude.{ℕ, ◌≡◌, ◌∷◌, [], ◌++◌, Option, Some, None, List, IfSome, codes}
+use Rattle.std.specs.Prelude.{◌≡◌, ◌∷◌, [], ◌++◌, Option, Some, None, List, IfSome, codes}
 use Rattle.std.specs.Io.KnownBytes.{Appends}
 use Rattle.pc_core.specs.CoreData.{CoreData}
 use Rattle.pc_ann.specs.declared.annotation.Ann.{Ann}

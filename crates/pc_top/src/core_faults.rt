@@ -138,7 +138,13 @@ pub fn refuse_core(alloc: Global, name: &str, source: &Source, fault: &CheckFaul
         return Stop::Memory;
     }
     let offset = stop_offset(&source.core, fault);
-    match make_offset_line(alloc, name, source.bytes.as_slice(), offset, stop_text(fault)) {
+    match make_offset_line(
+        alloc,
+        name,
+        source.bytes.as_slice(),
+        offset,
+        stop_text(fault),
+    ) {
         Ok(line) => Stop::Refused { status: 1, line },
         Err(_) => Stop::Memory,
     }

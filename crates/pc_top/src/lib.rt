@@ -17,3 +17,6 @@ mod top;
 mod writing;
 
 pub use top::{rcap, verdict_is_one, written_derivations_are_accepted};
+
+#[cfg(test)]
+mod cases;

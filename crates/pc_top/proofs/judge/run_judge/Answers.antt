@@ -1,4 +1,4 @@
-use Rattle.std.proofs.Common.{◌⊎◌, inl, inr, refl, Ok, Err, ◌≡◌}
+use Rattle.std.proofs.Common.{◌⊎◌, inl, inr, refl, Ok}
 use Rattle.std.proofs.lemmas.Result.{err_from_is_err_and}
 use Rattle.pc_top.specs.After.After.{goes}
 use Rattle.pc_top.specs.Ends.{change}
