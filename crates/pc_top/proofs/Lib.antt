@@ -7,4 +7,5 @@ mod Lengths
 mod One
 mod Parts
 mod Places
+mod Refused
 mod Written

@@ -2,7 +2,7 @@
 use Rattle.std.specs.Prelude.{ℕ, ◌≡◌, ◌⊎◌, Option, Some, None, List, IfSome}
 use Rattle.pc_top.specs.Check.{IsCheck}
 use Rattle.pc_top.specs.Command.{Text, Asked, check, judge, command_of}
-use Rattle.pc_top.specs.FirstForm.{IsDerivable}
+use Rattle.pc_top.specs.FirstForm.{IsDerivable, IsUnderivable}
 use Rattle.pc_top.specs.Judge.{IsJudge}
 use Rattle.pc_top.specs.Lines.{usage_line}
 use Rattle.pc_top.specs.Named.{Named, file_at, FailedAt}
@@ -49,3 +49,16 @@ AcceptsOf told (Some (judge source derivation)) = IfSome (told source) IsDerivab
 -- The source that the words name has a core with a derivation, where it is told.
 abbrev pub Accepts : (Text → Option Text) → List Text → Type 0
 Accepts told words = AcceptsOf told (command_of words)
+
+abbrev pub LacksOf : (Text → Option Text) → Option Asked → Type 0
+LacksOf told None = ⊥
+LacksOf told (Some (check source)) = IfSome (told source) IsUnderivable
+LacksOf told (Some (judge source derivation)) = ⊥
+
+-- The words are those of `check`, and the source that they name has a core without a derivation, where it is told.
+abbrev pub Lacks : (Text → Option Text) → List Text → Type 0
+Lacks told words = LacksOf told (command_of words)
+
+-- So it is at status 1.
+abbrev pub RefusedIsUnderivable : Type 0
+RefusedIsUnderivable = (files : Files) (words : List Text) (v : Verdict) → IsVerdict files words v → v.status ≡ 1 → Lacks files.told words

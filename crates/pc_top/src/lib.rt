@@ -16,7 +16,9 @@ mod stop;
 mod top;
 mod writing;
 
-pub use top::{rcap, verdict_is_one, written_derivations_are_accepted};
+pub use top::{
+    rcap, refused_sources_have_no_derivation, verdict_is_one, written_derivations_are_accepted,
+};
 
 #[cfg(test)]
 mod cases;

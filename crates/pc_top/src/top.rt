@@ -1,7 +1,7 @@
 //! The top call.
 ghost use Rattle.std.specs.Prelude.{◌≡◌, ◌≤◌};
 ghost use Rattle.pc_top.specs.Answer.{Answer, IsWordsRefusal};
-ghost use Rattle.pc_top.specs.Asked.{Accepts, FailedIn, IsVerdict, files_change};
+ghost use Rattle.pc_top.specs.Asked.{Accepts, FailedIn, IsVerdict, Lacks, RefusedIsUnderivable, files_change};
 ghost use Rattle.pc_top.specs.Command.{texts};
 ghost use Rattle.pc_top.specs.Complete.{Completes};
 ghost use Rattle.pc_top.specs.Ends.{Ends, change};
@@ -49,6 +49,9 @@ pub fn rcap<F: Files, O: Sink, E: Sink>(
     // The source that is accepted has a core, and the core has a derivation.
     ensures accepted { result ≡ 0 → Accepts (F.bytes files.old) (texts words.now) }
 
+    // The source that is refused with status 1 has a core, and the core has no derivation.
+    ensures refused { result ≡ 1 → Lacks (F.bytes files.old) (texts words.now) }
+
     // At 0 the derivation of the source, or `accepted`, is on out.
     ensures writes { result ≡ 0 → Writes (F.bytes files.old) (texts words.now)
         (change (O.written out.old) (O.written out.new) (O.faults out.old) (O.faults out.new)) }
@@ -59,6 +62,7 @@ pub fn rcap<F: Files, O: Sink, E: Sink>(
         (change (O.written out.old) (O.written out.new) (O.faults out.old) (O.faults out.new))
         (change (E.written err.old) (E.written err.new) (E.faults err.old) (E.faults err.new)) result }
 {
+    refused_sources_have_no_derivation();
     let ended = run_words(alloc, words, files, out);
     finish(alloc, ended, err)
 }
@@ -118,3 +122,13 @@ pub fn verdict_is_one()
 pub fn written_derivations_are_accepted()
     ensures { WrittenIsAccepted }
 {}
+
+/// A source that is refused with status 1 has a core, and the core has no derivation.
+pub fn refused_sources_have_no_derivation()
+    ensures { RefusedIsUnderivable }
+{
+    cores_are_formed();
+    nothing_is_derivable_without_a_rule();
+    nothing_is_derivable_with_a_field_unset();
+    nothing_is_derivable_with_a_declaration_that_fails();
+}
