@@ -1,26 +1,21 @@
 -- The core of a program of the first form is formed.
-use Rattle.std.specs.Prelude.{◌≡◌, ◌≤◌, ℕ, zero, suc, ◌+◌, ◌-◌, ◌*◌, List, [], ◌∷◌, ◌++◌, map, length, Some, IsSome, slice_get, refl, nat_eq, if◌then◌else◌, codes}
-use Rattle.std.proofs.Common.{ap, sym, subst, ◌∙◌, arith}
+use Rattle.std.specs.Prelude.{◌≡◌, ℕ, zero, suc, ◌+◌, ◌-◌, ◌*◌, List, [], ◌∷◌, map, length, refl, nat_eq, if◌then◌else◌, codes}
+use Rattle.std.proofs.Common.{ap, sym, arith}
 use Rattle.std.proofs.lemmas.Option.{same_Some, none-some}
 use Rattle.pc_core.specs.declared.declarations.EntityDef.{EntityDef}
 use Rattle.pc_core.specs.declared.declarations.Method.{Method}
-use Rattle.pc_core.specs.declared.nodes.Slot.{Slot}
-use Rattle.pc_core.specs.Entities.{print_method}
 use Rattle.pc_core.specs.Lookup.{node_end}
 use Rattle.pc_core.specs.Words.{Each, Follow}
 use Rattle.pc_core.specs.Formed.{Formed}
-use Rattle.pc_core.specs.Methods.{this_slot, param_slot}
 use Rattle.pc_first.specs.FirstForm.{FormedFirst, IsFirstCore}
-use Rattle.pc_first.specs.Cores.{texts, gather, class_entity, class_create, main_entity, env_param, main_create, local_slot, entities_of, methods_of, main_slots, slots_of, nodes_of, core_of}
+use Rattle.pc_first.specs.Cores.{texts, class_entity, class_create, main_entity, env_param, main_create, entities_of, methods_of, slots_of, nodes_of, core_of}
 use Rattle.pc_first.specs.declared.program.Program.{Program}
-use Rattle.pc_first.specs.declared.program.Class.{Class}
-use Rattle.pc_first.specs.declared.program.Definition.{Definition}
-use Rattle.pc_first.proofs.Gathering.{each_cons, each_append, each_ones, follow_ones, differ_by}
-use Rattle.pc_first.proofs.Entities.{single, stream_entity, entities_fit, names_differ}
+use Rattle.pc_first.proofs.Gathering.{follow_ones, differ_by}
+use Rattle.pc_first.proofs.Entities.{entities_fit, names_differ}
 use Rattle.pc_first.proofs.Methods.{methods_fit}
 use Rattle.pc_first.proofs.Named.{InOrder, in_order}
 use Rattle.pc_first.proofs.Nodes.{nodes_fit, of_first_kinds}
-use Rattle.pc_first.proofs.Places.{class_slot, class_entity_get, main_entity_get, main_create_get, entities_length, methods_length, slots_length, nodes_length}
+use Rattle.pc_first.proofs.Places.{main_entity_get, main_create_get, entities_length, methods_length, slots_length, nodes_length}
 
 -- ---- runs
 
