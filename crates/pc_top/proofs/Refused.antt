@@ -1,5 +1,5 @@
 -- A source that is refused with status 1 has no derivation.
-use Rattle.std.proofs.Common.{◌≡◌, ◌≤◌, ℕ, List, Option, Some, None, Ok, Err, refl, sym, ◌∙◌, subst, ap, arith}
+use Rattle.std.proofs.Common.{◌≡◌, ◌≤◌, ℕ, List, Option, Some, None, Ok, Err, sym, ◌∙◌, subst, ap, arith}
 use Rattle.std.specs.Prelude.{IfSome, Result}
 use Rattle.pc_lex.specs.declared.fault.LexFault.{LexFault}
 use Rattle.pc_lex.specs.declared.fault.LexFault.TheVariants as fault
@@ -20,7 +20,7 @@ use Rattle.pc_top.specs.Ends.{Change}
 use Rattle.pc_top.specs.Faults.{fault_status}
 use Rattle.pc_top.specs.FirstForm.{IsUnderivable}
 use Rattle.pc_top.specs.Judge.{DerivationStage, JudgeStage, IsJudge, judged, text_status}
-use Rattle.pc_top.specs.Judge.Reads.{reads, refuses}
+use Rattle.pc_top.specs.Judge.Reads.{refuses}
 use Rattle.pc_top.specs.Judge.Judging.{holds, fails}
 use Rattle.pc_top.specs.Judge.IsJudge.{source_stops, source_stands}
 use Rattle.pc_top.specs.Named.{Named, Reading, whole, Gives}
