@@ -124,5 +124,36 @@ slot_named = ((local, refl, wrong_slot), slots_before)
 no_shape : spec.HasShape four_slots example.without_notes → ⊥
 no_shape h = let k : 0 ≡ 7 = h.1 in omega (arith, k)
 
+-- ---- a field that is not set
+
+one_declared : DeclOk example.one_field
+one_declared = record {
+  sendable = each (λ m x. TakesSendable x) example.one_field.methods ((λ h. each Sent example.sets_nothing.params refl), refl);
+  conform = each (λ e x. Each (λ i b. Conforms example.one_field e b) x.provides) example.one_field.entities (none _, refl);
+}
+
+one_written : KeepsWritten example.one_field example.nothing_set
+one_written = each (λ k y. spec.KeepsType example.nothing_set k y) example.one_field.slots ((λ ty e. e), refl)
+
+one_rules : (n : ℕ) → n < 2 → MeetsRule example.one_field example.nothing_set n
+one_rules zero l = (_, _, refl, refl, refl)
+one_rules (suc zero) l = (_, _, refl, refl, refl)
+one_rules (suc (suc n)) l = absurd (omega (arith, l))
+
+no_body : (n : ℕ) → n < 2 → spec.SetsBehind example.one_field example.nothing_set n
+no_body n l zero x e body = let at : 2 ≡ n = same_Some 2 n (ap (λ (y : Method). y.body) (same_Some _ x e) ∙ body) in absurd (omega (arith, at, l))
+no_body n l (suc m) x e body = absurd (none-some x e)
+
+unset_named : spec.LeavesUnset example.one_field example.nothing_set 0
+unset_named = (
+  example.sets_nothing,
+  2,
+  refl,
+  refl,
+  record { declarations = one_declared; shape = (refl, refl); written = one_written; rules = one_rules; sets = no_body },
+  (_, _, refl, refl, refl),
+  λ s. not_same (sym (s refl 2 (noted rule.Body None 1 1) refl refl)),
+)
+
 pub faults_named : example.FaultsNamed
-faults_named = (node_named, (declared, (refl, refl), slot_named), (declared, no_shape))
+faults_named = (node_named, (declared, (refl, refl), slot_named), (declared, no_shape), unset_named)

@@ -13,6 +13,7 @@ use Rattle.pc_rules.specs.Valid.{Valid, KeepsWritten, SetsFields}
 use Rattle.pc_judge.specs.declared.faults.JudgeFault.{JudgeFault}
 use Rattle.pc_judge.specs.declared.faults.JudgeFault.TheVariants as fault
 
+-- What may be wrong, as the code has it.
 abbrev pub Fault : Type 0
 Fault = JudgeFault
 

@@ -8,7 +8,7 @@ mod laws;
 mod nodes;
 mod slots;
 
-pub use examples::faults_of_a_small_program;
+pub use examples::faults_of_small_derivations;
 pub use faults::JudgeFault;
 pub use judging::judge;
 pub use laws::{faulted_is_not_valid, one_fault_is_first};
