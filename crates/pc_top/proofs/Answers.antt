@@ -1,5 +1,5 @@
 -- From how a command ended to the program's answer.
-use Rattle.std.proofs.Common.{◌≡◌, ℕ, List, [], Option, Some, None, refl, inl, inr, Ok, Err, length, sym, ◌∙◌}
+use Rattle.std.proofs.Common.{◌≡◌, ℕ, List, [], Option, Some, None, refl, inl, inr, Ok, Err, length, sym, subst, ◌∙◌}
 use Rattle.std.specs.Prelude.{Result}
 use Rattle.std.proofs.Math.Seq.{take-length}
 use Rattle.std.specs.Io.KnownBytes.{Appends, Keeps}
@@ -32,6 +32,11 @@ words_stop files asked out f g Memory e h = inl (kept out)
 pub words_refused : (files : Files) (words : List Text) (out : Option Text) (f g : ℕ) (s : Stop) → None ≡ command_of words → IsWordsRefusal s
     → Stops (IsVerdict files words) (FailedIn files words) (change out out f g) s
 words_refused files words out f g s e h = words_stop files (command_of words) out f g s (sym e) h
+
+-- a command ends as its words ask for
+pub words_end : (files : Files) (words : List Text) (asked : Asked) (out : Change) (result : Result (Unit {0}) Stop) → Some asked ≡ command_of words
+    → Ends (IsVerdictOf files (Some asked)) (FailedOf files (Some asked)) out result → Ends (IsVerdict files words) (FailedIn files words) out result
+words_end files words asked out result e h = subst (λ (o : Option Asked). Ends (IsVerdictOf files o) (FailedOf files o) out result) e h
 
 module _ (V : Verdict → Type 0) (Failed : Text → Type 0) (out err : Change) (status : ℕ) where
   refusal : (wanted : ℕ) (line : Text) → Tells V out wanted line → LineEnds err status wanted line → Answer V Failed out err status

@@ -1,26 +1,23 @@
 -- What calls tell of what they are shown.
-use Rattle.std.proofs.Common.{◌≡◌, Bool, true, false, List, Option, Some, None, Ok, Err, refl, sym, ◌∙◌, subst}
-use Rattle.std.specs.Prelude.{Result}
-use Rattle.std.specs.Bool.{Decides}
-use Rattle.std.proofs.lemmas.Bool.{true≢false}
+use Rattle.std.proofs.Common.{◌≡◌, List, Option, Some, None, Ok, Err, refl, subst}
+use Rattle.pc_core.specs.CoreData.{CoreData}
 use Rattle.pc_token.specs.declared.kinds.Token.{Token}
 use Rattle.pc_lex.specs.Answers.{Refuses}
 use Rattle.pc_lex.specs.Pieces.{FirstFault}
 use Rattle.pc_lex.specs.declared.fault.LexFault.{LexFault}
 use Rattle.pc_lex.specs.declared.fault.LexFault.TheVariants as fault
+use Rattle.pc_first.specs.FirstForm.{Spell, IsRecognised}
+use Rattle.pc_first.specs.declared.program.Program.{Program}
 use Rattle.pc_top.specs.After.After.{stops, goes}
 use Rattle.pc_top.specs.Command.{Text}
 use Rattle.pc_top.specs.Faults.{IsFaultRefusal}
-use Rattle.pc_top.specs.FirstForm.{Spell, IsRecognised}
-use Rattle.pc_top.specs.Meaning.{AllHold}
 use Rattle.pc_top.specs.Named.{Named, whole, Gives}
-use Rattle.pc_top.specs.Source.{Lexing, TextStage, SourceStage, source_limit}
+use Rattle.pc_top.specs.Source.{Lexing, CoreStage, SourceStage, source_limit}
 use Rattle.pc_top.specs.Source.Length.{fits}
 use Rattle.pc_top.specs.Source.Lexing.{faulty}
-use Rattle.pc_top.specs.Stages.{StageStops, StageEnds, PartEnds}
+use Rattle.pc_top.specs.Source.TextStage.{has_core, has_none}
+use Rattle.pc_top.specs.Stages.{StageStops, PartStops, PartGives}
 use Rattle.pc_top.specs.Verdict.{refused}
-use Rattle.pc_top.specs.declared.first_form.program.Definition.{Definition}
-use Rattle.pc_top.specs.declared.first_form.program.Program.{Program}
 use Rattle.pc_top.specs.declared.stop.Stop.{Stop}
 use Rattle.pc_top.specs.declared.stop.Stop.TheVariants.{Refused, File, Sink, Memory}
 
@@ -32,12 +29,6 @@ spells_this shown ts read p same is r = recognised_of shown ts read (Some p) sam
 
 pub spells_none : (shown ts : List Token) (read : Option Program) → shown ≡ ts → read ≡ None → IsRecognised shown read → (p : Program) → Spell ts p → ⊥
 spells_none shown ts read same is r = recognised_of shown ts read None same is r
-
-pub all_so : (shown ds : List Definition) (b : Bool) → shown ≡ ds → Decides b (AllHold shown) → b ≡ true → AllHold ds
-all_so shown ds b same d is = subst AllHold same (d.0 is)
-
-pub not_all : (shown ds : List Definition) (b : Bool) → shown ≡ ds → Decides b (AllHold shown) → b ≡ false → AllHold ds → ⊥
-not_all shown ds b same d is h = true≢false (sym (d.1 (subst AllHold (sym same) h)) ∙ is)
 
 -- a fault that is not want of memory is the text's
 told_fault : (bytes : Text) (f : LexFault) → (f ≡ fault.Memory → ⊥) → Refuses bytes f → FirstFault bytes f
@@ -54,16 +45,21 @@ fault_stops name bytes f (File n) r h = h
 fault_stops name bytes f Sink r h = h
 fault_stops name bytes f Memory r h = tt
 
-pub tokens_stop : (name bytes : Text) (s : Stop) → StageStops (Lexing name bytes) s → StageStops (TextStage name bytes) s
+pub tokens_stop : (name bytes : Text) (s : Stop) → StageStops (Lexing name bytes) s → StageStops (CoreStage name bytes) s
 tokens_stop name bytes (Refused status line) h = stops h
 tokens_stop name bytes (File n) h = h
 tokens_stop name bytes Sink h = h
 tokens_stop name bytes Memory h = tt
 
-pub text_part : (file : Named) (bytes shown : Text) (result : Result Program Stop) → Gives file source_limit (whole bytes) → shown ≡ bytes
-    → StageEnds (TextStage file.name shown) result → PartEnds source_limit (SourceStage file.name) file result
-text_part file bytes shown (Ok p) g same e = (whole bytes, g, goes fits (subst (λ (b : Text). TextStage file.name b (Ok p)) same e))
-text_part file bytes shown (Err (Refused status line)) g same e = (whole bytes, g, goes fits (subst (λ (b : Text). TextStage file.name b (Err (refused status line))) same e))
-text_part file bytes shown (Err (File n)) g same e = absurd e
-text_part file bytes shown (Err Sink) g same e = absurd e
-text_part file bytes shown (Err Memory) g same e = tt
+-- The stages behind the length of a source that was read whole.
+pub core_given : (file : Named) (bytes shown : Text) (core : CoreData) → Gives file source_limit (whole bytes) → shown ≡ bytes
+    → CoreStage file.name shown (Ok core) → PartGives source_limit (SourceStage file.name) file (record { bytes = bytes; core = core })
+core_given file bytes shown core g same h = (whole bytes, g, goes fits (has_core (subst (λ (b : Text). CoreStage file.name b (Ok core)) same h)))
+
+pub core_stopped : (file : Named) (bytes shown : Text) (s : Stop) → Gives file source_limit (whole bytes) → shown ≡ bytes
+    → StageStops (CoreStage file.name shown) s → PartStops source_limit (SourceStage file.name) file s
+core_stopped file bytes shown (Refused status line) g same h =
+    (whole bytes, g, goes fits (has_none (subst (λ (b : Text). CoreStage file.name b (Err (refused status line))) same h)))
+core_stopped file bytes shown (File n) g same h = absurd h
+core_stopped file bytes shown Sink g same h = absurd h
+core_stopped file bytes shown Memory g same h = tt

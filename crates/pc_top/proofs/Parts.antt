@@ -1,13 +1,13 @@
 -- From what the parts of a command answer to how the command ends, whatever the command.
-use Rattle.std.proofs.Common.{ℕ, [], Option, Some, None, refl, inl, Ok, Err, append-nil, sym}
+use Rattle.std.proofs.Common.{◌≡◌, ◌≤◌, ◌<◌, ℕ, [], Option, Some, None, refl, inl, Ok, Err, append-nil, sym, arith}
 use Rattle.std.specs.Prelude.{Result}
 use Rattle.std.specs.Io.KnownBytes.{Appends, Keeps}
 use Rattle.pc_top.specs.Command.{Text}
 use Rattle.pc_top.specs.Lines.{longer_line}
 use Rattle.pc_top.specs.Ends.{Ends, Stops, Change, change}
 use Rattle.pc_top.specs.Reading.{NotRead}
-use Rattle.pc_top.specs.Stages.{PartStops, Wrote}
-use Rattle.pc_top.specs.Named.{Reading, longer, Named, Gives, FailedAt}
+use Rattle.pc_top.specs.Stages.{PartStops, PartGives, Wrote}
+use Rattle.pc_top.specs.Named.{Reading, whole, longer, Named, Gives, IsReading, FailedAt}
 use Rattle.pc_top.specs.Verdict.{Verdict, refused, done}
 use Rattle.pc_top.specs.declared.stop.Stop.{Stop}
 use Rattle.pc_top.specs.declared.stop.Stop.TheVariants.{Refused, File, Sink, Memory}
@@ -47,3 +47,28 @@ module _ {T : Type 0} (limit : ℕ) (Stage : Reading → Result T Verdict → Ty
   part_stops V Failed file told f g (File name) v n h = (n name h, kept told)
   part_stops V Failed file told f g Sink v n h = absurd h
   part_stops V Failed file told f g Memory v n h = inl (kept told)
+
+  -- Later faults do not matter to a part that gave a value, since it read its file whole.
+  pub gives_later : (file : Named) (now taken : ℕ) (x : T) → (Stage longer (Ok x) → ⊥) → PartGives limit Stage file x
+      → PartGives limit Stage (record file { now = now; taken = taken }) x
+  gives_later file now taken x never (whole bytes, g, s) = (whole bytes, g, s)
+  gives_later file now taken x never (longer, g, s) = absurd (never s)
+
+  -- what was said from a moment within the call, said from its start
+  reading_from_start : (told later : Option Text) (before mid now taken : ℕ) (r : Reading) → later ≡ told → before ≤ mid → mid ≤ now
+      → IsReading limit later mid now taken r → IsReading limit told before now taken r
+  reading_from_start told later before mid now taken (whole bytes) e a b g = (g.0, rw (← e) g.1)
+  reading_from_start told later before mid now taken longer e a b g = (g.0, λ same. rw (← e) (g.1 (omega arith)))
+
+  pub gives_from_start : (file : Named) (later : Option Text) (mid : ℕ) (x : T) → later ≡ file.told → file.before ≤ mid → mid ≤ file.now
+      → PartGives limit Stage (record file { told = later; before = mid }) x → PartGives limit Stage file x
+  gives_from_start file later mid x e a b h =
+      (h.0, reading_from_start file.told later file.before mid file.now file.taken h.0 e a b h.1, h.2)
+
+  pub stops_from_start : (file : Named) (later : Option Text) (mid : ℕ) (s : Stop) → later ≡ file.told → file.before ≤ mid → mid ≤ file.now
+      → PartStops limit Stage (record file { told = later; before = mid }) s → PartStops limit Stage file s
+  stops_from_start file later mid (Refused status line) e a b h =
+      (h.0, reading_from_start file.told later file.before mid file.now file.taken h.0 e a b h.1, h.2)
+  stops_from_start file later mid (File name) e a b h = (h.0, let rose : mid < file.now = h.1 in omega arith)
+  stops_from_start file later mid Sink e a b h = h
+  stops_from_start file later mid Memory e a b h = tt

@@ -20,3 +20,23 @@ not_built_line name = name ++ (codes ": form not built" ++ line_end)
 -- A place in a file, by its line and column, and what is wrong there.
 abbrev pub place_line : Text → ℕ → ℕ → Text → Text
 place_line name line column what = name ++ (codes ":" ++ (decimal line ++ (codes ":" ++ (decimal column ++ (codes ": " ++ (what ++ line_end))))))
+
+-- What is wrong with a derivation: a line that is not of its form, too many of them, other counts than the source's, a slot,
+-- a node, and a constructor that leaves a field unset.
+abbrev pub bad_line : Text → ℕ → Text
+bad_line name n = name ++ (codes ":" ++ (decimal n ++ (codes ": bad line" ++ line_end)))
+
+abbrev pub many_line : Text → Text
+many_line name = name ++ (codes ": too many lines" ++ line_end)
+
+abbrev pub shape_line : Text → Text
+shape_line name = name ++ (codes ": shape" ++ line_end)
+
+abbrev pub slot_line : Text → ℕ → Text
+slot_line name n = name ++ (codes ": slot " ++ (decimal n ++ line_end))
+
+abbrev pub node_line : Text → ℕ → Text
+node_line name n = name ++ (codes ": node " ++ (decimal n ++ line_end))
+
+abbrev pub unset_line : Text → ℕ → Text
+unset_line name n = name ++ (codes ": unset in method " ++ (decimal n ++ line_end))

@@ -10,6 +10,13 @@ pub enum Command<'a> {
         /// The name of the source.
         source: &'a str,
     },
+    /// `judge SRC DERIV`
+    Judge {
+        /// The name of the source.
+        source: &'a str,
+        /// The name of the derivation.
+        derivation: &'a str,
+    },
 }
 
 /// The command of the words. `None` exactly where they are no command's.
@@ -18,6 +25,9 @@ pub fn read_words<'a>(words: &[&'a str]) -> Option<Command<'a>>
 {
     match words {
         [name, source] if *name == "check" => Some(Command::Check { source }),
+        [name, source, derivation] if *name == "judge" => {
+            Some(Command::Judge { source, derivation })
+        }
         _ => None,
     }
 }

@@ -1,6 +1,6 @@
 //! The lines on err.
 ghost use Rattle.std.specs.Prelude.{◌≡◌, IfOk};
-ghost use Rattle.pc_top.specs.Lines.{longer_line, not_built_line, place_line, unread_line, usage_line};
+ghost use Rattle.pc_top.specs.Lines.{bad_line, longer_line, many_line, node_line, not_built_line, place_line, shape_line, slot_line, unread_line, unset_line, usage_line};
 
 use crate::place::Place;
 use pc_io::Bytes;
@@ -49,5 +49,53 @@ pub fn make_place_line(
 {
     let Place { line, column } = place;
     let text = format!(in alloc; "{name}:{line}:{column}: {what}\n")?;
+    Bytes::copy_of(alloc, text.as_bytes())
+}
+
+/// `NAME:N: bad line`, with a line end.
+pub fn make_bad_line(alloc: Global, name: &str, number: u32) -> Result<Bytes, AllocError>
+    ensures { IfOk result (λ line. line ≡ bad_line name.now number) }
+{
+    let text = format!(in alloc; "{name}:{number}: bad line\n")?;
+    Bytes::copy_of(alloc, text.as_bytes())
+}
+
+/// `NAME: too many lines`, with a line end.
+pub fn make_many_line(alloc: Global, name: &str) -> Result<Bytes, AllocError>
+    ensures { IfOk result (λ line. line ≡ many_line name.now) }
+{
+    let text = format!(in alloc; "{name}: too many lines\n")?;
+    Bytes::copy_of(alloc, text.as_bytes())
+}
+
+/// `NAME: shape`, with a line end.
+pub fn make_shape_line(alloc: Global, name: &str) -> Result<Bytes, AllocError>
+    ensures { IfOk result (λ line. line ≡ shape_line name.now) }
+{
+    let text = format!(in alloc; "{name}: shape\n")?;
+    Bytes::copy_of(alloc, text.as_bytes())
+}
+
+/// `NAME: slot N`, with a line end.
+pub fn make_slot_line(alloc: Global, name: &str, number: u32) -> Result<Bytes, AllocError>
+    ensures { IfOk result (λ line. line ≡ slot_line name.now number) }
+{
+    let text = format!(in alloc; "{name}: slot {number}\n")?;
+    Bytes::copy_of(alloc, text.as_bytes())
+}
+
+/// `NAME: node N`, with a line end.
+pub fn make_node_line(alloc: Global, name: &str, number: u32) -> Result<Bytes, AllocError>
+    ensures { IfOk result (λ line. line ≡ node_line name.now number) }
+{
+    let text = format!(in alloc; "{name}: node {number}\n")?;
+    Bytes::copy_of(alloc, text.as_bytes())
+}
+
+/// `NAME: unset in method N`, with a line end.
+pub fn make_unset_line(alloc: Global, name: &str, number: u32) -> Result<Bytes, AllocError>
+    ensures { IfOk result (λ line. line ≡ unset_line name.now number) }
+{
+    let text = format!(in alloc; "{name}: unset in method {number}\n")?;
     Bytes::copy_of(alloc, text.as_bytes())
 }

@@ -1,17 +1,19 @@
-//! The source's stages, which every command goes through first: its length, its tokens, and the form that is built.
+//! The source's stages, which every command goes through first: its length, its tokens, and its core, by the form that is
+//! built.
 ghost use Rattle.std.specs.Prelude.{◌≡◌, ◌≤◌, ℕ, List as Sequence, length};
 ghost use Rattle.pc_lex.specs.Limits.{text_limit};
 ghost use Rattle.pc_top.specs.Named.{file_at};
-ghost use Rattle.pc_top.specs.Source.{Lexing, SourceStage, TextStage, source_limit};
+ghost use Rattle.pc_top.specs.Source.{CoreStage, Lexing, SourceStage, source_limit};
 ghost use Rattle.pc_top.specs.Stages.{PartEnds, StageEnds};
 
 use crate::faults::refuse_fault;
-use crate::first_form::{Program, recognise};
 use crate::lines::make_not_built_line;
 use crate::reading::read_file;
 use crate::stop::Stop;
 use pc_caps::List;
-use pc_io::Files;
+use pc_core::Core;
+use pc_first::{build_core, recognise};
+use pc_io::{Bytes, Files};
 use pc_lex::lex;
 use pc_token::Token;
 use std::alloc::Global;
@@ -19,24 +21,33 @@ use std::alloc::Global;
 /// How many bytes a source may have.
 const SOURCE_LIMIT: u32 = 1_048_576;
 
-/// Reads the source of this name and goes through its stages, to the program that it says.
-pub fn read_source<F: Files>(alloc: Global, files: &mut F, name: &str) -> Result<Program, Stop>
+/// A source that all stages let pass.
+#[derive(Debug, Drop)]
+pub struct Source {
+    /// Its bytes, in which refusals name places.
+    pub bytes: Bytes,
+    pub core: Core,
+}
+
+/// Reads the source of this name and goes through its stages.
+pub fn read_source<F: Files>(alloc: Global, files: &mut F, name: &str) -> Result<Source, Stop>
     ensures later { (n : Sequence ℕ) → F.faults files.old n ≤ F.faults files.new n }
     ensures same { (n : Sequence ℕ) → F.bytes files.new n ≡ F.bytes files.old n }
     ensures stage { PartEnds source_limit (SourceStage name.now) (file_at (F.bytes files.old) (F.faults files.old) (F.faults files.new) (F.taken files.new) name.now) result }
 {
     let bytes = read_file(alloc, files, name, SOURCE_LIMIT)?;
-    read_text(alloc, name, bytes.as_slice())
+    let core = read_core(alloc, name, bytes.as_slice())?;
+    Ok(Source { bytes, core })
 }
 
 // Goes through the stages behind its length.
-fn read_text(alloc: Global, name: &str, bytes: &[u8]) -> Result<Program, Stop>
+fn read_core(alloc: Global, name: &str, bytes: &[u8]) -> Result<Core, Stop>
     requires { length bytes.now ≤ text_limit }
-    ensures { StageEnds (TextStage name.now bytes.now) result }
+    ensures { StageEnds (CoreStage name.now bytes.now) result }
 {
     let tokens = read_tokens(alloc, name, bytes)?;
     match recognise(alloc, tokens.as_slice())? {
-        Some(program) => Ok(program),
+        Some(program) => Ok(build_core(alloc, &program)?),
         None => Err(Stop::Refused {
             status: 14,
             line: make_not_built_line(alloc, name)?,

@@ -1,19 +1,30 @@
 //! The top call.
 ghost use Rattle.std.specs.Prelude.{◌≡◌, ◌≤◌};
 ghost use Rattle.pc_top.specs.Answer.{Answer, IsWordsRefusal};
-ghost use Rattle.pc_top.specs.Asked.{Accepts, FailedIn, IsVerdict, files_change};
+ghost use Rattle.pc_top.specs.Asked.{Accepts, FailedIn, IsVerdict, Lacks, RefusedIsUnderivable, files_change};
 ghost use Rattle.pc_top.specs.Command.{texts};
 ghost use Rattle.pc_top.specs.Complete.{Completes};
 ghost use Rattle.pc_top.specs.Ends.{Ends, change};
 ghost use Rattle.pc_top.specs.One.{VerdictIsOne};
+ghost use Rattle.pc_top.specs.Writes.{Writes, WrittenIsAccepted};
 
 use crate::check::run_check;
 use crate::command::{Command, read_words};
 use crate::finish::finish;
+use crate::judge::run_judge;
 use crate::lines::make_usage_line;
 use crate::stop::Stop;
+use pc_check::{
+    nothing_is_derivable_with_a_declaration_that_fails, nothing_is_derivable_with_a_field_unset,
+    nothing_is_derivable_without_a_rule,
+};
+use pc_deriv::annotations_are_one;
+use pc_first::{cores_are_formed, programs_are_one};
 use pc_io::{Files, Sink};
+use pc_judge::{faulted_is_not_valid, one_fault_is_first};
 use pc_lex::{faults_are_told, tokens_are_one};
+use pc_rules::one_annotation_is_valid;
+use pc_sub::no_fault_where_declarations_fit;
 use std::alloc::Global;
 
 /// Does what the words after the program's name ask for, and answers the exit status.
@@ -35,8 +46,15 @@ pub fn rcap<F: Files, O: Sink, E: Sink>(
         (change (O.written out.old) (O.written out.new) (O.faults out.old) (O.faults out.new))
         (change (E.written err.old) (E.written err.new) (E.faults err.old) (E.faults err.new)) result }
 
-    // What is accepted has the first form, and every definition of it holds.
+    // The source that is accepted has a core, and the core has a derivation.
     ensures accepted { result ≡ 0 → Accepts (F.bytes files.old) (texts words.now) }
+
+    // The source that is refused with status 1 has a core, and the core has no derivation.
+    ensures refused { result ≡ 1 → Lacks (F.bytes files.old) (texts words.now) }
+
+    // At 0 the derivation of the source, or `accepted`, is on out.
+    ensures writes { result ≡ 0 → Writes (F.bytes files.old) (texts words.now)
+        (change (O.written out.old) (O.written out.new) (O.faults out.old) (O.faults out.new)) }
 
     // Where no file of the command and no sink failed, the answer is the verdict or want of memory.
     ensures completes { let files = files_change (F.bytes files.old) (F.faults files.old) (F.faults files.new) (F.taken files.new) in
@@ -44,6 +62,7 @@ pub fn rcap<F: Files, O: Sink, E: Sink>(
         (change (O.written out.old) (O.written out.new) (O.faults out.old) (O.faults out.new))
         (change (E.written err.old) (E.written err.new) (E.faults err.old) (E.faults err.new)) result }
 {
+    refused_sources_have_no_derivation();
     let ended = run_words(alloc, words, files, out);
     finish(alloc, ended, err)
 }
@@ -63,6 +82,9 @@ fn run_words<F: Files, O: Sink>(
     match read_words(words) {
         None => Err(refuse_words(alloc)),
         Some(Command::Check { source }) => run_check(alloc, files, out, source),
+        Some(Command::Judge { source, derivation }) => {
+            run_judge(alloc, files, out, source, derivation)
+        }
     }
 }
 
@@ -82,4 +104,31 @@ pub fn verdict_is_one()
 {
     tokens_are_one();
     faults_are_told();
+    programs_are_one();
+    cores_are_formed();
+    no_fault_where_declarations_fit();
+    one_annotation_is_valid();
+    nothing_is_derivable_without_a_rule();
+    nothing_is_derivable_with_a_field_unset();
+    nothing_is_derivable_with_a_declaration_that_fails();
+    pc_check::faults_are_one();
+    annotations_are_one();
+    pc_deriv::faults_are_one();
+    one_fault_is_first();
+    faulted_is_not_valid();
+}
+
+/// What `check` writes for a source, `judge` accepts for the same source.
+pub fn written_derivations_are_accepted()
+    ensures { WrittenIsAccepted }
+{}
+
+/// A source that is refused with status 1 has a core, and the core has no derivation.
+pub fn refused_sources_have_no_derivation()
+    ensures { RefusedIsUnderivable }
+{
+    cores_are_formed();
+    nothing_is_derivable_without_a_rule();
+    nothing_is_derivable_with_a_field_unset();
+    nothing_is_derivable_with_a_declaration_that_fails();
 }

@@ -3,7 +3,7 @@ use Rattle.pc_top.specs.After.After.{stops}
 use Rattle.pc_top.specs.Named.{file_at}
 use Rattle.pc_top.specs.Source.{SourceStage, source_limit}
 use Rattle.pc_top.specs.Source.Length.{is_longer}
-use Rattle.pc_top.proofs.Facts.{text_part}
+use Rattle.pc_top.proofs.Facts.{core_given, core_stopped}
 use Rattle.pc_top.proofs.Parts.{not_read}
 use Rattle.pc_top.proofs.source.read_source.Goals as goal
 
@@ -13,7 +13,13 @@ returns-in_err-bytes-clause-stage g c =
     let file = file_at (g.F.Files.bytes c.args.files.now) (g.F.Files.faults c.args.files.now) (g.F.Files.faults c.read_file.new.files) (g.F.Files.taken c.read_file.new.files) c.args.name.now in
     rw (p.1, p.2) (not_read source_limit (SourceStage c.args.name.now) file _ (stops is_longer) c.in_err-bytes.ensures.reads)
 
+pub returns-in_err-core-clause-stage : goal.returns-in_err-core-clause-stage
+returns-in_err-core-clause-stage g c =
+    let p = err_from_is_err_and c.from_residual-in_err-core.result c.from_residual-in_err-core.ensures.1 in
+    let file = file_at (g.F.Files.bytes c.args.files.now) (g.F.Files.faults c.args.files.now) (g.F.Files.faults c.read_file.new.files) (g.F.Files.taken c.read_file.new.files) c.args.name.now in
+    rw (p.1, p.2) (core_stopped file c.in_ok-bytes.bytes c.as_slice.result.now _ c.in_ok-bytes.ensures.reads c.as_slice.ensures c.in_err-core.ensures)
+
 pub returns-clause-stage : goal.returns-clause-stage
 returns-clause-stage g c =
     let file = file_at (g.F.Files.bytes c.args.files.now) (g.F.Files.faults c.args.files.now) (g.F.Files.faults c.read_file.new.files) (g.F.Files.taken c.read_file.new.files) c.args.name.now in
-    text_part file c.in_ok-bytes.bytes c.as_slice.result.now c.read_text.result c.in_ok-bytes.ensures.reads c.as_slice.ensures c.read_text.ensures
+    core_given file c.in_ok-bytes.bytes c.as_slice.result.now c.in_ok-core.core c.in_ok-bytes.ensures.reads c.as_slice.ensures c.in_ok-core.ensures

@@ -3,6 +3,8 @@ use Rattle.pc_top.specs.Command.{texts}
 use Rattle.pc_top.specs.Ends.{change}
 use Rattle.pc_top.proofs.Accepted.{answer_accepts}
 use Rattle.pc_top.proofs.Answers.{answer_of, completes}
+use Rattle.pc_top.proofs.Refused.{answer_refuses}
+use Rattle.pc_top.proofs.Written.{answer_writes}
 use Rattle.pc_top.proofs.top.rcap.Goals as goal
 
 pub returns-clause-answers : goal.returns-clause-answers
@@ -23,3 +25,15 @@ returns-clause-completes g c =
     let files = files_change (g.F.Files.bytes c.args.files.now) (g.F.Files.faults c.args.files.now) (g.F.Files.faults c.run_words-ended.new.files) (g.F.Files.taken c.run_words-ended.new.files) in
     let words = texts c.args.words.now in
     completes (IsVerdict files words) (FailedIn files words) _ _ _ (returns-clause-answers g c)
+
+pub returns-clause-writes : goal.returns-clause-writes
+returns-clause-writes g c =
+    let files = files_change (g.F.Files.bytes c.args.files.now) (g.F.Files.faults c.args.files.now) (g.F.Files.faults c.run_words-ended.new.files) (g.F.Files.taken c.run_words-ended.new.files) in
+    let out = change (g.O.Sink.written c.args.out.now) (g.O.Sink.written c.run_words-ended.new.out) (g.O.Sink.faults c.args.out.now) (g.O.Sink.faults c.run_words-ended.new.out) in
+    let err = change (g.E.Sink.written c.args.err.now) (g.E.Sink.written c.finish.new.err) (g.E.Sink.faults c.args.err.now) (g.E.Sink.faults c.finish.new.err) in
+    answer_writes files (texts c.args.words.now) out err _ (returns-clause-answers g c)
+
+pub returns-clause-refused : goal.returns-clause-refused
+returns-clause-refused g c =
+    let files = files_change (g.F.Files.bytes c.args.files.now) (g.F.Files.faults c.args.files.now) (g.F.Files.faults c.run_words-ended.new.files) (g.F.Files.taken c.run_words-ended.new.files) in
+    answer_refuses c.refused_sources_have_no_derivation.ensures files (texts c.args.words.now) _ _ _ (returns-clause-answers g c)

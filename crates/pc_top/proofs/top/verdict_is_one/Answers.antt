@@ -2,4 +2,24 @@ use Rattle.pc_top.proofs.One.{verdict_one}
 use Rattle.pc_top.proofs.top.verdict_is_one.Goals as goal
 
 pub returns : goal.returns
-returns c = verdict_one c.tokens_are_one.ensures c.faults_are_told.ensures.not_both c.faults_are_told.ensures.one
+returns c =
+    verdict_one (record {
+      list = c.tokens_are_one.ensures;
+      both = c.faults_are_told.ensures.not_both;
+      fault = c.faults_are_told.ensures.one;
+      spelled = c.programs_are_one.ensures;
+      formed = c.cores_are_formed.ensures;
+      fits = c.no_fault_where_declarations_fit.ensures;
+      valid = c.one_annotation_is_valid.ensures;
+      ruleless = c.nothing_is_derivable_without_a_rule.ensures;
+      setless = c.nothing_is_derivable_with_a_field_unset.ensures;
+      node = c.faults_are_one.ensures.node;
+      constructor = c.faults_are_one.ensures.constructor;
+      kind = c.faults_are_one.ensures.kind;
+      failing = c.nothing_is_derivable_with_a_declaration_that_fails.ensures;
+      annotation = c.annotations_are_one.ensures;
+      text_fault = c.faults_are_one-2.ensures.one;
+      apart = c.faults_are_one-2.ensures.apart;
+      first = c.one_fault_is_first.ensures;
+      not_valid = c.faulted_is_not_valid.ensures;
+    })

@@ -1,0 +1,15 @@
+mod Classes
+mod Definitions
+mod Entities
+mod Formation
+mod Gathering
+mod Locals
+mod Methods
+mod Named
+mod Names
+mod Nodes
+mod Places
+mod Spans
+mod Spelled
+mod Spelling
+mod Standing

@@ -1,0 +1,75 @@
+-- `judge SRC DERIV`.
+use Rattle.std.specs.Prelude.{ℕ, ◌≡◌, ◌++◌, Result, Ok, Err, codes}
+use Rattle.pc_ann.specs.declared.annotation.Ann.{Ann}
+use Rattle.pc_rules.specs.Valid.{Valid}
+use Rattle.pc_deriv.specs.Faults.{IsText, IsFault}
+use Rattle.pc_deriv.specs.declared.fault.DerivFault.{DerivFault}
+use Rattle.pc_deriv.specs.declared.fault.DerivFault.TheVariants as deriv
+use Rattle.pc_judge.specs.Faults.{FirstFault}
+use Rattle.pc_judge.specs.declared.faults.JudgeFault.{JudgeFault}
+use Rattle.pc_judge.specs.declared.faults.JudgeFault.TheVariants as fault
+use Rattle.pc_top.specs.After.{After}
+use Rattle.pc_top.specs.Command.{Text}
+use Rattle.pc_top.specs.CoreFaults.{offset_line, decl_offset, decl_text}
+use Rattle.pc_top.specs.Lines.{line_end, bad_line, many_line, shape_line, slot_line, node_line, unset_line}
+use Rattle.pc_top.specs.Named.{Named, Reading, Gives}
+use Rattle.pc_top.specs.Source.{Length, SourceStage, source_limit}
+use Rattle.pc_top.specs.Verdict.{Verdict, refused, done}
+use Rattle.pc_top.specs.declared.source.Source.{Source}
+use Rattle.pc_top.specs.declared.stop.Stop.{Stop}
+use Rattle.pc_top.specs.declared.stop.Stop.TheVariants as stop
+
+-- how many bytes a derivation may have
+abbrev pub derivation_limit : ℕ
+derivation_limit = 33554432
+
+-- The text of the derivation: 5 at the first line that is not of its form, and 8 where its first line asks for too many.
+abbrev pub text_status : DerivFault → ℕ
+text_status deriv.TooMany = 8
+text_status f = 5
+
+abbrev pub text_line : Text → DerivFault → Text
+text_line name (deriv.BadLine n) = bad_line name n
+text_line name f = many_line name
+
+pub data Reads (name bytes : Text) : Result Ann Verdict → Type 0 where
+  reads : {ann : Ann} → IsText bytes ann → Reads name bytes (Ok ann)
+  refuses : (f : DerivFault) → IsFault bytes f → Reads name bytes (Err (refused (text_status f) (text_line name f)))
+
+-- The refusal of bytes that are no derivation's text, or want of memory.
+abbrev pub IsTextRefusal : Text → DerivFault → Stop → Type 0
+IsTextRefusal name f (stop.Refused status line) = (f ≡ deriv.Memory → ⊥) × (status ≡ text_status f) × (line ≡ text_line name f)
+IsTextRefusal name f (stop.File n) = ⊥
+IsTextRefusal name f stop.Sink = ⊥
+IsTextRefusal name f stop.Memory = Unit {0}
+
+-- The stages of the derivation: the annotation of its text.
+abbrev pub DerivationStage : Text → Reading → Result Ann Verdict → Type 0
+DerivationStage name reading = After (Length derivation_limit name reading) (Reads name)
+
+-- The annotation: 6 at its first fault. That of a declaration is named in the source.
+abbrev pub judge_line : Text → Text → Source → JudgeFault → Text
+judge_line source_name name source (fault.Decl f) = offset_line source_name source.bytes (decl_offset source.core f) (decl_text f)
+judge_line source_name name source fault.Shape = shape_line name
+judge_line source_name name source (fault.Slot n) = slot_line name n
+judge_line source_name name source (fault.Node n) = node_line name n
+judge_line source_name name source (fault.Unset m) = unset_line name m
+
+pub data Judging (source_name name : Text) (source : Source) (ann : Ann) : Result (Unit {0}) Verdict → Type 0 where
+  holds : Valid source.core ann → Judging source_name name source ann (Ok tt)
+  fails : (f : JudgeFault) → FirstFault source.core ann f → Judging source_name name source ann (Err (refused 6 (judge_line source_name name source f)))
+
+-- The stages of the derivation, and then those of its annotation.
+abbrev pub JudgeStage : Text → Text → Source → Reading → Result (Unit {0}) Verdict → Type 0
+JudgeStage source_name name source reading = After (DerivationStage name reading) (Judging source_name name source)
+
+-- `accepted`, or the verdict of the stage that refused.
+abbrev pub judged : Result (Unit {0}) Verdict → Verdict
+judged (Ok x) = done (codes "accepted" ++ line_end)
+judged (Err v) = v
+
+-- The verdict of `judge` on this source and this derivation. The derivation is not looked at where the source is refused.
+pub data IsJudge (source derivation : Named) (v : Verdict) : Type 0 where
+  source_stops : (r : Reading) → Gives source source_limit r → SourceStage source.name r (Err v) → IsJudge source derivation v
+  source_stands : (r d : Reading) (s : Source) (end : Result (Unit {0}) Verdict) → Gives source source_limit r → SourceStage source.name r (Ok s)
+      → Gives derivation derivation_limit d → JudgeStage source.name derivation.name s d end → v ≡ judged end → IsJudge source derivation v

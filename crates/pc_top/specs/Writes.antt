@@ -1,0 +1,41 @@
+-- What stands on out at status 0.
+use Rattle.std.specs.Prelude.{◌≡◌, ◌∷◌, [], ◌++◌, Option, Some, None, List, IfSome, codes}
+use Rattle.std.specs.Io.KnownBytes.{Appends}
+use Rattle.pc_core.specs.CoreData.{CoreData}
+use Rattle.pc_ann.specs.declared.annotation.Ann.{Ann}
+use Rattle.pc_rules.specs.Valid.{Valid}
+use Rattle.pc_deriv.specs.Faults.{IsText}
+use Rattle.pc_top.specs.Asked.{Files, IsVerdict}
+use Rattle.pc_top.specs.Command.{Text, Asked, check, judge, command_of}
+use Rattle.pc_top.specs.Ends.{Change}
+use Rattle.pc_top.specs.FirstForm.{CoreOf}
+use Rattle.pc_top.specs.Lines.{line_end}
+use Rattle.pc_top.specs.Verdict.{done}
+
+-- Out grew by the text of a valid annotation of the source's core.
+abbrev pub WritesDerivation : Change → Text → Type 0
+WritesDerivation out bytes =
+    (core : CoreData) × CoreOf bytes core × (ann : Ann) × Valid core ann × (text : Text) × IsText text ann × Appends out.before out.now text
+
+abbrev pub WritesOf : (Text → Option Text) → Option Asked → Change → Type 0
+WritesOf told None out = ⊥
+WritesOf told (Some (check source)) out = IfSome (told source) (WritesDerivation out)
+WritesOf told (Some (judge source derivation)) out = Appends out.before out.now (codes "accepted" ++ line_end)
+
+-- What the command of the words writes where it is done: the source's derivation, where the source is told, or `accepted`.
+abbrev pub Writes : (Text → Option Text) → List Text → Change → Type 0
+Writes told words out = WritesOf told (command_of words) out
+
+-- ---- from one command to the other
+
+abbrev pub check_words : Text → List Text
+check_words source = codes "check" ∷ source ∷ []
+
+abbrev pub judge_words : Text → Text → List Text
+judge_words source derivation = codes "judge" ∷ source ∷ derivation ∷ []
+
+-- What `check` is done with for a source, `judge` accepts for the same source, wherever it is read from.
+abbrev pub WrittenIsAccepted : Type 0
+WrittenIsAccepted =
+    (files later : Files) (source derivation text : Text) → later.told source ≡ files.told source → later.told derivation ≡ Some text
+    → IsVerdict files (check_words source) (done text) → IsVerdict later (judge_words source derivation) (done (codes "accepted" ++ line_end))
