@@ -23,3 +23,4 @@ pub mod OneAnswer
 pub mod LocalFile
 pub mod AgreeFile
 pub mod ExplainedParams
+pub mod ExplainedFields
