@@ -24,3 +24,4 @@ pub mod LocalFile
 pub mod AgreeFile
 pub mod ExplainedParams
 pub mod ExplainedFields
+pub mod ExplainedMethods
