@@ -200,3 +200,44 @@ module _ (u : Bool) where
           (λ ps q3 f3. explained_bind (ResultAt m) (Bodied c i ps) u q3 _ (method_result m q3) (explained_method_result m q3)
           (λ r q4 f4. explained_bind (DocBody e) (λ b. Only (a_method c i ps r b)) u q4 _ _ (explained_doc_body e q4) (λ b q5 f5. explained_only u _ q5) (λ b. some_only _))
           (some_bodied c i ps)) (some_resulted c i)) (some_taking c)) some_named)
+
+    -- ---- lists of methods
+
+    stands_by : (e : EntityKind) (m : MethodWord) (x : Token) (b : Bool) → may_stand e m ≡ b → cond b (is_word (method_word m) x) false ≡ true → may_stand e m ≡ true
+    stands_by e m x true is h = is
+    stands_by e m x false is h = absurd (cc)
+
+    stands : (e : EntityKind) (m : MethodWord) (x : Token) → word_in e m x ≡ true → may_stand e m ≡ true
+    stands e m x h = stands_by e m x (may_stand e m) refl h
+
+    method_by : (e : EntityKind) (x : Token) (ts : List Token) (a b c : Bool) → word_in e method.Fun x ≡ a → word_in e method.Be x ≡ b → word_in e method.New x ≡ c → (a || (b || c)) ≡ true
+        → Explained u (MethodIn e) (x ∷ ts) (cond a (method_of n e method.Fun) (cond b (method_of n e method.Be) (method_of n e method.New)) (x ∷ ts))
+    method_by e x ts true b c is be new h = explained_method e method.Fun (stands e method.Fun x is) (x ∷ ts)
+    method_by e x ts false true c is be new h = explained_method e method.Be (stands e method.Be x be) (x ∷ ts)
+    method_by e x ts false false true is be new h = explained_method e method.New (stands e method.New x new) (x ∷ ts)
+    method_by e x ts false false false is be new h = absurd (cc)
+
+    explained_some_method : (e : EntityKind) (x : Token) (ts : List Token) → begins_method e x ≡ true → Explained u (MethodIn e) (x ∷ ts) (some_method n e (x ∷ ts))
+    unfolding some_method peek begins_method
+    explained_some_method e x ts h = method_by e x ts (word_in e method.Fun x) (word_in e method.Be x) (word_in e method.New x) refl refl refl h
+
+    each_method : (e : EntityKind) (ts begin : List Token) → at (begins_method e) ts ≡ Some begin → Explained u (MethodIn e) ts (some_method n e begin)
+    each_method e [] begin h = absurd (at_nil (begins_method e) begin h)
+    each_method e (x ∷ ts) begin h =
+        let f = at_is (begins_method e) x ts begin h in
+        subst (λ l. Explained u (MethodIn e) (x ∷ ts) (some_method n e l)) (sym f.0) (explained_some_method e x ts f.1)
+
+    abbrev pub MethodsIn : EntityKind → List t.Method → List Token → Type 0
+    MethodsIn e ms ts = SpellsMethods e ms ts × Fits u (suc n) (methods_depth ms)
+
+    listed_methods : (e : EntityKind) (ms : List t.Method) (ts : List Token) → Listed (MethodIn e) ms ts → MethodsIn e ms ts
+    listed_methods e [] ts h = (h, fits_zero u (suc n))
+    listed_methods e (m ∷ ms) ts h =
+        let g = listed_methods e ms h.1 h.4 in
+        ((h.0, h.1, h.2, h.3.0, g.0), fits_max u (suc n) (body_depth m.body) (methods_depth ms) h.3.1 g.1)
+
+    pub some_methods : (e : EntityKind) → Inhabited (MethodsIn e)
+    some_methods e = ([], [], (refl, fits_zero u (suc n)))
+
+    pub explained_methods : (e : EntityKind) (ts : List Token) → Explained u (MethodsIn e) ts (all (at (begins_method e)) (some_method n e) ts)
+    explained_methods e ts = explained_weaker u (Listed (MethodIn e)) (MethodsIn e) ts _ (listed_methods e) (explained_all u (MethodIn e) (at (begins_method e)) (some_method n e) (each_method e) ts)
