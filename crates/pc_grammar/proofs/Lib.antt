@@ -25,3 +25,4 @@ pub mod AgreeFile
 pub mod ExplainedParams
 pub mod ExplainedFields
 pub mod ExplainedMethods
+pub mod ExplainedFiles
