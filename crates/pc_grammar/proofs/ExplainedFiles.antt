@@ -1,5 +1,5 @@
 -- Entities and files are explained.
-use Rattle.std.proofs.Common.{◌≡◌, ℕ, suc, max, Bool, true, false, ◌||◌, List, [], ◌∷◌, ◌++◌, Option, Some, None, refl, sym, ap, ◌∙◌, subst, cond, ◌⊎◌, inl, inr}
+use Rattle.std.proofs.Common.{◌≡◌, ℕ, suc, max, Bool, true, false, ◌||◌, List, [], ◌∷◌, ◌++◌, Option, Some, None, refl, sym, ap, ap₂, ◌∙◌, subst, cond, append_assoc, ◌⊎◌, inl, inr}
 use Rattle.pc_caps.specs.declared.capability.Cap.{Cap}
 use Rattle.pc_tree.specs.Tree as t
 use Rattle.pc_tree.specs.Measures.{fields_depth, methods_depth, entities_depth, file_depth}
@@ -112,3 +112,127 @@ module _ (u : Bool) where
   unfolding provides peek
   explained_provides [] = explained_refuse u SpellsProvides [] ([], [], refl)
   explained_provides (x ∷ ts) = provides_by x ts (is_word w.IsWord x) refl
+
+  -- ---- entities
+
+  abbrev CapAt : EntityKind → Option Cap → List Token → Type 0
+  CapAt e c ts = SpellsCap c ts × MayHaveCap e c
+
+  some_cap : (e : EntityKind) → Inhabited (CapAt e)
+  some_cap kind.Class = ([], None, (refl, tt))
+  some_cap kind.Trait = ([], None, (refl, tt))
+  some_cap kind.Actor = ([], None, (refl, refl))
+  some_cap kind.Primitive = ([], None, (refl, refl))
+
+  explained_entity_cap : (e : EntityKind) (ts : List Token) → Explained u (CapAt e) ts (entity_cap e ts)
+  explained_entity_cap kind.Class ts = explained_weaker u SpellsCap (CapAt kind.Class) ts _ (λ c a h. (h, tt)) (explained_cap u ts)
+  explained_entity_cap kind.Trait ts = explained_weaker u SpellsCap (CapAt kind.Trait) ts _ (λ c a h. (h, tt)) (explained_cap u ts)
+  explained_entity_cap kind.Actor ts = ([], refl, (refl, refl))
+  explained_entity_cap kind.Primitive ts = ([], refl, (refl, refl))
+
+  module _ (n : ℕ) where
+    abbrev depth_of : t.Entity → ℕ
+    depth_of e = max (fields_depth e.fields) (methods_depth e.methods)
+
+    abbrev EntityIn : t.Entity → List Token → Type 0
+    EntityIn e ts = SpellsEntity e ts × Fits u (suc n) (depth_of e)
+
+    module _ (e : EntityKind) where
+      abbrev an_entity : Option Cap → Name → List Name → List t.Field → List t.Method → t.Entity
+      an_entity c m ps fs ms = record { kind = e; cap = c; name = m; provides = ps; fields = fs; methods = ms }
+
+      abbrev Head : Option Cap → List Token → Type 0
+      Head = Then (Tok (is_word (entity_word e))) (λ _. CapAt e)
+
+      abbrev DocFields : List t.Field → List Token → Type 0
+      DocFields = Then DocAt (λ _. FieldsIn u n e)
+
+      abbrev Methods : Option Cap → Name → List Name → List t.Field → t.Entity → List Token → Type 0
+      Methods c m ps fs = Then (MethodsIn u n e) (λ ms. Only (an_entity c m ps fs ms))
+
+      abbrev Parts : Option Cap → Name → List Name → t.Entity → List Token → Type 0
+      Parts c m ps = Then DocFields (Methods c m ps)
+
+      abbrev Providing : Option Cap → Name → t.Entity → List Token → Type 0
+      Providing c m = Then SpellsProvides (Parts c m)
+
+      abbrev Named : Option Cap → t.Entity → List Token → Type 0
+      Named c = Then TypeNameAt (Providing c)
+
+      some_head : Inhabited Head
+      some_head = some_then (Tok (is_word (entity_word e))) (λ _. CapAt e) (some_word (entity_word e)) (λ _. some_cap e)
+
+      explained_head : (ts : List Token) → Explained u Head ts ((take_if (is_word (entity_word e)) >> entity_cap e) ts)
+      explained_head ts = explained_bind (Tok (is_word (entity_word e))) (λ _. CapAt e) u ts (λ _. entity_cap e) (take_if (is_word (entity_word e)) ts) (explained_take u (is_word (entity_word e)) (of_kind (k.Word (entity_word e))) (a_word (entity_word e)) ts) (λ y r f. explained_entity_cap e r) (λ _. some_cap e)
+
+      some_doc_fields : Inhabited DocFields
+      some_doc_fields = some_then DocAt (λ _. FieldsIn u n e) some_doc (λ _. some_fields u n e)
+
+      explained_doc_fields : (ts : List Token) → Explained u DocFields ts ((maybe_doc >> fields n e) ts)
+      explained_doc_fields ts = explained_bind DocAt (λ _. FieldsIn u n e) u ts (λ _. fields n e) (maybe_doc ts) (explained_doc u ts) (λ x r f. explained_fields u n e r) (λ _. some_fields u n e)
+
+      some_ms : (c : Option Cap) (m : Name) (ps : List Name) (fs : List t.Field) → Inhabited (Methods c m ps fs)
+      some_ms c m ps fs = some_then (MethodsIn u n e) (λ ms. Only (an_entity c m ps fs ms)) (some_methods u n e) (λ ms. some_only _)
+
+      some_parts : (c : Option Cap) (m : Name) (ps : List Name) → Inhabited (Parts c m ps)
+      some_parts c m ps = some_then DocFields (Methods c m ps) some_doc_fields (some_ms c m ps)
+
+      some_providing : (c : Option Cap) (m : Name) → Inhabited (Providing c m)
+      some_providing c m = some_then SpellsProvides (Parts c m) ([], [], refl) (some_parts c m)
+
+      some_named : (c : Option Cap) → Inhabited (Named c)
+      some_named c = some_then TypeNameAt (Providing c) some_type_name (some_providing c)
+
+      entity_whole : (v : t.Entity) (a : List Token) → Then Head Named v a → EntityIn v a
+      entity_whole v a h =
+          let q = h.4 in
+          let x = q.0 in
+          let g = h.5 in
+          let y = g.4.0 in
+          let p = g.5 in
+          let f = p.5 in
+          let d = f.4 in
+          let m = f.5 in
+          let methods : f.2 ≡ m.1 = ends_nil f.2 m.1 m.2 m.3 m.5.0 in
+          let parts : p.2 ≡ d.1 ++ (d.2 ++ m.1) = f.3 ∙ ap₂ (λ l r. l ++ r) d.3 methods ∙ append_assoc d.1 d.2 m.1 in
+          let providing = joined g.2 p.1 p.2 (d.1 ++ (d.2 ++ m.1)) p.3 parts in
+          let behind : h.2 ≡ y ∷ (p.1 ++ (d.1 ++ (d.2 ++ m.1))) = begins_one y h.2 g.1 g.2 (p.1 ++ (d.1 ++ (d.2 ++ m.1))) g.3 g.4.1 providing in
+          let front : h.1 ≡ x ∷ q.2 = begins_one x h.1 q.1 q.2 q.2 q.3 q.4.0 refl in
+          let cut : a ≡ x ∷ (q.2 ++ y ∷ (p.1 ++ (d.1 ++ (d.2 ++ m.1)))) = joined a h.1 h.2 (y ∷ (p.1 ++ (d.1 ++ (d.2 ++ m.1)))) h.3 behind ∙ ap (λ l. l ++ y ∷ (p.1 ++ (d.1 ++ (d.2 ++ m.1)))) front in
+          subst (λ v. EntityIn v a) (sym m.5.1) ((x, y, q.2, p.1, d.1, d.2, m.1, cut, q.4.1, q.5.0, g.4.2, p.4, d.4, d.5.0, m.4.0, q.5.1, d.5.2), fits_max u (suc n) (fields_depth f.0) (methods_depth m.0) d.5.1 m.4.1)
+
+      explained_entity_of : (ts : List Token) → Explained u EntityIn ts (entity_of n e ts)
+      unfolding entity_of
+      explained_entity_of ts =
+          explained_weaker u (Then Head Named) EntityIn ts _ entity_whole
+          (explained_bind Head Named u ts _ _ (explained_head ts)
+          (λ c q1 f1. explained_bind TypeNameAt (Providing c) u q1 _ (type_name q1) (explained_type_name u q1)
+          (λ m q2 f2. explained_bind SpellsProvides (Parts c m) u q2 _ (provides q2) (explained_provides q2)
+          (λ ps q3 f3. explained_bind DocFields (Methods c m ps) u q3 _ _ (explained_doc_fields q3)
+          (λ fs q4 f4. explained_bind (MethodsIn u n e) (λ ms. Only (an_entity c m ps fs ms)) u q4 _ _ (explained_methods u n e q4) (λ ms q5 f5. explained_only u _ q5) (λ ms. some_only _))
+          (some_ms c m ps)) (some_parts c m)) (some_providing c)) some_named)
+
+      an_entity_in : Inhabited EntityIn
+      an_entity_in = let r = some_then Head Named some_head some_named in (r.0, r.1, entity_whole r.1 r.0 r.2)
+
+    entity_by : (x : Token) (ts : List Token) (a b c d : Bool) → Explained u EntityIn (x ∷ ts) (cond a (entity_of n kind.Class) (cond b (entity_of n kind.Actor) (cond c (entity_of n kind.Primitive) (cond d (entity_of n kind.Trait) refuse))) (x ∷ ts))
+    entity_by x ts true b c d = explained_entity_of kind.Class (x ∷ ts)
+    entity_by x ts false true c d = explained_entity_of kind.Actor (x ∷ ts)
+    entity_by x ts false false true d = explained_entity_of kind.Primitive (x ∷ ts)
+    entity_by x ts false false false true = explained_entity_of kind.Trait (x ∷ ts)
+    entity_by x ts false false false false = explained_refuse u EntityIn (x ∷ ts) (an_entity_in kind.Class)
+
+    explained_entity : (ts : List Token) → Explained u EntityIn ts (entity n ts)
+    unfolding entity peek
+    explained_entity [] = explained_refuse u EntityIn [] (an_entity_in kind.Class)
+    explained_entity (x ∷ ts) = entity_by x ts (is_word w.ClassWord x) (is_word w.ActorWord x) (is_word w.PrimitiveWord x) (is_word w.TraitWord x)
+
+    each_entity : (ts begin : List Token) → at begins_entity ts ≡ Some begin → Explained u EntityIn ts (entity n begin)
+    each_entity [] begin h = absurd (at_nil begins_entity begin h)
+    each_entity (x ∷ ts) begin h = subst (λ l. Explained u EntityIn (x ∷ ts) (entity n l)) (sym (at_is begins_entity x ts begin h).0) (explained_entity (x ∷ ts))
+
+    listed_entities : (es : List t.Entity) (ts : List Token) → Listed EntityIn es ts → SpellsMoreEntities es ts × Fits u (suc n) (entities_depth es)
+    listed_entities [] ts h = (h, fits_zero u (suc n))
+    listed_entities (e ∷ es) ts h =
+        let g = listed_entities es h.1 h.4 in
+        ((h.0, h.1, h.2, h.3.0, g.0), fits_max u (suc n) (depth_of e) (entities_depth es) h.3.1 g.1)
