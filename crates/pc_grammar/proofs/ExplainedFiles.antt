@@ -75,6 +75,18 @@ provides_at x is [] a (inl h) = absurd h
 provides_at x is [] a (inr h) = absurd h.5
 provides_at x is (m ∷ ms) a h = (x, a, refl, is, h)
 
+kind_end : (kk : TokenKind) → kind_is_end kk ≡ true → kk ≡ k.End
+kind_end k.End e = refl
+kind_end _ e = absurd (cc)
+
+end_is : (x : Token) → is_end x ≡ true → x.kind ≡ k.End
+unfolding is_end
+end_is x e = kind_end x.kind e
+
+an_end : is_end (of_kind k.End) ≡ true
+unfolding is_end
+an_end = refl
+
 module _ (u : Bool) where
   each_name : (ts begin : List Token) → after (is_sign s.Ampersand) ts ≡ Some begin → Explained u MoreName ts (type_name begin)
   each_name ts begin h =
@@ -236,3 +248,51 @@ module _ (u : Bool) where
     listed_entities (e ∷ es) ts h =
         let g = listed_entities es h.1 h.4 in
         ((h.0, h.1, h.2, h.3.0, g.0), fits_max u (suc n) (depth_of e) (entities_depth es) h.3.1 g.1)
+
+    -- ---- files
+
+    abbrev pub FileIn : t.File → List Token → Type 0
+    FileIn f ts = SpellsFile f ts × Fits u (suc n) (file_depth f)
+
+    abbrev a_file : t.Entity → List t.Entity → t.File
+    a_file e es = record { entities = e ∷ es }
+
+    abbrev DocEntity : t.Entity → List Token → Type 0
+    DocEntity = Then DocAt (λ _. EntityIn)
+
+    abbrev Ended : t.Entity → List t.Entity → t.File → List Token → Type 0
+    Ended e es = Closes is_end (λ _. a_file e es)
+
+    abbrev Others : t.Entity → t.File → List Token → Type 0
+    Others e = Then (Listed EntityIn) (Ended e)
+
+    some_doc_entity : Inhabited DocEntity
+    some_doc_entity = some_then DocAt (λ _. EntityIn) some_doc (λ _. an_entity_in kind.Class)
+
+    explained_doc_entity : (ts : List Token) → Explained u DocEntity ts ((maybe_doc >> entity n) ts)
+    explained_doc_entity ts = explained_bind DocAt (λ _. EntityIn) u ts (λ _. entity n) (maybe_doc ts) (explained_doc u ts) (λ x r f. explained_entity r) (λ _. an_entity_in kind.Class)
+
+    some_ended : (e : t.Entity) (es : List t.Entity) → Inhabited (Ended e es)
+    some_ended e es = some_close u is_end (λ _. a_file e es) (of_kind k.End) an_end
+
+    some_others : (e : t.Entity) → Inhabited (Others e)
+    some_others e = some_then (Listed EntityIn) (Ended e) ([], [], refl) (some_ended e)
+
+    file_whole : (v : t.File) (a : List Token) → Then DocEntity Others v a → FileIn v a
+    file_whole v a h =
+        let d = h.4 in
+        let g = h.5 in
+        let j = g.5 in
+        let x = j.0 in
+        let more = listed_entities g.0 g.1 g.4 in
+        let last : h.2 ≡ g.1 ++ x ∷ [] = joined h.2 g.1 g.2 (x ∷ []) g.3 (closed u is_end (λ _. a_file h.0 g.0) v g.2 j) in
+        let cut : a ≡ d.1 ++ ((d.2 ++ g.1) ++ x ∷ []) = h.3 ∙ ap₂ (λ l r. l ++ r) d.3 last ∙ append_assoc d.1 d.2 (g.1 ++ x ∷ []) ∙ ap (λ l. d.1 ++ l) (sym (append_assoc d.2 g.1 (x ∷ []))) in
+        subst (λ v. FileIn v a) (sym j.5.1) ((d.1, d.2 ++ g.1, x, cut, d.4, (d.2, g.1, refl, d.5.0, more.0), end_is x j.4.1), fits_max u (suc n) (depth_of h.0) (entities_depth g.0) d.5.1 more.1)
+
+    pub explained_file : (ts : List Token) → Explained u FileIn ts (file n ts)
+    unfolding file
+    explained_file ts =
+        explained_weaker u (Then DocEntity Others) FileIn ts _ file_whole
+        (explained_bind DocEntity Others u ts _ _ (explained_doc_entity ts)
+        (λ e q1 f1. explained_bind (Listed EntityIn) (Ended e) u q1 _ _ (explained_all u EntityIn (at begins_entity) (entity n) each_entity q1)
+        (λ es q2 f2. explained_close u is_end (λ _. a_file e es) (of_kind k.End) an_end q2) (some_ended e)) some_others)
