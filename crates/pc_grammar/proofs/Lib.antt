@@ -26,3 +26,4 @@ pub mod ExplainedParams
 pub mod ExplainedFields
 pub mod ExplainedMethods
 pub mod ExplainedFiles
+pub mod CompleteParams
