@@ -27,3 +27,4 @@ pub mod ExplainedFields
 pub mod ExplainedMethods
 pub mod ExplainedFiles
 pub mod CompleteParams
+pub mod CompleteFields
