@@ -28,3 +28,4 @@ pub mod ExplainedMethods
 pub mod ExplainedFiles
 pub mod CompleteParams
 pub mod CompleteFields
+pub mod CompleteMethods
