@@ -162,3 +162,65 @@ module _ (n : ℕ) where
       let step : method_of n e m.word (h.0 ∷ l1) ≡ Ok (m, rest) =
         rw (h.8, cap, name_read h.1 m.name l2 h.10, params_reads m.params h.3 l3 h.11, method_result_reads m.word m.result h.4 l4 h.12 h.17 quiet, doc_reads h.5 l5 h.13 (to_doc l5 calm), body_reads e m.body h.6 rest h.14 h.18 d f) in
       ap (method_of n e m.word) (method_parts e m a rest h) ∙ step
+
+  -- ---- lists of methods
+
+  word_true : (e : EntityKind) (m : MethodWord) (x : Token) → may_stand e m ≡ true → is_word (method_word m) x ≡ true → word_in e m x ≡ true
+  word_true e m x stands word = ap (λ b. cond b (is_word (method_word m) x) false) stands ∙ word
+
+  never : (b c : Bool) → c ≡ false → cond b c false ≡ false
+  never true c h = h
+  never false c h = refl
+
+  word_no : (e : EntityKind) (m : MethodWord) (x : Token) → is_word (method_word m) x ≡ false → word_in e m x ≡ false
+  word_no e m x h = never (may_stand e m) (is_word (method_word m) x) h
+
+  chosen : (e : EntityKind) (m : MethodWord) (x : Token) (ts : List Token) → may_stand e m ≡ true → is_word (method_word m) x ≡ true → some_method n e (x ∷ ts) ≡ method_of n e m (x ∷ ts)
+  unfolding some_method peek
+  chosen e method.Fun x ts stands word = ap (λ b. (cond b (method_of n e method.Fun) (cond (word_in e method.Be x) (method_of n e method.Be) (method_of n e method.New))) (x ∷ ts)) (word_true e method.Fun x stands word)
+  chosen e method.Be x ts stands word =
+      ap (λ b. (cond b (method_of n e method.Fun) (cond (word_in e method.Be x) (method_of n e method.Be) (method_of n e method.New))) (x ∷ ts)) (word_no e method.Fun x (be_not_fun x (kind_of_word w.BeWord x word)))
+      ∙ ap (λ b. (cond b (method_of n e method.Be) (method_of n e method.New)) (x ∷ ts)) (word_true e method.Be x stands word)
+  chosen e method.New x ts stands word =
+      ap (λ b. (cond b (method_of n e method.Fun) (cond (word_in e method.Be x) (method_of n e method.Be) (method_of n e method.New))) (x ∷ ts)) (word_no e method.Fun x (new_not_fun x (kind_of_word w.NewWord x word)))
+      ∙ ap (λ b. (cond b (method_of n e method.Be) (method_of n e method.New)) (x ∷ ts)) (word_no e method.Be x (new_not_be x (kind_of_word w.NewWord x word)))
+
+  begins_true : (e : EntityKind) (m : MethodWord) (x : Token) → may_stand e m ≡ true → is_word (method_word m) x ≡ true → begins_method e x ≡ true
+  unfolding begins_method
+  begins_true e method.Fun x stands word = ap (λ b. b || (word_in e method.Be x || word_in e method.New x)) (word_true e method.Fun x stands word)
+  begins_true e method.Be x stands word =
+      ap (λ b. b || (word_in e method.Be x || word_in e method.New x)) (word_no e method.Fun x (be_not_fun x (kind_of_word w.BeWord x word))) ∙ ap (λ b. b || word_in e method.New x) (word_true e method.Be x stands word)
+  begins_true e method.New x stands word =
+      let k = kind_of_word w.NewWord x word in
+      ap (λ b. b || (word_in e method.Be x || word_in e method.New x)) (word_no e method.Fun x (new_not_fun x k)) ∙ ap (λ b. b || word_in e method.New x) (word_no e method.Be x (new_not_be x k)) ∙ word_true e method.New x stands word
+
+  some_method_reads : (e : EntityKind) (m : t.Method) (a rest : List Token) → SpellsMethod e m a → body_depth m.body ≤ suc n → First Outer rest → some_method n e (a ++ rest) ≡ Ok (m, rest)
+  some_method_reads e m a rest h d f =
+      let here = method_parts e m a rest h in
+      ap (some_method n e) here ∙ chosen e m.word h.0 _ h.15 h.8 ∙ ap (method_of n e m.word) (sym here) ∙ method_reads e m a rest h d f
+
+  pub methods_first : (e : EntityKind) (ms : List t.Method) (ts rest : List Token) → SpellsMethods e ms ts → First Outer rest → First Outer (ts ++ rest)
+  methods_first e [] ts rest h f = (f.0, f.1, ap (λ l. l ++ rest) h ∙ f.2, f.3)
+  methods_first e (m ∷ ms) ts rest h f =
+      let x = h.3.0 in
+      (x, _, two_parts h.0 h.1 ts rest h.2 ∙ method_parts e m h.0 (h.1 ++ rest) h.3, method_outer m.word x h.3.8)
+
+  abbrev NoMethod : EntityKind → Token → Type 0
+  NoMethod e x = begins_method e x ≡ false
+
+  no_method_left : (e : EntityKind) (rest : List Token) → First (NoMethod e) rest → at (begins_method e) rest ≡ None
+  no_method_left e rest f = ap (at (begins_method e)) f.2 ∙ at_none (begins_method e) f.0 f.1 f.3
+
+  methods_by : (e : EntityKind) (ms : List t.Method) (ts rest : List Token) (i : ℕ) → SpellsMethods e ms ts → methods_depth ms ≤ suc n → length ts ≤ i → First Outer rest → First (NoMethod e) rest → many (at (begins_method e)) (some_method n e) i (ts ++ rest) ≡ Ok (ms, rest)
+  methods_by e [] ts rest i h d fits f last = ap (λ l. many (at (begins_method e)) (some_method n e) i (l ++ rest)) h ∙ many_none (at (begins_method e)) (some_method n e) i rest (no_method_left e rest last)
+  methods_by e (m ∷ ms) ts rest zero h d fits f last = absurd (omega (arith, ap length h.2, ap length h.3.7, length-append h.0 h.1))
+  methods_by e (m ∷ ms) ts rest (suc i) h d fits f last =
+      let b = h.1 ++ rest in
+      let here = method_parts e m h.0 b h.3 in
+      let one = some_method_reads e m h.0 b h.3 (omega arith) (methods_first e ms h.1 rest h.4 f) in
+      let two = methods_by e ms h.1 rest i h.4 (omega arith) (omega (arith, ap length h.2, ap length h.3.7, length-append h.0 h.1)) f last in
+      let goes : at (begins_method e) (h.0 ++ b) ≡ Some (h.0 ++ b) = ap (at (begins_method e)) here ∙ at_one (begins_method e) h.3.0 _ (begins_true e m.word h.3.0 h.3.15 h.3.8) ∙ ap Some (sym here) in
+      ap (many (at (begins_method e)) (some_method n e) (suc i)) (two_parts h.0 h.1 ts rest h.2) ∙ one_more (at (begins_method e)) (some_method n e) i (h.0 ++ b) (h.0 ++ b) b rest m ms goes one two
+
+  pub methods_read : (e : EntityKind) (ms : List t.Method) (ts rest : List Token) → SpellsMethods e ms ts → methods_depth ms ≤ suc n → First Outer rest → First (NoMethod e) rest → all (at (begins_method e)) (some_method n e) (ts ++ rest) ≡ Ok (ms, rest)
+  methods_read e ms ts rest h d f last = all_enough (at (begins_method e)) (some_method n e) (ts ++ rest) _ (methods_by e ms ts rest (length (ts ++ rest)) h d (omega (arith, length-append ts rest)) f last)
