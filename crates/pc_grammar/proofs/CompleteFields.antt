@@ -136,7 +136,7 @@ module _ (n : ℕ) where
       let x = h.3.0 in
       (x, _, two_parts h.0 h.1 ts rest h.2 ∙ field_parts g h.0 (h.1 ++ rest) h.3, local_calm g.fixed x h.3.7)
 
-  abbrev NoField : Token → Type 0
+  abbrev pub NoField : Token → Type 0
   NoField x = begins_field x ≡ false
 
   none_left : (rest : List Token) → First NoField rest → at begins_field rest ≡ None

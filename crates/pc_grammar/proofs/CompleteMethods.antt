@@ -205,7 +205,7 @@ module _ (n : ℕ) where
       let x = h.3.0 in
       (x, _, two_parts h.0 h.1 ts rest h.2 ∙ method_parts e m h.0 (h.1 ++ rest) h.3, method_outer m.word x h.3.8)
 
-  abbrev NoMethod : EntityKind → Token → Type 0
+  abbrev pub NoMethod : EntityKind → Token → Type 0
   NoMethod e x = begins_method e x ≡ false
 
   no_method_left : (e : EntityKind) (rest : List Token) → First (NoMethod e) rest → at (begins_method e) rest ≡ None
@@ -224,3 +224,8 @@ module _ (n : ℕ) where
 
   pub methods_read : (e : EntityKind) (ms : List t.Method) (ts rest : List Token) → SpellsMethods e ms ts → methods_depth ms ≤ suc n → First Outer rest → First (NoMethod e) rest → all (at (begins_method e)) (some_method n e) (ts ++ rest) ≡ Ok (ms, rest)
   methods_read e ms ts rest h d f last = all_enough (at (begins_method e)) (some_method n e) (ts ++ rest) _ (methods_by e ms ts rest (length (ts ++ rest)) h d (omega (arith, length-append ts rest)) f last)
+
+  pub no_method : (e : EntityKind) (x : Token) → is_word w.FunWord x ≡ false → is_word w.BeWord x ≡ false → is_word w.NewWord x ≡ false → begins_method e x ≡ false
+  unfolding begins_method
+  no_method e x a b c =
+      ap (λ v. v || (word_in e method.Be x || word_in e method.New x)) (word_no e method.Fun x a) ∙ ap (λ v. v || word_in e method.New x) (word_no e method.Be x b) ∙ word_no e method.New x c

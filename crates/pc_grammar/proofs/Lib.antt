@@ -29,3 +29,4 @@ pub mod ExplainedFiles
 pub mod CompleteParams
 pub mod CompleteFields
 pub mod CompleteMethods
+pub mod CompleteFiles

@@ -1,0 +1,108 @@
+-- Entities and files that are spelled are read.
+use Rattle.std.proofs.Common.{◌≡◌, ℕ, zero, suc, ◌≤◌, max, Bool, true, false, ◌||◌, List, [], ◌∷◌, ◌++◌, length, Option, Some, None, Ok, refl, sym, ap, ◌∙◌, subst, arith, cond, append_assoc, length-append, ◌⊎◌, inl, inr}
+use Rattle.pc_caps.specs.declared.capability.Cap.{Cap}
+use Rattle.pc_tree.specs.Tree as t
+use Rattle.pc_tree.specs.Measures.{fields_depth, methods_depth, entities_depth, file_depth}
+use Rattle.pc_tree.specs.declared.names.Name.{Name}
+use Rattle.pc_tree.specs.declared.kinds.Op.TheVariants as o
+use Rattle.pc_tree.specs.declared.kinds.EntityKind.{EntityKind}
+use Rattle.pc_tree.specs.declared.kinds.EntityKind.TheVariants as kind
+use Rattle.pc_token.specs.declared.kinds.Token.{Token}
+use Rattle.pc_token.specs.declared.kinds.TokenKind.TheVariants as k
+use Rattle.pc_token.specs.declared.words.Word.TheVariants as w
+use Rattle.pc_token.specs.declared.signs.Sign.TheVariants as s
+use Rattle.pc_token.specs.Asking.{is_sign, is_word, same_sign, same_word}
+use Rattle.pc_grammar.specs.Asking.{op_of, cap_of}
+use Rattle.pc_grammar.specs.Spells.{SpellsCap}
+use Rattle.pc_grammar.specs.SpellsFile.{SpellsMoreNames, SpellsNames, SpellsAlone, SpellsBracketed, SpellsProvides, entity_word, MayHaveCap, MayHaveFields, SpellsFields, SpellsEntity, SpellsMoreEntities, SpellsEntities, SpellsFile}
+use Rattle.pc_grammar.specs.Reading.{Outcome, pure, ◌>>=◌, ◌>>◌, peek, take_if, and_then, many, all, after, at, type_name, begins_suffix, begins_item}
+use Rattle.pc_grammar.specs.ReadingFile.{is_doc, is_end, type_names, provided, provides, entity_cap, fields, entity_of, entity, begins_entity, begins_field, file}
+use Rattle.pc_grammar.proofs.Follow.{kind_of_sign, kind_of_word, after_sign, after_no_sign, at_one, at_none}
+use Rattle.pc_grammar.proofs.First.{First}
+use Rattle.pc_grammar.proofs.Lifts.{many_none}
+use Rattle.pc_grammar.proofs.Steps.{type_name_read, one_more}
+use Rattle.pc_grammar.proofs.Complete.{two_parts, all_enough}
+use Rattle.pc_grammar.proofs.CompleteParams.{NoCap, NoDoc, doc_reads, cap_reads}
+use Rattle.pc_grammar.proofs.CompleteFields.{Quiet, Calm, to_quiet, to_doc, doc_first, fields_first, fields_read, NoField}
+use Rattle.pc_grammar.proofs.CompleteMethods.{Outer, to_calm, methods_first, methods_read, no_method, NoMethod}
+
+-- ---- the traits of an entity
+
+abbrev NoIs : Token → Type 0
+NoIs x = is_word w.IsWord x ≡ false
+
+is_an_op : (x : Token) → x.kind ≡ k.Word w.IsWord → op_of x ≡ Some o.Is
+unfolding op_of
+is_an_op x e = rw e
+
+no_is_by : (x : Token) (b : Bool) → is_word w.IsWord x ≡ b → op_of x ≡ None → is_word w.IsWord x ≡ false
+no_is_by x false e h = e
+no_is_by x true e h = let f : None ≡ Some o.Is = sym h ∙ is_an_op x (kind_of_word w.IsWord x e) in absurd (cc)
+
+to_no_is : (rest : List Token) → First Quiet rest → First NoIs rest
+to_no_is rest f = (f.0, f.1, f.2, no_is_by f.0 (is_word w.IsWord f.0) refl f.3.op)
+
+close_no_amp : (x : Token) → x.kind ≡ k.Sign s.CloseParen → is_sign s.Ampersand x ≡ false
+unfolding is_sign same_sign
+close_no_amp x e = rw e
+
+type_no_open : (x : Token) (text : List ℕ) → x.kind ≡ k.TypeName text → is_sign s.OpenParen x ≡ false
+unfolding is_sign
+type_no_open x text e = rw e
+
+type_no_cap : (x : Token) (text : List ℕ) → x.kind ≡ k.TypeName text → cap_of x ≡ None
+unfolding cap_of
+type_no_cap x text e = rw e
+
+more_names : (ms : List Name) (ts : List Token) (y : Token) (more : List Token) (i : ℕ) → SpellsMoreNames ms ts → length ts ≤ i → is_sign s.CloseParen y ≡ true → many (after (is_sign s.Ampersand)) type_name i (ts ++ y ∷ more) ≡ Ok (ms, y ∷ more)
+more_names [] ts y more i h fits closes =
+    ap (λ l. many (after (is_sign s.Ampersand)) type_name i (l ++ y ∷ more)) h ∙ many_none (after (is_sign s.Ampersand)) type_name i (y ∷ more) (after_no_sign y s.Ampersand more (close_no_amp y (kind_of_sign s.CloseParen y closes)))
+more_names (m ∷ ms) ts y more zero h fits closes = absurd (omega (arith, ap length h.3))
+more_names (m ∷ ms) ts y more (suc i) h fits closes =
+    let b = h.2 ++ y ∷ more in
+    let two = more_names ms h.2 y more i h.6 (omega (arith, ap length h.3)) closes in
+    ap (λ l. many (after (is_sign s.Ampersand)) type_name (suc i) (l ++ y ∷ more)) h.3 ∙ one_more (after (is_sign s.Ampersand)) type_name i (h.0 ∷ h.1 ∷ b) (h.1 ∷ b) b (y ∷ more) m ms (after_sign h.0 s.Ampersand (h.1 ∷ b) h.4) (type_name_read h.1 m b h.5) two
+
+names_reads : (ms : List Name) (a : List Token) (y : Token) (more : List Token) → SpellsNames ms a → is_sign s.CloseParen y ≡ true → type_names (a ++ y ∷ more) ≡ Ok (ms, y ∷ more)
+unfolding type_names
+names_reads [] a y more h closes = absurd h
+names_reads (m ∷ ms) a y more h closes =
+    let b = h.1 ++ y ∷ more in
+    let two = all_enough (after (is_sign s.Ampersand)) type_name b _ (more_names ms h.1 y more (length b) h.4 (omega (arith, length-append h.1 (y ∷ more))) closes) in
+    let step : type_names (h.0 ∷ b) ≡ Ok (m ∷ ms, y ∷ more) = rw (type_name_read h.0 m b h.3, two) in
+    ap (λ l. type_names (l ++ y ∷ more)) h.2 ∙ step
+
+alone_reads : (ms : List Name) (a rest : List Token) → SpellsAlone ms a → provided (a ++ rest) ≡ Ok (ms, rest)
+unfolding provided peek
+alone_reads [] a rest h = absurd h
+alone_reads (m ∷ []) a rest h =
+    let step : provided (h.0 ∷ rest) ≡ Ok (m ∷ [], rest) = rw (type_no_open h.0 _ h.2.0, type_name_read h.0 m rest h.2) in
+    ap (λ l. provided (l ++ rest)) h.1 ∙ step
+alone_reads (m ∷ p ∷ ms) a rest h = absurd h
+
+bracketed_reads : (ms : List Name) (a rest : List Token) → SpellsBracketed ms a → provided (a ++ rest) ≡ Ok (ms, rest)
+unfolding provided peek take_if
+bracketed_reads ms a rest h =
+    let inside = h.2 ++ h.1 ∷ rest in
+    let here : a ++ rest ≡ h.0 ∷ inside = ap (λ l. l ++ rest) h.3 ∙ ap (λ l. h.0 ∷ l) (append_assoc h.2 (h.1 ∷ []) rest) in
+    let step : and_then (and_then (take_if (is_sign s.OpenParen) (h.0 ∷ inside)) (λ _. type_names)) (λ ms. take_if (is_sign s.CloseParen) >> pure ms) ≡ Ok (ms, rest) = rw (h.4, names_reads ms h.2 h.1 rest h.5 h.6, h.6) in
+    ap provided here ∙ rw h.4 step
+
+provided_reads : (ms : List Name) (a rest : List Token) → SpellsAlone ms a ⊎ SpellsBracketed ms a → provided (a ++ rest) ≡ Ok (ms, rest)
+provided_reads ms a rest (inl h) = alone_reads ms a rest h
+provided_reads ms a rest (inr h) = bracketed_reads ms a rest h
+
+no_provides : (rest : List Token) → First NoIs rest → provides rest ≡ Ok ([], rest)
+unfolding provides peek
+no_provides rest f =
+    let P : List Token → Type 0 = λ l. provides l ≡ Ok ([], l) in
+    let step : provides (f.0 ∷ f.1) ≡ Ok ([], f.0 ∷ f.1) = rw f.3 in
+    subst P (sym f.2) step
+
+provides_reads : (ms : List Name) (a rest : List Token) → SpellsProvides ms a → First NoIs rest → provides (a ++ rest) ≡ Ok (ms, rest)
+unfolding provides peek take_if
+provides_reads [] a rest h f = ap (λ l. provides (l ++ rest)) h ∙ no_provides rest f
+provides_reads (m ∷ ms) a rest h f =
+    let inside = h.1 ++ rest in
+    let step : and_then (take_if (is_word w.IsWord) (h.0 ∷ inside)) (λ _. provided) ≡ Ok (m ∷ ms, rest) = rw (h.3, provided_reads (m ∷ ms) h.1 rest h.4) in
+    ap (λ l. provides (l ++ rest)) h.2 ∙ rw h.3 step
