@@ -106,3 +106,117 @@ provides_reads (m ∷ ms) a rest h f =
     let inside = h.1 ++ rest in
     let step : and_then (take_if (is_word w.IsWord) (h.0 ∷ inside)) (λ _. provided) ≡ Ok (m ∷ ms, rest) = rw (h.3, provided_reads (m ∷ ms) h.1 rest h.4) in
     ap (λ l. provides (l ++ rest)) h.2 ∙ rw h.3 step
+
+-- ---- what stands behind an entity
+
+pub record Next (y : Token) : Type 0 where
+  pub outer : Outer y
+  pub functions : is_word w.FunWord y ≡ false
+  pub behaviours : is_word w.BeWord y ≡ false
+  pub constructors : is_word w.NewWord y ≡ false
+
+module _ (y : Token) where
+  class_next : y.kind ≡ k.Word w.ClassWord → Next y
+  unfolding begins_suffix op_of cap_of is_sign same_sign is_doc begins_item begins_field is_word same_word
+  class_next e = record { outer = record { calm = record { quiet = record { suffix = rw e; op = rw e; cap = rw e; colon = rw e; hat = rw e; assign = rw e }; doc = rw e }; stops = record { suffix = rw e; op = rw e; assign = rw e; semicolon = rw e; item = rw e }; field = rw e; names = rw e }; functions = rw e; behaviours = rw e; constructors = rw e }
+
+  actor_next : y.kind ≡ k.Word w.ActorWord → Next y
+  unfolding begins_suffix op_of cap_of is_sign same_sign is_doc begins_item begins_field is_word same_word
+  actor_next e = record { outer = record { calm = record { quiet = record { suffix = rw e; op = rw e; cap = rw e; colon = rw e; hat = rw e; assign = rw e }; doc = rw e }; stops = record { suffix = rw e; op = rw e; assign = rw e; semicolon = rw e; item = rw e }; field = rw e; names = rw e }; functions = rw e; behaviours = rw e; constructors = rw e }
+
+  primitive_next : y.kind ≡ k.Word w.PrimitiveWord → Next y
+  unfolding begins_suffix op_of cap_of is_sign same_sign is_doc begins_item begins_field is_word same_word
+  primitive_next e = record { outer = record { calm = record { quiet = record { suffix = rw e; op = rw e; cap = rw e; colon = rw e; hat = rw e; assign = rw e }; doc = rw e }; stops = record { suffix = rw e; op = rw e; assign = rw e; semicolon = rw e; item = rw e }; field = rw e; names = rw e }; functions = rw e; behaviours = rw e; constructors = rw e }
+
+  trait_next : y.kind ≡ k.Word w.TraitWord → Next y
+  unfolding begins_suffix op_of cap_of is_sign same_sign is_doc begins_item begins_field is_word same_word
+  trait_next e = record { outer = record { calm = record { quiet = record { suffix = rw e; op = rw e; cap = rw e; colon = rw e; hat = rw e; assign = rw e }; doc = rw e }; stops = record { suffix = rw e; op = rw e; assign = rw e; semicolon = rw e; item = rw e }; field = rw e; names = rw e }; functions = rw e; behaviours = rw e; constructors = rw e }
+
+  end_next : y.kind ≡ k.End → Next y
+  unfolding begins_suffix op_of cap_of is_sign same_sign is_doc begins_item begins_field is_word same_word
+  end_next e = record { outer = record { calm = record { quiet = record { suffix = rw e; op = rw e; cap = rw e; colon = rw e; hat = rw e; assign = rw e }; doc = rw e }; stops = record { suffix = rw e; op = rw e; assign = rw e; semicolon = rw e; item = rw e }; field = rw e; names = rw e }; functions = rw e; behaviours = rw e; constructors = rw e }
+
+  end_no_entity : y.kind ≡ k.End → begins_entity y ≡ false
+  unfolding begins_entity is_word
+  end_no_entity e = rw e
+
+  end_is : y.kind ≡ k.End → is_end y ≡ true
+  unfolding is_end
+  end_is e = rw e
+
+entity_next : (e : EntityKind) (x : Token) → is_word (entity_word e) x ≡ true → Next x
+entity_next kind.Class x h = class_next x (kind_of_word w.ClassWord x h)
+entity_next kind.Actor x h = actor_next x (kind_of_word w.ActorWord x h)
+entity_next kind.Primitive x h = primitive_next x (kind_of_word w.PrimitiveWord x h)
+entity_next kind.Trait x h = trait_next x (kind_of_word w.TraitWord x h)
+
+begins_by : (e : EntityKind) (x : Token) → is_word (entity_word e) x ≡ true → begins_entity x ≡ true
+unfolding begins_entity is_word same_word
+begins_by kind.Class x h = rw (kind_of_word w.ClassWord x h)
+begins_by kind.Actor x h = rw (kind_of_word w.ActorWord x h)
+begins_by kind.Primitive x h = rw (kind_of_word w.PrimitiveWord x h)
+begins_by kind.Trait x h = rw (kind_of_word w.TraitWord x h)
+
+-- ---- entities
+
+no_cap : (c : Option Cap) (a rest : List Token) → SpellsCap c a → c ≡ None → pure None (a ++ rest) ≡ Ok (c, rest)
+no_cap None a rest h e = ap (λ l. Ok (None, l ++ rest)) h
+no_cap (Some c) a rest h e = absurd (cc)
+
+entity_cap_reads : (e : EntityKind) (c : Option Cap) (a rest : List Token) → SpellsCap c a → MayHaveCap e c → First NoCap rest → entity_cap e (a ++ rest) ≡ Ok (c, rest)
+entity_cap_reads kind.Class c a rest h may f = cap_reads c a rest h f
+entity_cap_reads kind.Trait c a rest h may f = cap_reads c a rest h f
+entity_cap_reads kind.Actor c a rest h may f = no_cap c a rest h may
+entity_cap_reads kind.Primitive c a rest h may f = no_cap c a rest h may
+
+module _ (n : ℕ) where
+  no_fields : (fs : List t.Field) (a rest : List Token) → SpellsFields fs a → fs ≡ [] → pure [] (a ++ rest) ≡ Ok (fs, rest)
+  no_fields [] a rest h e = ap (λ l. Ok ([], l ++ rest)) h
+  no_fields (f ∷ fs) a rest h e = absurd (cc)
+
+  fields_reads : (e : EntityKind) (fs : List t.Field) (a rest : List Token) → SpellsFields fs a → MayHaveFields e fs → fields_depth fs ≤ suc n → First Calm rest → First (NoField n) rest → fields n e (a ++ rest) ≡ Ok (fs, rest)
+  fields_reads kind.Class fs a rest h may d calm last = fields_read n fs a rest h d calm last
+  fields_reads kind.Actor fs a rest h may d calm last = fields_read n fs a rest h d calm last
+  fields_reads kind.Primitive fs a rest h may d calm last = no_fields fs a rest h may
+  fields_reads kind.Trait fs a rest h may d calm last = no_fields fs a rest h may
+
+  entity_parts : (e : t.Entity) (a rest : List Token) (h : SpellsEntity e a) → a ++ rest ≡ h.0 ∷ (h.2 ++ h.1 ∷ (h.3 ++ (h.4 ++ (h.5 ++ (h.6 ++ rest)))))
+  entity_parts e a rest h =
+      let last = ap (λ l. h.4 ++ l) (append_assoc h.5 h.6 rest) in
+      let third = ap (λ l. h.3 ++ l) (append_assoc h.4 (h.5 ++ h.6) rest ∙ last) in
+      let second = ap (λ l. h.2 ++ h.1 ∷ l) (append_assoc h.3 (h.4 ++ (h.5 ++ h.6)) rest ∙ third) in
+      ap (λ l. l ++ rest) h.7 ∙ ap (λ l. h.0 ∷ l) (append_assoc h.2 (h.1 ∷ (h.3 ++ (h.4 ++ (h.5 ++ h.6)))) rest ∙ second)
+
+  abbrev depth_of : t.Entity → ℕ
+  depth_of e = max (fields_depth e.fields) (methods_depth e.methods)
+
+  entity_of_reads : (e : t.Entity) (a rest : List Token) → SpellsEntity e a → depth_of e ≤ suc n → First Next rest → entity_of n e.kind (a ++ rest) ≡ Ok (e, rest)
+  unfolding entity_of take_if
+  entity_of_reads e a rest h d f =
+      let l5 = h.6 ++ rest in
+      let l4 = h.5 ++ l5 in
+      let l3 = h.4 ++ l4 in
+      let l2 = h.3 ++ l3 in
+      let l1 = h.2 ++ h.1 ∷ l2 in
+      let outer : First Outer rest = (f.0, f.1, f.2, f.3.outer) in
+      let last : First (NoMethod n e.kind) rest = (f.0, f.1, f.2, no_method n e.kind f.0 f.3.functions f.3.behaviours f.3.constructors) in
+      let behind = methods_first n e.kind e.methods h.6 rest h.14 outer in
+      let apart : First (NoField n) l5 = (behind.0, behind.1, behind.2, behind.3.field) in
+      let calm = fields_first n e.fields h.5 l5 h.13 (to_calm l5 behind) in
+      let quiet = doc_first h.4 l4 h.12 (to_quiet l4 calm) in
+      let cap = entity_cap_reads e.kind e.cap h.2 (h.1 ∷ l2) h.9 h.15 (h.1, l2, refl, type_no_cap h.1 _ h.10.0) in
+      let step : entity_of n e.kind (h.0 ∷ l1) ≡ Ok (e, rest) =
+        rw (h.8, cap, type_name_read h.1 e.name l2 h.10, provides_reads e.provides h.3 l3 h.11 (to_no_is l3 quiet), doc_reads h.4 l4 h.12 (to_doc l4 calm), fields_reads e.kind e.fields h.5 l5 h.13 h.16 (omega (arith, d)) (to_calm l5 behind) apart, methods_read n e.kind e.methods h.6 rest h.14 (omega (arith, d)) outer last) in
+      ap (entity_of n e.kind) (entity_parts e a rest h) ∙ step
+
+  chosen : (e : EntityKind) (x : Token) (ts : List Token) → is_word (entity_word e) x ≡ true → entity n (x ∷ ts) ≡ entity_of n e (x ∷ ts)
+  unfolding entity peek is_word same_word
+  chosen kind.Class x ts h = rw (kind_of_word w.ClassWord x h)
+  chosen kind.Actor x ts h = rw (kind_of_word w.ActorWord x h)
+  chosen kind.Primitive x ts h = rw (kind_of_word w.PrimitiveWord x h)
+  chosen kind.Trait x ts h = rw (kind_of_word w.TraitWord x h)
+
+  entity_reads : (e : t.Entity) (a rest : List Token) → SpellsEntity e a → depth_of e ≤ suc n → First Next rest → entity n (a ++ rest) ≡ Ok (e, rest)
+  entity_reads e a rest h d f =
+      let here = entity_parts e a rest h in
+      ap (entity n) here ∙ chosen e.kind h.0 _ h.8 ∙ ap (entity_of n e.kind) (sym here) ∙ entity_of_reads e a rest h d f
