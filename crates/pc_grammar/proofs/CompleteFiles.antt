@@ -220,3 +220,41 @@ module _ (n : ℕ) where
   entity_reads e a rest h d f =
       let here = entity_parts e a rest h in
       ap (entity n) here ∙ chosen e.kind h.0 _ h.8 ∙ ap (entity_of n e.kind) (sym here) ∙ entity_of_reads e a rest h d f
+
+  -- ---- files
+
+  entities_first : (es : List t.Entity) (ts : List Token) (x : Token) (more : List Token) → SpellsMoreEntities es ts → x.kind ≡ k.End → First Next (ts ++ x ∷ more)
+  entities_first [] ts x more h last = (x, more, ap (λ l. l ++ x ∷ more) h, end_next x last)
+  entities_first (e ∷ es) ts x more h last =
+      let y = h.3.0 in
+      (y, _, two_parts h.0 h.1 ts (x ∷ more) h.2 ∙ entity_parts e h.0 (h.1 ++ x ∷ more) h.3, entity_next e.kind y h.3.8)
+
+  more_entities : (es : List t.Entity) (ts : List Token) (x : Token) (more : List Token) (i : ℕ) → SpellsMoreEntities es ts → entities_depth es ≤ suc n → length ts ≤ i → x.kind ≡ k.End → many (at begins_entity) (entity n) i (ts ++ x ∷ more) ≡ Ok (es, x ∷ more)
+  more_entities [] ts x more i h d fits last = ap (λ l. many (at begins_entity) (entity n) i (l ++ x ∷ more)) h ∙ many_none (at begins_entity) (entity n) i (x ∷ more) (at_none begins_entity x more (end_no_entity x last))
+  more_entities (e ∷ es) ts x more zero h d fits last = absurd (omega (arith, ap length h.2, ap length h.3.7, length-append h.0 h.1))
+  more_entities (e ∷ es) ts x more (suc i) h d fits last =
+      let b = h.1 ++ x ∷ more in
+      let here = entity_parts e h.0 b h.3 in
+      let one = entity_reads e h.0 b h.3 (omega (arith, d)) (entities_first es h.1 x more h.4 last) in
+      let two = more_entities es h.1 x more i h.4 (omega (arith, d)) (omega (arith, ap length h.2, ap length h.3.7, length-append h.0 h.1)) last in
+      let goes : at begins_entity (h.0 ++ b) ≡ Some (h.0 ++ b) = ap (at begins_entity) here ∙ at_one begins_entity h.3.0 _ (begins_by e.kind h.3.0 h.3.8) ∙ ap Some (sym here) in
+      ap (many (at begins_entity) (entity n) (suc i)) (two_parts h.0 h.1 ts (x ∷ more) h.2) ∙ one_more (at begins_entity) (entity n) i (h.0 ++ b) (h.0 ++ b) b (x ∷ more) e es goes one two
+
+  file_by : (es : List t.Entity) (ts more : List Token) → SpellsFile (record { entities = es }) ts → entities_depth es ≤ suc n → file n (ts ++ more) ≡ Ok (record { entities = es }, more)
+  unfolding file take_if
+  file_by [] ts more h d = absurd h.5
+  file_by (e ∷ es) ts more h d =
+      let g = h.5 in
+      let last = h.2 ∷ more in
+      let l2 = g.1 ++ last in
+      let l1 = g.0 ++ l2 in
+      let here : ts ++ more ≡ h.0 ++ l1 = ap (λ l. l ++ more) h.3 ∙ append_assoc h.0 (h.1 ++ h.2 ∷ []) more ∙ ap (λ l. h.0 ++ l) (append_assoc h.1 (h.2 ∷ []) more ∙ two_parts g.0 g.1 h.1 last g.2) in
+      let first : First NoDoc l1 = (g.3.0, _, entity_parts e g.0 l2 g.3, (entity_next e.kind g.3.0 g.3.8).outer.calm.doc) in
+      let one = entity_reads e g.0 l2 g.3 (omega (arith, d)) (entities_first es g.1 h.2 more g.4 h.6) in
+      let two = all_enough (at begins_entity) (entity n) l2 _ (more_entities es g.1 h.2 more (length l2) g.4 (omega (arith, d)) (omega (arith, length-append g.1 last)) h.6) in
+      let step : file n (h.0 ++ l1) ≡ Ok (record { entities = e ∷ es }, more) = rw (doc_reads h.0 l1 h.4 first, one, two, end_is h.2 h.6) in
+      ap (file n) here ∙ step
+
+  -- A file that is spelled within the levels is read, whatever stands behind its end.
+  pub file_reads : (f : t.File) (ts more : List Token) → SpellsFile f ts → file_depth f ≤ suc n → file n (ts ++ more) ≡ Ok (f, more)
+  file_reads f ts more h d = file_by f.entities ts more h d
