@@ -30,3 +30,4 @@ pub mod CompleteParams
 pub mod CompleteFields
 pub mod CompleteMethods
 pub mod CompleteFiles
+pub mod FileRight
