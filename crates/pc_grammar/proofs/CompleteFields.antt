@@ -1,5 +1,5 @@
 -- Fields that are spelled are read.
-use Rattle.std.proofs.Common.{◌≡◌, ℕ, zero, suc, ◌≤◌, Bool, true, false, ◌||◌, List, [], ◌∷◌, ◌++◌, length, Option, Some, None, Ok, refl, sym, ap, ◌∙◌, subst, arith, append_assoc, length-append}
+use Rattle.std.proofs.Common.{◌≡◌, ℕ, zero, suc, ◌≤◌, Bool, true, false, List, [], ◌∷◌, ◌++◌, length, Option, Some, None, Ok, refl, sym, ap, ◌∙◌, subst, arith, append_assoc, length-append}
 use Rattle.pc_tree.specs.Tree as t
 use Rattle.pc_tree.specs.Measures.{value_depth, fields_depth, depth}
 use Rattle.pc_token.specs.declared.kinds.Token.{Token}
@@ -10,7 +10,7 @@ use Rattle.pc_token.specs.Asking.{is_sign, is_word, same_sign}
 use Rattle.pc_grammar.specs.Asking.{op_of, cap_of, local_word}
 use Rattle.pc_grammar.specs.Spells.{SpellsInfix}
 use Rattle.pc_grammar.specs.SpellsFile.{IsDoc, SpellsValue, SpellsField, SpellsFields}
-use Rattle.pc_grammar.specs.Reading.{pure, ◌>>=◌, peek, take_if, and_then, many, all, at, infix_, begins_suffix}
+use Rattle.pc_grammar.specs.Reading.{pure, peek, take_if, and_then, many, all, at, infix_, begins_suffix}
 use Rattle.pc_grammar.specs.ReadingFile.{is_doc, value, field, begins_field, some_field}
 use Rattle.pc_grammar.proofs.Follow.{kind_of_sign, kind_of_word, assign_no_cap, var_not_let, at_one, at_none}
 use Rattle.pc_grammar.proofs.First.{First}
@@ -107,7 +107,7 @@ module _ (n : ℕ) where
       let first = h.3 ++ second in
       let quiet = doc_first h.5 rest h.12 (to_quiet rest calm) in
       let step : field n f.fixed (h.0 ∷ h.1 ∷ h.2 ∷ first) ≡ Ok (f, rest) =
-        rw (h.7, name_read h.1 f.name (h.2 ∷ first) h.8, h.9, type_reads f.ty h.3 second h.10 (value_first f.value h.4 third h.11 quiet), value_reads f.value h.4 third h.11 d quiet, doc_reads h.5 rest h.12 (to_doc rest calm)) in
+      rw (h.7, name_read h.1 f.name (h.2 ∷ first) h.8, h.9, type_reads f.ty h.3 second h.10 (value_first f.value h.4 third h.11 quiet), value_reads f.value h.4 third h.11 d quiet, doc_reads h.5 rest h.12 (to_doc rest calm)) in
       ap (field n f.fixed) (field_parts f a rest h) ∙ step
 
   fixed_is : (f : Bool) (x : Token) → is_word (local_word f) x ≡ true → is_word w.LetWord x ≡ f

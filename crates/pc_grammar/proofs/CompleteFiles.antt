@@ -1,5 +1,5 @@
 -- Entities and files that are spelled are read.
-use Rattle.std.proofs.Common.{◌≡◌, ℕ, zero, suc, ◌≤◌, max, Bool, true, false, ◌||◌, List, [], ◌∷◌, ◌++◌, length, Option, Some, None, Ok, refl, sym, ap, ◌∙◌, subst, arith, cond, append_assoc, length-append, ◌⊎◌, inl, inr}
+use Rattle.std.proofs.Common.{◌≡◌, ℕ, zero, suc, ◌≤◌, max, Bool, true, false, List, [], ◌∷◌, ◌++◌, length, Option, Some, None, Ok, refl, sym, ap, ◌∙◌, subst, arith, append_assoc, length-append, ◌⊎◌, inl, inr}
 use Rattle.pc_caps.specs.declared.capability.Cap.{Cap}
 use Rattle.pc_tree.specs.Tree as t
 use Rattle.pc_tree.specs.Measures.{fields_depth, methods_depth, entities_depth, file_depth}
@@ -14,8 +14,8 @@ use Rattle.pc_token.specs.declared.signs.Sign.TheVariants as s
 use Rattle.pc_token.specs.Asking.{is_sign, is_word, same_sign, same_word}
 use Rattle.pc_grammar.specs.Asking.{op_of, cap_of}
 use Rattle.pc_grammar.specs.Spells.{SpellsCap}
-use Rattle.pc_grammar.specs.SpellsFile.{SpellsMoreNames, SpellsNames, SpellsAlone, SpellsBracketed, SpellsProvides, entity_word, MayHaveCap, MayHaveFields, SpellsFields, SpellsEntity, SpellsMoreEntities, SpellsEntities, SpellsFile}
-use Rattle.pc_grammar.specs.Reading.{Outcome, pure, ◌>>=◌, ◌>>◌, peek, take_if, and_then, many, all, after, at, type_name, begins_suffix, begins_item}
+use Rattle.pc_grammar.specs.SpellsFile.{SpellsMoreNames, SpellsNames, SpellsAlone, SpellsBracketed, SpellsProvides, entity_word, MayHaveCap, MayHaveFields, SpellsFields, SpellsEntity, SpellsMoreEntities, SpellsFile}
+use Rattle.pc_grammar.specs.Reading.{pure, ◌>>◌, peek, take_if, and_then, many, after, at, type_name, begins_suffix, begins_item}
 use Rattle.pc_grammar.specs.ReadingFile.{is_doc, is_end, type_names, provided, provides, entity_cap, fields, entity_of, entity, begins_entity, begins_field, file}
 use Rattle.pc_grammar.proofs.Follow.{kind_of_sign, kind_of_word, after_sign, after_no_sign, at_one, at_none}
 use Rattle.pc_grammar.proofs.First.{First}
@@ -206,7 +206,7 @@ module _ (n : ℕ) where
       let quiet = doc_first h.4 l4 h.12 (to_quiet l4 calm) in
       let cap = entity_cap_reads e.kind e.cap h.2 (h.1 ∷ l2) h.9 h.15 (h.1, l2, refl, type_no_cap h.1 _ h.10.0) in
       let step : entity_of n e.kind (h.0 ∷ l1) ≡ Ok (e, rest) =
-        rw (h.8, cap, type_name_read h.1 e.name l2 h.10, provides_reads e.provides h.3 l3 h.11 (to_no_is l3 quiet), doc_reads h.4 l4 h.12 (to_doc l4 calm), fields_reads e.kind e.fields h.5 l5 h.13 h.16 (omega (arith, d)) (to_calm l5 behind) apart, methods_read n e.kind e.methods h.6 rest h.14 (omega (arith, d)) outer last) in
+      rw (h.8, cap, type_name_read h.1 e.name l2 h.10, provides_reads e.provides h.3 l3 h.11 (to_no_is l3 quiet), doc_reads h.4 l4 h.12 (to_doc l4 calm), fields_reads e.kind e.fields h.5 l5 h.13 h.16 (omega (arith, d)) (to_calm l5 behind) apart, methods_read n e.kind e.methods h.6 rest h.14 (omega (arith, d)) outer last) in
       ap (entity_of n e.kind) (entity_parts e a rest h) ∙ step
 
   chosen : (e : EntityKind) (x : Token) (ts : List Token) → is_word (entity_word e) x ≡ true → entity n (x ∷ ts) ≡ entity_of n e (x ∷ ts)

@@ -1,5 +1,5 @@
 -- Methods that are spelled are read.
-use Rattle.std.proofs.Common.{◌≡◌, ℕ, zero, suc, ◌≤◌, Bool, true, false, ◌||◌, List, [], ◌∷◌, ◌++◌, length, Option, Some, None, Ok, refl, sym, ap, ◌∙◌, subst, arith, cond, append_assoc, length-append}
+use Rattle.std.proofs.Common.{◌≡◌, ℕ, zero, suc, ◌≤◌, Bool, true, false, ◌||◌, List, [], ◌∷◌, ◌++◌, length, Option, Some, None, Ok, refl, sym, ap, ◌∙◌, arith, cond, append_assoc, length-append}
 use Rattle.pc_caps.specs.declared.capability.Cap.{Cap}
 use Rattle.pc_tree.specs.Tree as t
 use Rattle.pc_tree.specs.Measures.{body_depth, methods_depth, seq_depth}
@@ -15,16 +15,16 @@ use Rattle.pc_token.specs.declared.words.Word.TheVariants as w
 use Rattle.pc_token.specs.declared.signs.Sign.TheVariants as s
 use Rattle.pc_token.specs.Asking.{is_sign, is_word, same_sign, same_word}
 use Rattle.pc_grammar.specs.Asking.{op_of, cap_of}
-use Rattle.pc_grammar.specs.Spells.{SpellsCap, SpellsSeq}
-use Rattle.pc_grammar.specs.SpellsFile.{IsDoc, SpellsReturns, SpellsBody, method_word, entity_word, MayHave, MayReturn, may_stand, HasBody, SpellsMethod, SpellsMethods}
-use Rattle.pc_grammar.specs.Reading.{pure, ◌>>=◌, peek, take_if, and_then, many, all, at, seq, begins_suffix, begins_item, kind_begins}
-use Rattle.pc_grammar.specs.ReadingFile.{kind_is_doc, is_doc, maybe_doc, body, method_cap, method_result, method_of, word_in, begins_method, some_method, begins_field}
+use Rattle.pc_grammar.specs.Spells.{SpellsCap}
+use Rattle.pc_grammar.specs.SpellsFile.{SpellsReturns, SpellsBody, method_word, MayHave, MayReturn, may_stand, HasBody, SpellsMethod, SpellsMethods}
+use Rattle.pc_grammar.specs.Reading.{pure, peek, take_if, many, all, at, seq, begins_suffix, begins_item, kind_begins}
+use Rattle.pc_grammar.specs.ReadingFile.{kind_is_doc, is_doc, body, method_cap, method_result, method_of, word_in, begins_method, some_method, begins_field}
 use Rattle.pc_grammar.proofs.Follow.{Stops_seq, kind_of_sign, kind_of_word, at_one, at_none}
 use Rattle.pc_grammar.proofs.First.{First, first_seq}
 use Rattle.pc_grammar.proofs.Lifts.{many_none}
 use Rattle.pc_grammar.proofs.Steps.{name_read, one_more}
 use Rattle.pc_grammar.proofs.Complete.{complete_seq, two_parts, all_enough}
-use Rattle.pc_grammar.proofs.CompleteParams.{NoDoc, NoCap, doc_reads, cap_reads, returns_reads, params_reads}
+use Rattle.pc_grammar.proofs.CompleteParams.{NoCap, doc_reads, cap_reads, returns_reads, params_reads}
 use Rattle.pc_grammar.proofs.CompleteFields.{Quiet, Calm, to_cap, to_sign, to_quiet, to_doc, doc_first}
 
 -- what stands behind a method: another one, an entity, or the end
@@ -160,7 +160,7 @@ module _ (n : ℕ) where
       let quiet = doc_first h.5 l5 h.13 (to_quiet l5 calm) in
       let cap = method_cap_reads e m.word m.cap h.2 (h.1 ∷ l2) h.9 h.16 (h.1, l2, refl, name_no_cap h.1 _ h.10.0) in
       let step : method_of n e m.word (h.0 ∷ l1) ≡ Ok (m, rest) =
-        rw (h.8, cap, name_read h.1 m.name l2 h.10, params_reads m.params h.3 l3 h.11, method_result_reads m.word m.result h.4 l4 h.12 h.17 quiet, doc_reads h.5 l5 h.13 (to_doc l5 calm), body_reads e m.body h.6 rest h.14 h.18 d f) in
+      rw (h.8, cap, name_read h.1 m.name l2 h.10, params_reads m.params h.3 l3 h.11, method_result_reads m.word m.result h.4 l4 h.12 h.17 quiet, doc_reads h.5 l5 h.13 (to_doc l5 calm), body_reads e m.body h.6 rest h.14 h.18 d f) in
       ap (method_of n e m.word) (method_parts e m a rest h) ∙ step
 
   -- ---- lists of methods

@@ -1,5 +1,5 @@
 -- Docs, results and parameters that are spelled are read.
-use Rattle.std.proofs.Common.{◌≡◌, ℕ, zero, suc, ◌≤◌, Bool, true, false, List, [], ◌∷◌, ◌++◌, length, Option, Some, None, Ok, refl, sym, ap, ◌∙◌, subst, arith, append_assoc, length-append}
+use Rattle.std.proofs.Common.{◌≡◌, ℕ, zero, suc, ◌≤◌, Bool, true, false, List, [], ◌∷◌, ◌++◌, length, Option, Some, None, Ok, sym, ap, ◌∙◌, subst, arith, append_assoc, length-append}
 use Rattle.pc_caps.specs.declared.capability.Cap.{Cap}
 use Rattle.pc_tree.specs.declared.names.TypeRef.{TypeRef}
 use Rattle.pc_tree.specs.declared.file.ParamDef.{ParamDef}
@@ -10,7 +10,7 @@ use Rattle.pc_token.specs.Asking.{is_sign}
 use Rattle.pc_grammar.specs.Asking.{cap_of}
 use Rattle.pc_grammar.specs.Spells.{SpellsCap, SpellsType}
 use Rattle.pc_grammar.specs.SpellsFile.{IsDoc, SpellsHat, SpellsResult, SpellsReturns, SpellsParam, SpellsMoreParams, SpellsParamList, SpellsParams}
-use Rattle.pc_grammar.specs.Reading.{pure, ◌>>=◌, peek, take_if, and_then, many, all, after, maybe_cap, written_type}
+use Rattle.pc_grammar.specs.Reading.{pure, peek, take_if, and_then, many, all, after, maybe_cap, written_type}
 use Rattle.pc_grammar.specs.ReadingFile.{is_doc, maybe_doc, maybe_hat, result_type, returns, param, param_list, params}
 use Rattle.pc_grammar.proofs.Follow.{kind_of_sign, after_sign, after_no_sign, close_no_comma}
 use Rattle.pc_grammar.proofs.First.{First}

@@ -1,5 +1,5 @@
 -- Fields are explained.
-use Rattle.std.proofs.Common.{◌≡◌, ℕ, suc, ◌≤◌, max, Bool, true, false, List, [], ◌∷◌, ◌++◌, Option, Some, None, refl, sym, ap, ◌∙◌, subst, arith, cond}
+use Rattle.std.proofs.Common.{◌≡◌, ℕ, suc, Bool, true, false, List, [], ◌∷◌, ◌++◌, Option, Some, None, refl, sym, ap, ◌∙◌, subst, arith, cond}
 use Rattle.pc_tree.specs.Tree as t
 use Rattle.pc_tree.specs.Measures.{depth, value_depth, fields_depth}
 use Rattle.pc_tree.specs.declared.names.Name.{Name}
@@ -13,7 +13,7 @@ use Rattle.pc_token.specs.declared.signs.Sign.TheVariants as s
 use Rattle.pc_token.specs.Asking.{is_sign, is_word}
 use Rattle.pc_grammar.specs.Asking.{local_word}
 use Rattle.pc_grammar.specs.SpellsFile.{SpellsValue, SpellsField, SpellsFields, MayHaveFields}
-use Rattle.pc_grammar.specs.Reading.{Parser, pure, ◌>>=◌, ◌>>◌, peek, take_if, all, at, name, infix_, inner}
+use Rattle.pc_grammar.specs.Reading.{pure, ◌>>=◌, ◌>>◌, peek, take_if, all, at, name, infix_, inner}
 use Rattle.pc_grammar.specs.ReadingFile.{maybe_doc, value, field, begins_field, some_field, fields}
 use Rattle.pc_grammar.proofs.Explained.{Fits, fits_zero, fits_max, Explained, Then, Tok, Only, Listed, Inhabited, some_only, some_then, explained_bind, explained_weaker, explained_only, explained_refuse, explained_take, explained_all}
 use Rattle.pc_grammar.proofs.ExplainedParts.{explained_cons, taken, ends_nil, joined, begins_one, of_kind, a_word, some_word, InfixIn, NameAt, some_name, explained_name}

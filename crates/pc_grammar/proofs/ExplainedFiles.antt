@@ -1,5 +1,5 @@
 -- Entities and files are explained.
-use Rattle.std.proofs.Common.{◌≡◌, ℕ, suc, max, Bool, true, false, ◌||◌, List, [], ◌∷◌, ◌++◌, Option, Some, None, refl, sym, ap, ap₂, ◌∙◌, subst, cond, append_assoc, ◌⊎◌, inl, inr}
+use Rattle.std.proofs.Common.{◌≡◌, ℕ, suc, max, Bool, true, false, List, [], ◌∷◌, ◌++◌, Option, Some, None, refl, sym, ap, ap₂, ◌∙◌, subst, cond, append_assoc, ◌⊎◌, inl, inr}
 use Rattle.pc_caps.specs.declared.capability.Cap.{Cap}
 use Rattle.pc_tree.specs.Tree as t
 use Rattle.pc_tree.specs.Measures.{fields_depth, methods_depth, entities_depth, file_depth}
@@ -13,11 +13,11 @@ use Rattle.pc_token.specs.declared.words.Word.TheVariants as w
 use Rattle.pc_token.specs.declared.signs.Sign.TheVariants as s
 use Rattle.pc_token.specs.Asking.{is_sign, is_word}
 use Rattle.pc_grammar.specs.Spells.{SpellsCap}
-use Rattle.pc_grammar.specs.SpellsFile.{SpellsMoreNames, SpellsNames, SpellsBracketed, SpellsAlone, SpellsProvides, entity_word, MayHaveCap, SpellsEntity, SpellsMoreEntities, SpellsEntities, SpellsFile}
-use Rattle.pc_grammar.specs.Reading.{Parser, pure, refuse, ◌>>=◌, ◌>>◌, peek, take_if, all, at, after, type_name, maybe_cap}
-use Rattle.pc_grammar.specs.ReadingFile.{kind_is_end, is_end, maybe_doc, type_names, provided, provides, entity_cap, fields, begins_method, some_method, entity_of, entity_at, entity, begins_entity, file}
+use Rattle.pc_grammar.specs.SpellsFile.{SpellsMoreNames, SpellsNames, SpellsBracketed, SpellsAlone, SpellsProvides, entity_word, MayHaveCap, SpellsEntity, SpellsMoreEntities, SpellsFile}
+use Rattle.pc_grammar.specs.Reading.{pure, refuse, ◌>>=◌, ◌>>◌, peek, take_if, at, after, type_name}
+use Rattle.pc_grammar.specs.ReadingFile.{kind_is_end, is_end, maybe_doc, type_names, provided, provides, entity_cap, fields, entity_of, entity, begins_entity, file}
 use Rattle.pc_grammar.proofs.Explained.{Fits, fits_zero, fits_max, Explained, Then, Tok, Only, Listed, Inhabited, some_only, some_then, explained_bind, explained_weaker, explained_only, explained_refuse, explained_take, explained_all}
-use Rattle.pc_grammar.proofs.ExplainedParts.{explained_cons, taken, opened, ends_nil, joined, begins_one, of_kind, a_word, some_word, a_sign, some_sign, TypeNameAt, some_type_name, explained_type_name, explained_cap}
+use Rattle.pc_grammar.proofs.ExplainedParts.{explained_cons, taken, opened, ends_nil, joined, begins_one, of_kind, a_word, some_word, a_sign, TypeNameAt, some_type_name, explained_type_name, explained_cap}
 use Rattle.pc_grammar.proofs.ExplainedAtoms.{Closes, some_close, explained_close, closed, at_is, at_nil}
 use Rattle.pc_grammar.proofs.ExplainedChains.{after_is}
 use Rattle.pc_grammar.proofs.ExplainedParams.{DocAt, some_doc, explained_doc}

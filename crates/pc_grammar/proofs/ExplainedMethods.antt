@@ -1,5 +1,5 @@
 -- Methods are explained.
-use Rattle.std.proofs.Common.{◌≡◌, ℕ, suc, max, Bool, true, false, ◌||◌, List, [], ◌∷◌, ◌++◌, Option, Some, None, refl, sym, ap, ◌∙◌, subst, cond}
+use Rattle.std.proofs.Common.{◌≡◌, ℕ, suc, Bool, true, false, ◌||◌, List, [], ◌∷◌, ◌++◌, Option, Some, None, refl, sym, ap, ◌∙◌, subst, cond}
 use Rattle.pc_caps.specs.declared.capability.Cap.{Cap}
 use Rattle.pc_tree.specs.Tree as t
 use Rattle.pc_tree.specs.Measures.{seq_depth, body_depth, methods_depth}
@@ -14,10 +14,10 @@ use Rattle.pc_token.specs.declared.kinds.Token.{Token}
 use Rattle.pc_token.specs.declared.kinds.TokenKind.TheVariants as k
 use Rattle.pc_token.specs.declared.signs.Sign.TheVariants as s
 use Rattle.pc_token.specs.Asking.{is_sign, is_word}
-use Rattle.pc_grammar.specs.Spells.{SpellsCap, SpellsSeq}
-use Rattle.pc_grammar.specs.SpellsFile.{IsDoc, SpellsReturns, SpellsParams, SpellsBody, method_word, MayHave, MayReturn, may_stand, HasBody, SpellsMethod, SpellsMethods}
-use Rattle.pc_grammar.specs.Reading.{Parser, pure, ◌>>=◌, ◌>>◌, peek, take_if, all, at, name, maybe_cap, seq, inner}
-use Rattle.pc_grammar.specs.ReadingFile.{maybe_doc, returns, params, body, method_cap, method_result, method_of, word_in, begins_method, some_method}
+use Rattle.pc_grammar.specs.Spells.{SpellsCap}
+use Rattle.pc_grammar.specs.SpellsFile.{SpellsReturns, SpellsParams, SpellsBody, method_word, MayHave, MayReturn, may_stand, HasBody, SpellsMethod, SpellsMethods}
+use Rattle.pc_grammar.specs.Reading.{◌>>◌, peek, take_if, all, at, name, seq, inner}
+use Rattle.pc_grammar.specs.ReadingFile.{maybe_doc, params, body, method_cap, method_result, method_of, word_in, begins_method, some_method}
 use Rattle.pc_grammar.proofs.Explained.{Fits, fits_zero, fits_max, Explained, Then, Tok, Only, Listed, Inhabited, some_only, some_then, explained_bind, explained_weaker, explained_only, explained_take, explained_all}
 use Rattle.pc_grammar.proofs.ExplainedParts.{ends_nil, joined, begins_one, of_kind, a_word, some_word, a_sign, some_sign, SeqIn, some_seq, NameAt, some_name, explained_name, explained_cap}
 use Rattle.pc_grammar.proofs.ExplainedAtoms.{at_is, at_nil}

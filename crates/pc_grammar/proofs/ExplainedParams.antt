@@ -9,12 +9,12 @@ use Rattle.pc_token.specs.declared.kinds.TokenKind.{TokenKind}
 use Rattle.pc_token.specs.declared.kinds.TokenKind.TheVariants as k
 use Rattle.pc_token.specs.declared.signs.Sign.TheVariants as s
 use Rattle.pc_token.specs.Asking.{is_sign}
-use Rattle.pc_grammar.specs.Spells.{IsName, IsTypeName, SpellsCap, SpellsType}
+use Rattle.pc_grammar.specs.Spells.{SpellsCap, SpellsType}
 use Rattle.pc_grammar.specs.SpellsFile.{IsDoc, SpellsHat, SpellsResult, SpellsReturns, SpellsParam, SpellsMoreParams, SpellsParamList, SpellsParams}
-use Rattle.pc_grammar.specs.Reading.{Parser, pure, ◌>>=◌, ◌>>◌, peek, take_if, take_any, all, after, name, type_name, maybe_cap, written_type}
+use Rattle.pc_grammar.specs.Reading.{pure, ◌>>=◌, ◌>>◌, peek, take_if, take_any, all, after, name, type_name, maybe_cap, written_type}
 use Rattle.pc_grammar.specs.ReadingFile.{kind_is_doc, is_doc, maybe_doc, maybe_hat, result_type, returns, param, param_list, params}
 use Rattle.pc_grammar.proofs.Explained.{Explained, Then, Tok, Only, Listed, Inhabited, some_only, some_then, explained_bind, explained_weaker, explained_only, explained_refuse, explained_take, explained_all}
-use Rattle.pc_grammar.proofs.ExplainedParts.{explained_cons, taken, opened, ends_nil, joined, begins_one, of_kind, a_sign, some_sign, NameAt, TypeNameAt, some_name, some_type_name, some_type, explained_name, explained_type_name, explained_cap, explained_type}
+use Rattle.pc_grammar.proofs.ExplainedParts.{explained_cons, taken, ends_nil, joined, begins_one, of_kind, a_sign, some_sign, NameAt, TypeNameAt, some_name, some_type_name, some_type, explained_name, explained_type_name, explained_cap, explained_type}
 use Rattle.pc_grammar.proofs.ExplainedAtoms.{Closes, some_close, explained_close, closed}
 use Rattle.pc_grammar.proofs.ExplainedChains.{after_is}
 

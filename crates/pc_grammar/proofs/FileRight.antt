@@ -1,5 +1,5 @@
 -- What reading a file answers is right.
-use Rattle.std.proofs.Common.{◌≡◌, ℕ, suc, ◌≤◌, max, true, List, [], ◌∷◌, ◌++◌, length, Ok, Err, refl, sym, ap, ◌∙◌, subst, arith, inl, inr, append_assoc, append-nil}
+use Rattle.std.proofs.Common.{◌≡◌, ℕ, suc, max, true, List, [], ◌∷◌, ◌++◌, length, Ok, Err, refl, sym, ap, ◌∙◌, subst, arith, inl, inr, append_assoc, append-nil}
 use Rattle.pc_tree.specs.Tree as t
 use Rattle.pc_tree.specs.Measures.{file_depth}
 use Rattle.pc_token.specs.declared.kinds.Token.{Token}
@@ -44,10 +44,15 @@ nothing_begins n pre x more ends apart begins =
 -- What is read is spelled, within the levels, and goes no further.
 pub file_is_read : (n : ℕ) (ts rest : List Token) (f : t.File) → file n ts ≡ Ok (f, rest) → IsRead SpellsFile file_depth (suc n) ts f rest
 file_is_read n ts rest f e =
-    let h = subst (λ o. Explained true (FileIn true n) ts o) e (explained_file true n ts) in
-    (h.0, h.1, h.2.0, h.2.1, λ x more eq begins.
-        let read : file n (h.0 ++ x ∷ more) ≡ Ok (f, rest) = ap (file n) (ap (λ l. h.0 ++ l) (sym eq) ∙ sym h.1) ∙ e in
-        nothing_begins n h.0 x more (ap rest_of read ∙ eq) (λ r g. ok_apart f rest r (sym read ∙ g)) begins)
+    let h = subst (λ o. Explained true (FileIn true n) ts o) e (explained_file true n ts) in (
+      h.0,
+      h.1,
+      h.2.0,
+      h.2.1,
+      λ x more eq begins.
+          let read : file n (h.0 ++ x ∷ more) ≡ Ok (f, rest) = ap (file n) (ap (λ l. h.0 ++ l) (sym eq) ∙ sym h.1) ∙ e in
+          nothing_begins n h.0 x more (ap rest_of read ∙ eq) (λ r g. ok_apart f rest r (sym read ∙ g)) begins,
+    )
 
 -- a file whose tokens are read no further than the front of a list is not spelled by that front
 is_none : (n : ℕ) (pre : List Token) (x : Token) (more : List Token) → file n (pre ++ x ∷ more) ≡ Err (unexpected, x ∷ more) → SpellsNone SpellsFile pre
@@ -63,10 +68,15 @@ is_none n pre x more e f spelled =
 pub file_is_refused : (n : ℕ) (ts : List Token) (x : Token) (rest : List Token) → file n ts ≡ Err (unexpected, x ∷ rest) → IsRefused SpellsFile file_depth (suc n) ts (x ∷ rest)
 file_is_refused n ts x rest e =
     let h = subst (λ o. Explained true (FileIn true n) ts o) e (explained_file true n ts) in
-    let read : file n (h.0 ++ x ∷ rest) ≡ Err (unexpected, x ∷ rest) = ap (file n) (sym h.3) ∙ e in
-    (h.0, h.3, (h.1, h.2, h.4.0, h.4.1), is_none n h.0 x rest read, λ y more eq begins.
-        let there : file n (h.0 ++ y ∷ more) ≡ Err (unexpected, x ∷ rest) = ap (file n) (ap (λ l. h.0 ++ l) (sym eq) ∙ sym h.3) ∙ e in
-        nothing_begins n h.0 y more (ap rest_of there ∙ eq) (λ r g. fault_apart (x ∷ rest) r (sym there ∙ g)) begins)
+    let read : file n (h.0 ++ x ∷ rest) ≡ Err (unexpected, x ∷ rest) = ap (file n) (sym h.3) ∙ e in (
+      h.0,
+      h.3,
+      (h.1, h.2, h.4.0, h.4.1),
+      is_none n h.0 x rest read,
+      λ y more eq begins.
+          let there : file n (h.0 ++ y ∷ more) ≡ Err (unexpected, x ∷ rest) = ap (file n) (ap (λ l. h.0 ++ l) (sym eq) ∙ sym h.3) ∙ e in
+          nothing_begins n h.0 y more (ap rest_of there ∙ eq) (λ r g. fault_apart (x ∷ rest) r (sym there ∙ g)) begins,
+    )
 
 -- A list of tokens spells at most one file.
 pub file_is_one : IsOne SpellsFile
