@@ -191,14 +191,14 @@ chain_made e t.no_suffixes sp some h = absurd some
 chain_made e (t.suffix x ss) sp some h = rw (suffixes_back ss, h)
 
 -- enough turns are those of the whole list
-all_enough : {A : Type 0} (next : List Token → Option (List Token)) (p : Parser A) (ts : List Token) (r : List A × List Token) → many next p (length ts) ts ≡ Ok r → all next p ts ≡ Ok r
+pub all_enough : {A : Type 0} (next : List Token → Option (List Token)) (p : Parser A) (ts : List Token) (r : List A × List Token) → many next p (length ts) ts ≡ Ok r → all next p ts ≡ Ok r
 unfolding all
 all_enough next p ts r h = h
 
-one_token : (x y : Token) (a b : List Token) (more : List Token) (ts : List Token) → ts ≡ x ∷ (a ++ b) → ts ++ y ∷ more ≡ x ∷ (a ++ (b ++ y ∷ more))
+pub one_token : (x y : Token) (a b : List Token) (more : List Token) (ts : List Token) → ts ≡ x ∷ (a ++ b) → ts ++ y ∷ more ≡ x ∷ (a ++ (b ++ y ∷ more))
 one_token x y a b more ts e = ap (λ l. l ++ y ∷ more) e ∙ ap (λ l. x ∷ l) (append_assoc a b (y ∷ more))
 
-two_parts : (a b ts zs : List Token) → ts ≡ a ++ b → ts ++ zs ≡ a ++ (b ++ zs)
+pub two_parts : (a b ts zs : List Token) → ts ≡ a ++ b → ts ++ zs ≡ a ++ (b ++ zs)
 two_parts a b ts zs e = ap (λ l. l ++ zs) e ∙ append_assoc a b zs
 
 three_parts : (n a b ts zs : List Token) → ts ≡ n ++ (a ++ b) → ts ++ zs ≡ n ++ (a ++ (b ++ zs))

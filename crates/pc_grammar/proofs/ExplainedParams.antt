@@ -9,12 +9,13 @@ use Rattle.pc_token.specs.declared.kinds.TokenKind.{TokenKind}
 use Rattle.pc_token.specs.declared.kinds.TokenKind.TheVariants as k
 use Rattle.pc_token.specs.declared.signs.Sign.TheVariants as s
 use Rattle.pc_token.specs.Asking.{is_sign}
-use Rattle.pc_grammar.specs.Spells.{IsName, IsTypeName, SpellsCap, SpellsType}
+use Rattle.pc_grammar.specs.Spells.{SpellsCap, SpellsType}
 use Rattle.pc_grammar.specs.SpellsFile.{IsDoc, SpellsHat, SpellsResult, SpellsReturns, SpellsParam, SpellsMoreParams, SpellsParamList, SpellsParams}
-use Rattle.pc_grammar.specs.Reading.{Parser, pure, ◌>>=◌, ◌>>◌, peek, take_if, take_any, all, after, name, type_name, maybe_cap, written_type}
+use Rattle.pc_grammar.specs.Reading.{pure, ◌>>=◌, ◌>>◌, peek, take_if, take_any, all, after, name, type_name, maybe_cap, written_type}
 use Rattle.pc_grammar.specs.ReadingFile.{kind_is_doc, is_doc, maybe_doc, maybe_hat, result_type, returns, param, param_list, params}
 use Rattle.pc_grammar.proofs.Explained.{Explained, Then, Tok, Only, Listed, Inhabited, some_only, some_then, explained_bind, explained_weaker, explained_only, explained_refuse, explained_take, explained_all}
-use Rattle.pc_grammar.proofs.ExplainedParts.{explained_cons, taken, opened, ends_nil, joined, begins_one, of_kind, a_sign, some_sign, NameAt, TypeNameAt, some_name, some_type_name, some_type, explained_name, explained_type_name, explained_cap, explained_type}
+use Rattle.pc_grammar.proofs.ExplainedParts.{explained_cons, taken, ends_nil, joined, begins_one, of_kind, a_sign, some_sign, NameAt, TypeNameAt, some_name, some_type_name, some_type, explained_name, explained_type_name, explained_cap, explained_type}
+use Rattle.pc_grammar.proofs.ExplainedAtoms.{Closes, some_close, explained_close, closed}
 use Rattle.pc_grammar.proofs.ExplainedChains.{after_is}
 
 -- ---- docs
@@ -181,3 +182,38 @@ module _ (u : Bool) where
   unfolding param_list peek
   explained_param_list [] = explained_refuse u SpellsParamList [] ([], [], refl)
   explained_param_list (x ∷ ts) = param_list_by x ts (is_sign s.CloseParen x)
+
+  abbrev OpenList : List ParamDef → List Token → Type 0
+  OpenList = Then (Tok (is_sign s.OpenParen)) (λ _. SpellsParamList)
+
+  some_open_list : Inhabited OpenList
+  some_open_list = some_then (Tok (is_sign s.OpenParen)) (λ _. SpellsParamList) (some_sign s.OpenParen) (λ _. ([], [], refl))
+
+  explained_open_list : (ts : List Token) → Explained u OpenList ts ((take_if (is_sign s.OpenParen) >> param_list) ts)
+  explained_open_list ts = explained_bind (Tok (is_sign s.OpenParen)) (λ _. SpellsParamList) u ts (λ _. param_list) (take_if (is_sign s.OpenParen) ts) (explained_take u (is_sign s.OpenParen) (of_kind (k.Sign s.OpenParen)) (a_sign s.OpenParen) ts) (λ y r e. explained_param_list r) (λ _. ([], [], refl))
+
+  abbrev ParamsEnd : List ParamDef → List ParamDef → List Token → Type 0
+  ParamsEnd ps = Closes (is_sign s.CloseParen) (λ _. ps)
+
+  some_params_end : (ps : List ParamDef) → Inhabited (ParamsEnd ps)
+  some_params_end ps = some_close u (is_sign s.CloseParen) (λ _. ps) (of_kind (k.Sign s.CloseParen)) (a_sign s.CloseParen)
+
+  params_whole : (v : List ParamDef) (a : List Token) → Then OpenList ParamsEnd v a → SpellsParams v a
+  params_whole v a h =
+      let o = h.4 in
+      let j = h.5 in
+      let x = o.0 in
+      let y = j.0 in
+      let front : h.1 ≡ x ∷ o.2 = begins_one x h.1 o.1 o.2 o.2 o.3 o.4.0 refl in
+      let cut : a ≡ x ∷ (o.2 ++ y ∷ []) = joined a h.1 h.2 (y ∷ []) h.3 (closed u (is_sign s.CloseParen) (λ _. h.0) v h.2 j) ∙ ap (λ l. l ++ y ∷ []) front in
+      subst (λ v. SpellsParams v a) (sym j.5.1) (x, y, o.2, cut, o.4.1, o.5, j.4.1)
+
+  pub some_params : Inhabited SpellsParams
+  some_params = let r = some_then OpenList ParamsEnd some_open_list some_params_end in (r.0, r.1, params_whole r.1 r.0 r.2)
+
+  pub explained_params : (ts : List Token) → Explained u SpellsParams ts (params ts)
+  unfolding params
+  explained_params ts =
+      explained_weaker u (Then OpenList ParamsEnd) SpellsParams ts _ params_whole
+      (explained_bind OpenList ParamsEnd u ts _ _ (explained_open_list ts)
+      (λ ps r e. explained_close u (is_sign s.CloseParen) (λ _. ps) (of_kind (k.Sign s.CloseParen)) (a_sign s.CloseParen) r) some_params_end)

@@ -23,3 +23,11 @@ pub mod OneAnswer
 pub mod LocalFile
 pub mod AgreeFile
 pub mod ExplainedParams
+pub mod ExplainedFields
+pub mod ExplainedMethods
+pub mod ExplainedFiles
+pub mod CompleteParams
+pub mod CompleteFields
+pub mod CompleteMethods
+pub mod CompleteFiles
+pub mod FileRight

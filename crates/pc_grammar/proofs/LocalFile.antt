@@ -4,12 +4,11 @@ use Rattle.pc_tree.specs.declared.kinds.EntityKind.{EntityKind}
 use Rattle.pc_tree.specs.declared.kinds.EntityKind.TheVariants as kind
 use Rattle.pc_tree.specs.declared.kinds.MethodWord.{MethodWord}
 use Rattle.pc_tree.specs.declared.kinds.MethodWord.TheVariants as method
-use Rattle.pc_token.specs.declared.kinds.Token.{Token}
 use Rattle.pc_token.specs.declared.words.Word.TheVariants as w
 use Rattle.pc_token.specs.declared.signs.Sign.TheVariants as s
 use Rattle.pc_token.specs.Asking.{is_sign, is_word}
-use Rattle.pc_grammar.specs.Reading.{Parser, after, at, type_name, inner}
-use Rattle.pc_grammar.specs.ReadingFile.{is_doc, maybe_doc, maybe_hat, result_type, returns, param, param_list, params, value, field, begins_field, some_field, fields, body, method_cap, method_result, method_of, word_in, begins_method, some_method, type_names, provided, provides, entity_cap, entity_of, entity_at, entity, begins_entity, file}
+use Rattle.pc_grammar.specs.Reading.{after, at, type_name, inner}
+use Rattle.pc_grammar.specs.ReadingFile.{is_doc, maybe_doc, maybe_hat, result_type, returns, param, param_list, params, value, field, begins_field, some_field, fields, body, method_cap, method_result, method_of, word_in, begins_method, some_method, type_names, provided, provides, entity_cap, entity_of, entity, begins_entity, file}
 use Rattle.pc_grammar.proofs.Local.{Local, local_bind, local_pure, local_peek, local_take}
 use Rattle.pc_grammar.proofs.LocalLoops.{after_ahead, at_ahead, local_all}
 use Rattle.pc_grammar.proofs.LocalRules.{Good, good_bind, good_then, good_take, good_cond, good_refuse, local_cond, good_name, good_type_name, local_maybe_cap, good_written_type, good_inner, good_infix, good_seq}

@@ -1,8 +1,11 @@
 -- What the reading says of the tokens, and that nothing is spelled in two ways.
-use Rattle.std.specs.Prelude.{◌≡◌, ℕ, List, ◌∷◌, Ok, Err}
-use Rattle.pc_tree.specs.Measures.{depth, seq_depth}
+use Rattle.std.specs.Prelude.{◌≡◌, ℕ, suc, List, ◌∷◌, Ok, Err}
+use Rattle.pc_tree.specs.Measures.{depth, seq_depth, file_depth}
+use Rattle.pc_tree.specs.Tree as t
 use Rattle.pc_token.specs.declared.kinds.Token.{Token}
 use Rattle.pc_grammar.specs.Spells.{Spells, SpellsInfix, SpellsSeq}
+use Rattle.pc_grammar.specs.SpellsFile.{SpellsFile}
+use Rattle.pc_grammar.specs.ReadingFile.{file}
 use Rattle.pc_grammar.specs.Begins.{IsOne, IsOneAnswer, IsRead, IsRefused, IsTooDeep}
 use Rattle.pc_grammar.specs.Reading.{Parser, unexpected, too_deep, seq, expr, infix_}
 
@@ -60,3 +63,13 @@ ExprOneAnswer = (n : ℕ) → IsOneAnswer Spells depth n
 
 abbrev pub InfixOneAnswer : Type 0
 InfixOneAnswer = (n : ℕ) → IsOneAnswer SpellsInfix depth n
+
+-- of files, with n levels in a body or a value: a body stands at level 1
+abbrev pub FileReadsRight : Type 0
+FileReadsRight = (n : ℕ) (ts rest : List Token) (f : t.File) → file n ts ≡ Ok (f, rest) → IsRead SpellsFile file_depth (suc n) ts f rest
+
+abbrev pub FileRefusesRight : Type 0
+FileRefusesRight = (n : ℕ) (ts : List Token) (x : Token) (rest : List Token) → file n ts ≡ Err (unexpected, x ∷ rest) → IsRefused SpellsFile file_depth (suc n) ts (x ∷ rest)
+
+abbrev pub FileIsOne : Type 0
+FileIsOne = IsOne SpellsFile

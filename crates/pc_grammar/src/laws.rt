@@ -1,4 +1,4 @@
-ghost use Rattle.pc_grammar.specs.Laws.{SeqIsOne, SeqOneAnswer, SeqReadsRight, SeqRefusesRight, SeqDeepRight, ExprIsOne, ExprOneAnswer, ExprReadsRight, ExprRefusesRight, ExprDeepRight, InfixOneAnswer, InfixReadsRight, InfixRefusesRight, InfixDeepRight};
+ghost use Rattle.pc_grammar.specs.Laws.{SeqIsOne, SeqOneAnswer, SeqReadsRight, SeqRefusesRight, SeqDeepRight, ExprIsOne, ExprOneAnswer, ExprReadsRight, ExprRefusesRight, ExprDeepRight, InfixOneAnswer, InfixReadsRight, InfixRefusesRight, InfixDeepRight, FileReadsRight, FileRefusesRight, FileIsOne};
 
 /// Reading a sequence with one token ahead is right. What is read is spelled by the tokens that are gone, within the levels,
 /// and the next token does not go on with it. Where a token is unexpected, those before it begin a sequence within the
@@ -28,4 +28,13 @@ pub fn infixes_are_read()
     ensures refuses { InfixRefusesRight }
     ensures deep { InfixDeepRight }
     ensures answer { InfixOneAnswer }
+{}
+
+/// Reading a file with one token ahead is right, where no level is too many: what is read is spelled, within the levels, and
+/// goes no further; where a token is unexpected, those before it begin a file within the levels and are none, and with it
+/// none begins. And a list of tokens spells at most one file.
+pub fn files_are_read()
+    ensures reads { FileReadsRight }
+    ensures refuses { FileRefusesRight }
+    ensures one { FileIsOne }
 {}
