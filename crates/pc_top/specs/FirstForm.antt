@@ -20,6 +20,6 @@ CoreOf bytes core = (p : Program) × Says bytes p × (core_of p ≡ core)
 abbrev pub IsDerivable : List ℕ → Type 0
 IsDerivable bytes = (core : CoreData) × CoreOf bytes core × Derivable core
 
--- The source has a core, and the core has none.
+-- The source has a core, and the core has no derivation.
 abbrev pub IsUnderivable : List ℕ → Type 0
 IsUnderivable bytes = (core : CoreData) × CoreOf bytes core × (Derivable core → ⊥)
