@@ -1,0 +1,5 @@
+pub mod Words
+pub mod Faults
+pub mod Chains
+pub mod Counts
+pub mod Mains

@@ -1,0 +1,6 @@
+//! The names of a file: the numbers of its entities, what is above each by its `is` lists, and that it has a `Main`.
+#![tactic(auto)]
+
+mod fault;
+
+pub use fault::{NameFault, Which};
