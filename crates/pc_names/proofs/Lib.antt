@@ -1,0 +1,3 @@
+mod Views
+mod Firsts
+mod Stops

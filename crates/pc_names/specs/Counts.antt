@@ -13,7 +13,7 @@ different known (x ∷ xs) = if is_among x known then different known xs else x 
 -- The names of the methods of entity number a, which is none of the built-in ones.
 abbrev pub names_in : Option t.Entity → List Text
 names_in None = []
-names_in (Some e) = method_texts e
+names_in (Some e) = method_texts e.methods
 
 abbrev pub names_at : t.File → ℕ → List Text
 names_at file a = names_in (slice_get file.entities (a - first_own))
@@ -23,7 +23,7 @@ names_at file a = names_in (slice_get file.entities (a - first_own))
 abbrev pub methods_of : t.File → t.Entity → List ℕ → ℕ
 methods_of file e above =
     if is_trait e.kind
-    then length (different [] (method_texts e ++ flat_map (names_at file) above))
+    then length (different [] (method_texts e.methods ++ flat_map (names_at file) above))
     else length e.methods + (if has_added e then 1 else 0)
 
 -- The methods of these entities, with what is above each.

@@ -1,4 +1,5 @@
 pub mod Words
+pub mod Tables
 pub mod Faults
 pub mod Chains
 pub mod Counts

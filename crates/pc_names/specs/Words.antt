@@ -20,9 +20,13 @@ is_among text texts = list_any (bytes_eq text) texts
 abbrev pub built_in_names : List Text
 built_in_names = codes "None" ∷ codes "U64" ∷ codes "Bool" ∷ codes "String" ∷ codes "Env" ∷ codes "OutStream" ∷ []
 
+-- The names of entities.
+abbrev pub texts_of : List t.Entity → List Text
+texts_of es = map (λ (e : t.Entity). e.name.text) es
+
 -- All entities of a file, by their names in the order of their numbers.
 abbrev pub entity_names : t.File → List Text
-entity_names file = built_in_names ++ map (λ (e : t.Entity). e.name.text) file.entities
+entity_names file = built_in_names ++ texts_of file.entities
 
 -- The names of its traits.
 abbrev pub is_trait : EntityKind → Bool

@@ -1,6 +1,9 @@
 //! What may be wrong with the names of a file.
 
+ghost use Rattle.std.specs.Prelude.{◌≡◌};
+
 use pc_caps::Span;
+use std::alloc::AllocError;
 
 /// What a file has too many of.
 #[derive(Clone, Copy, Debug, PartialEq, Eq)]
@@ -36,4 +39,14 @@ pub enum NameFault {
     TooMany(Which, Span),
     /// Memory ran out.
     Memory,
+}
+
+impl From<AllocError> for NameFault {
+    ghost use Rattle.pc_names.specs.declared.fault.NameFault.TheVariants.{Memory};
+
+    ghost from_gives = { λ _ e. e ≡ Memory };
+
+    fn from(_: AllocError) -> NameFault {
+        NameFault::Memory
+    }
 }

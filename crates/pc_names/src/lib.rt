@@ -1,6 +1,11 @@
 //! The names of a file: the numbers of its entities, what is above each by its `is` lists, and that it has a `Main`.
 #![tactic(auto)]
 
+mod constructors;
+mod declarations;
+mod entities;
 mod fault;
+mod table;
 
 pub use fault::{NameFault, Which};
+pub use table::NameTable;
