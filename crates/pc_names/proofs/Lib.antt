@@ -1,3 +1,4 @@
 mod Views
 mod Firsts
 mod Stops
+mod Reaches

@@ -4,3 +4,4 @@ pub mod Faults
 pub mod Chains
 pub mod Counts
 pub mod Mains
+pub mod Reach

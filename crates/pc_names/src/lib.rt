@@ -5,6 +5,7 @@ mod constructors;
 mod declarations;
 mod entities;
 mod fault;
+mod reach;
 mod table;
 
 pub use fault::{NameFault, Which};
