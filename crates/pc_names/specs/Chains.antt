@@ -1,9 +1,11 @@
 -- Chains of `is`, from an entity to the traits that it stands for.
-use Rattle.std.specs.Prelude.{◌≡◌, ◌↔◌, ℕ, ◌+◌, true, List, [], ◌∷◌, ◌++◌, map, length, Option, Some, None, slice_get, replicate}
+use Rattle.std.specs.Prelude.{◌≡◌, ◌↔◌, ℕ, ◌+◌, true, List, [], ◌∷◌, ◌++◌, map, length, Option, Some, None, slice_get, replicate, option_to_list, position}
 use Rattle.pc_core.specs.Words.{Each, Has, Ascends}
 use Rattle.pc_tree.specs.declared.names.Name.{Name}
 use Rattle.pc_tree.specs.Tree as t
-use Rattle.pc_names.specs.Words.{Text, entity_of, is_trait}
+use Rattle.pc_names.specs.Words.{Text, entity_names, entity_of, is_trait}
+use Rattle.pc_names.specs.Reach.{Edges}
+use Rattle.std.specs.Str.{bytes_eq}
 
 -- The number of the first entity of the file.
 abbrev pub first_own : ℕ
@@ -32,3 +34,18 @@ IsAbove file a above = Ascends above × ((b : ℕ) → Has above b ↔ Leads fil
 
 abbrev pub Closes : t.File → List (List ℕ) → Type 0
 Closes file lists = (length lists ≡ first_own + length file.entities) × Each (λ a above. IsAbove file a above) lists
+
+-- ---- the `is` lists, as edges between numbers
+
+-- The numbers of those names that are entities.
+abbrev pub numbers_of : List Text → List Name → List ℕ
+numbers_of entities [] = []
+numbers_of entities (n ∷ ns) = option_to_list (position (bytes_eq n.text) entities) ++ numbers_of entities ns
+
+abbrev pub own_edges : List Text → List t.Entity → Edges
+own_edges entities [] = []
+own_edges entities (e ∷ es) = numbers_of entities e.provides ∷ own_edges entities es
+
+-- For each entity, those that its `is` list names. The built-in ones have none.
+abbrev pub edges_of : t.File → Edges
+edges_of file = replicate first_own [] ++ own_edges (entity_names file) file.entities

@@ -9,7 +9,8 @@ use Rattle.pc_tree.specs.Tree as t
 use Rattle.pc_names.specs.declared.fault.NameFault.{NameFault}
 use Rattle.pc_names.specs.declared.fault.NameFault.TheVariants as fault
 use Rattle.pc_names.specs.declared.fault.Which.TheVariants as which
-use Rattle.pc_names.specs.Words.{Text, is_among, entity_names, trait_names, built_in_names, has_added}
+use Rattle.pc_names.specs.Words.{Text, is_among, entity_names, has_added}
+use Rattle.pc_names.specs.Tables.{trait_names}
 
 -- A fault where the test holds.
 abbrev pub where_ : Bool → NameFault → List NameFault

@@ -1,7 +1,9 @@
 pub mod Words
 pub mod Tables
 pub mod Faults
+pub mod Reach
 pub mod Chains
+pub mod Cycles
 pub mod Counts
 pub mod Mains
-pub mod Reach
+pub mod Names

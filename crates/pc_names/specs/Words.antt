@@ -28,14 +28,9 @@ texts_of es = map (λ (e : t.Entity). e.name.text) es
 abbrev pub entity_names : t.File → List Text
 entity_names file = built_in_names ++ texts_of file.entities
 
--- The names of its traits.
 abbrev pub is_trait : EntityKind → Bool
 is_trait kind.Trait = true
 is_trait k = false
-
-abbrev pub trait_names : List t.Entity → List Text
-trait_names [] = []
-trait_names (e ∷ es) = if is_trait e.kind then e.name.text ∷ trait_names es else trait_names es
 
 -- The number of the entity of this name.
 abbrev pub entity_of : t.File → Text → Option ℕ

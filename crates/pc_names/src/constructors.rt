@@ -7,8 +7,8 @@ ghost use Rattle.pc_names.specs.Words as spec;
 
 use pc_tree::{Entity, EntityKind, MethodDef, MethodWord};
 
-// Whether the word is `new`.
-fn is_new(word: MethodWord) -> bool
+/// Whether the word is `new`.
+pub(crate) fn is_new(word: MethodWord) -> bool
     ensures { result ≡ spec.is_new word }
 {
     matches!(word, MethodWord::New)

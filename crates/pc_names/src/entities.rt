@@ -2,11 +2,12 @@
 ghost use Rattle.std.specs.Prelude.{◌≡◌, ◌++◌, ◌≤◌, map, length, IfOk};
 ghost use Rattle.pc_tree.specs.View.{entity_view, file_view};
 ghost use Rattle.pc_names.specs.Faults.{Tells, entity_name_faults, entity_limit};
+ghost use Rattle.pc_names.specs.Tables.{trait_names, with_traits};
 ghost use Rattle.pc_names.specs.Words.{built_in_names, entity_names, texts_of};
 
 use crate::fault::{NameFault, Which};
 use crate::table::NameTable;
-use pc_tree::{Entity, File};
+use pc_tree::{Entity, EntityKind, File};
 use std::alloc::{AllocError, Global};
 
 /// How many entities there may be, with the six that are built in.
@@ -51,4 +52,23 @@ pub(crate) fn table_entities(alloc: Global, file: &File) -> Result<NameTable, Na
     ensures names { IfOk result (λ t. t ≡ entity_names (file_view file.now)) }
 {
     add_entities(table_built_in(alloc)?, file.entities.as_slice())
+}
+
+// Puts the names of the traits among these entities behind the others.
+fn add_traits(mut table: NameTable, entities: &[Entity]) -> Result<NameTable, AllocError>
+    ensures { IfOk result (λ t. t ≡ with_traits table (map entity_view entities.now)) }
+{
+    for entity in entities {
+        if matches!(entity.kind, EntityKind::Trait) {
+            table.add(entity.name.text.as_slice())?;
+        }
+    }
+    Ok(table)
+}
+
+/// The names of the traits of a file.
+pub(crate) fn table_traits(alloc: Global, file: &File) -> Result<NameTable, AllocError>
+    ensures { IfOk result (λ t. t ≡ trait_names (file_view file.now).entities) }
+{
+    add_traits(NameTable::new(alloc), file.entities.as_slice())
 }

@@ -2,9 +2,12 @@
 #![tactic(auto)]
 
 mod constructors;
+mod cycles;
 mod declarations;
+mod edges;
 mod entities;
 mod fault;
+mod mains;
 mod reach;
 mod table;
 
