@@ -2,3 +2,4 @@ mod Views
 mod Firsts
 mod Stops
 mod Reaches
+mod Tables

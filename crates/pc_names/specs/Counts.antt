@@ -1,5 +1,5 @@
 -- How many methods a file has.
-use Rattle.std.specs.Prelude.{◌≡◌, ℕ, ◌+◌, ◌-◌, ◌<◌, ◌≤◌, Bool, true, false, List, [], ◌∷◌, ◌++◌, flat_map, length, map, Option, Some, None, slice_get, nat_lt, if◌then◌else◌}
+use Rattle.std.specs.Prelude.{◌≡◌, ℕ, ◌+◌, ◌-◌, ◌<◌, ◌≤◌, Bool, true, false, List, [], ◌∷◌, ◌++◌, length, map, Option, Some, None, slice_get, nat_lt, if◌then◌else◌}
 use Rattle.pc_tree.specs.Tree as t
 use Rattle.pc_names.specs.Words.{Text, is_trait, has_added}
 use Rattle.pc_names.specs.declared.fault.NameFault.{NameFault}
@@ -14,16 +14,23 @@ abbrev pub names_in : Option t.Entity → List Text
 names_in None = []
 names_in (Some e) = method_texts e.methods
 
-abbrev pub names_at : t.File → ℕ → List Text
-names_at file a = names_in (slice_get file.entities (a - first_own))
+abbrev pub names_at : List t.Entity → ℕ → List Text
+names_at all a = names_in (slice_get all (a - first_own))
 
--- A trait has its own methods and those of the traits above it, one of each name. Another entity has its own ones, and an
--- added `create`.
-abbrev pub methods_of : t.File → t.Entity → List ℕ → ℕ
-methods_of file e above =
-    if is_trait e.kind
-    then length (with_names [] (method_texts e.methods ++ flat_map (names_at file) above))
-    else length e.methods + (if has_added e then 1 else 0)
+abbrev pub names_above : List t.Entity → List ℕ → List Text
+names_above all [] = []
+names_above all (a ∷ as') = names_at all a ++ names_above all as'
+
+-- A trait has its own methods and those of the traits above it, one of each name.
+abbrev pub inherited_count : List t.Entity → t.Entity → List ℕ → ℕ
+inherited_count all e above = length (with_names [] (method_texts e.methods ++ names_above all above))
+
+-- Another entity has its own methods, and an added `create`.
+abbrev pub own_count : t.Entity → ℕ
+own_count e = if has_added e then length e.methods + 1 else length e.methods
+
+abbrev pub methods_of : List t.Entity → t.Entity → List ℕ → ℕ
+methods_of all e above = if is_trait e.kind then inherited_count all e above else own_count e
 
 -- how many methods a file may have
 abbrev pub method_limit : ℕ
@@ -31,8 +38,8 @@ method_limit = 10000
 
 -- Entities, each with what is above it, at which the count of the file's methods is past the limit. The number is the count
 -- before the first of them.
-abbrev pub count_faults : t.File → ℕ → List t.Entity → List (List ℕ) → List NameFault
-count_faults file n (e ∷ es) (above ∷ lists) =
-    where_ (nat_lt method_limit (n + methods_of file e above)) (fault.TooMany which.Methods e.name.span)
-    ++ count_faults file (n + methods_of file e above) es lists
-count_faults file n es lists = []
+abbrev pub count_faults : List t.Entity → ℕ → List t.Entity → List (List ℕ) → List NameFault
+count_faults all n (e ∷ es) (above ∷ lists) =
+    where_ (nat_lt method_limit (n + methods_of all e above)) (fault.TooMany which.Methods e.name.span)
+    ++ count_faults all (n + methods_of all e above) es lists
+count_faults all n es lists = []

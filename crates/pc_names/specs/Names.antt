@@ -22,7 +22,7 @@ name_faults file above =
     entity_name_faults built_in_names file.entities
     ++ (declaration_faults file
     ++ (cycle_faults first_own file.entities (drop first_own above)
-    ++ (count_faults file 0 file.entities (drop first_own above)
+    ++ (count_faults file.entities 0 file.entities (drop first_own above)
     ++ main_faults file.entities)))
 
 -- The file's names have no fault, and this is what they are.

@@ -2,6 +2,7 @@
 #![tactic(auto)]
 
 mod constructors;
+mod counts;
 mod cycles;
 mod declarations;
 mod edges;
