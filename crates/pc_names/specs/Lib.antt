@@ -6,4 +6,5 @@ pub mod Chains
 pub mod Cycles
 pub mod Counts
 pub mod Mains
+pub mod Texts
 pub mod Names

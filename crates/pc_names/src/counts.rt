@@ -1,15 +1,16 @@
 //! How many methods a file has.
 ghost use Rattle.std.specs.Prelude.{◌≡◌, ◌+◌, ◌<◌, ◌≤◌, map, length, OnOk, IfOk, if◌then◌else◌};
-ghost use Rattle.pc_tree.specs.View.{entity_view, method_view};
+ghost use Rattle.pc_tree.specs.View.{entity_view};
 ghost use Rattle.pc_names.specs.Counts as spec;
-ghost use Rattle.pc_names.specs.Faults.{Tells, method_texts};
+ghost use Rattle.pc_names.specs.Faults.{Tells};
 ghost use Rattle.pc_names.specs.Tables.{with_names};
 
 use crate::constructors::has_added;
 use crate::fault::{NameFault, Which};
 use crate::table::NameTable;
+use crate::texts::add_methods;
 use pc_caps::List;
-use pc_tree::{Entity, EntityKind, MethodDef};
+use pc_tree::{Entity, EntityKind};
 use std::alloc::{AllocError, Global};
 
 /// How many entities are built in.
@@ -18,22 +19,12 @@ const FIRST_OWN: usize = 6;
 /// How many methods a file may have.
 const METHOD_LIMIT: usize = 10_000;
 
-// The names of these methods go behind the others, each once.
-fn add_names(table: &mut NameTable, methods: &[MethodDef]) -> Result<(), AllocError>
-    ensures { OnOk result (table.new ≡ with_names table.old (method_texts (map method_view methods.now))) }
-{
-    for method in methods {
-        table.add(method.name.text.as_slice())?;
-    }
-    Ok(())
-}
-
 // The names of the methods of the entity of this number.
 fn add_names_at(table: &mut NameTable, all: &[Entity], number: u32) -> Result<(), AllocError>
     ensures { OnOk result (table.new ≡ with_names table.old (spec.names_at (map entity_view all.now) number)) }
 {
     match all.get((number as usize).saturating_sub(FIRST_OWN)) {
-        Some(entity) => add_names(table, entity.methods.as_slice()),
+        Some(entity) => add_methods(table, entity.methods.as_slice()),
         None => Ok(()),
     }
 }
@@ -46,8 +37,9 @@ fn add_names_above(
 ) -> Result<(), AllocError>
     ensures { OnOk result (table.new ≡ with_names table.old (spec.names_above (map entity_view all.now) above.now)) }
 {
-    for number in above {
-        add_names_at(table, all, *number)?;
+    for at in 0..above.len() {
+        let number = above[at];
+        add_names_at(table, all, number)?;
     }
     Ok(())
 }
@@ -63,7 +55,7 @@ fn count_inherited(
     ensures { IfOk result (λ n. n ≡ spec.inherited_count (map entity_view all.now) (entity_view entity.now) above.now) }
 {
     let mut table = NameTable::new(alloc);
-    add_names(&mut table, entity.methods.as_slice())?;
+    add_methods(&mut table, entity.methods.as_slice())?;
     add_names_above(&mut table, all, above)?;
     Ok(table.len() as usize)
 }

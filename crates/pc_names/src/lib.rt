@@ -9,8 +9,10 @@ mod edges;
 mod entities;
 mod fault;
 mod mains;
+mod names;
 mod reach;
 mod table;
+mod texts;
 
 pub use fault::{NameFault, Which};
-pub use table::NameTable;
+pub use names::Names;

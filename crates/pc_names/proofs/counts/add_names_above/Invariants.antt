@@ -4,6 +4,6 @@ use Rattle.pc_names.specs.Counts.{names_above}
 use Rattle.pc_names.specs.Tables.{with_names}
 use Rattle.pc_names.proofs.counts.add_names_above.Given as goal
 
-abbrev pub invariant-loop-number : goal.invariant-loop-number
-invariant-loop-number l =
-    with_names l.fn.table (names_above (map entity_view l.all) l.above) ≡ with_names l.table (names_above (map entity_view l.all) (drop l.number-index l.above))
+abbrev pub invariant-loop-at : goal.invariant-loop-at
+invariant-loop-at l =
+    with_names l.fn.table (names_above (map entity_view l.all) l.above) ≡ with_names l.table (names_above (map entity_view l.all) (drop l.at l.above))
