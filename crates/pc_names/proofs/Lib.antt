@@ -3,3 +3,7 @@ mod Firsts
 mod Stops
 mod Reaches
 mod Tables
+mod Reached
+mod Closings
+mod Differences
+mod Passes

@@ -24,7 +24,7 @@ one_in : (t : Bool) (x : ℕ) (xs : List ℕ) (b : ℕ) → nat_eq b x ≡ t →
 one_in true x xs b e rec g = inl (eq_true x b e)
 one_in false x xs b e rec g = inr (rec g)
 
-has_in : (xs : List ℕ) (b : ℕ) → has xs b ≡ true → IsIn b xs
+pub has_in : (xs : List ℕ) (b : ℕ) → has xs b ≡ true → IsIn b xs
 has_in [] b h = let no : ⊥ = cc in absurd no
 has_in (x ∷ xs) b h = one_in (nat_eq b x) x xs b refl (has_in xs b) h
 
@@ -79,12 +79,12 @@ all_longer found (c ∷ bs) =
     let r = all_longer (add found c) bs in
     (a.0 ++ r.0, r.1 ∙ ap (λ l. l ++ r.0) a.1 ∙ append_assoc found a.0 r.0)
 
-get_in : (xs : List ℕ) (i x : ℕ) → slice_get xs i ≡ Some x → IsIn x xs
+pub get_in : (xs : List ℕ) (i x : ℕ) → slice_get xs i ≡ Some x → IsIn x xs
 get_in [] i x h = absurd (none-some x h)
 get_in (y ∷ xs) zero x h = inl (sym (same_Some _ _ h))
 get_in (y ∷ xs) (suc i) x h = inr (get_in xs i x h)
 
-in_get : (xs : List ℕ) (x : ℕ) → IsIn x xs → (i : ℕ) × (slice_get xs i ≡ Some x)
+pub in_get : (xs : List ℕ) (x : ℕ) → IsIn x xs → (i : ℕ) × (slice_get xs i ≡ Some x)
 in_get [] x h = absurd h
 in_get (y ∷ xs) x h = ⊎_elim (λ e. (0, ap (λ z. Some z) (sym e))) (λ j. let r = in_get xs x j in (suc r.0, r.1)) h
 

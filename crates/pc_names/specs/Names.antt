@@ -16,14 +16,13 @@ pub record NamesData : Type 0 where
   pub texts : List Text
   pub above : List (List ℕ)
 
+-- The faults that rest on what is above each of these entities, the entities of a file.
+abbrev pub above_faults : List t.Entity → List (List ℕ) → List NameFault
+above_faults all above = cycle_faults first_own all above ++ (count_faults all 0 all above ++ main_faults all)
+
 -- All faults of a file's names, pass by pass, where these are the entities above each.
 abbrev pub name_faults : t.File → List (List ℕ) → List NameFault
-name_faults file above =
-    entity_name_faults built_in_names file.entities
-    ++ (declaration_faults file
-    ++ (cycle_faults first_own file.entities (drop first_own above)
-    ++ (count_faults file.entities 0 file.entities (drop first_own above)
-    ++ main_faults file.entities)))
+name_faults file above = entity_name_faults built_in_names file.entities ++ (declaration_faults file ++ above_faults file.entities (drop first_own above))
 
 -- The file's names have no fault, and this is what they are.
 pub record Collected (file : t.File) (names : NamesData) : Type 0 where

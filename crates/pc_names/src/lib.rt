@@ -1,6 +1,7 @@
 //! The names of a file: the numbers of its entities, what is above each by its `is` lists, and that it has a `Main`.
 #![tactic(auto)]
 
+mod collecting;
 mod constructors;
 mod counts;
 mod cycles;
@@ -14,5 +15,6 @@ mod reach;
 mod table;
 mod texts;
 
+pub use collecting::collect;
 pub use fault::{NameFault, Which};
 pub use names::Names;

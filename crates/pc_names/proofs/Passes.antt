@@ -1,0 +1,67 @@
+-- The passes over a file's names, joined.
+use Rattle.std.proofs.Common.{◌≡◌, ℕ, suc, ◌+◌, ◌-◌, ◌≤◌, ◌<◌, ◌^◌, List, [], ◌∷◌, ◌++◌, length, map, take, drop, refl, sym, ap, ◌∙◌, subst, arith}
+use Rattle.std.proofs.lemmas.List.{length-map}
+use Rattle.pc_tree.specs.declared.file.File.{File}
+use Rattle.pc_tree.specs.View.{entity_view, file_view}
+use Rattle.pc_tree.specs.Tree as t
+use Rattle.pc_names.specs.declared.fault.NameFault.{NameFault}
+use Rattle.pc_names.specs.declared.fault.NameFault.TheVariants as fault
+use Rattle.pc_names.specs.Words.{Text, built_in_names, entity_names}
+use Rattle.pc_names.specs.Faults.{IsFirst, entity_name_faults, declaration_faults}
+use Rattle.pc_names.specs.Reach.{above_all}
+use Rattle.pc_names.specs.Chains.{first_own, edges_of, Closes}
+use Rattle.pc_core.specs.Words.{Differ}
+use Rattle.pc_names.specs.Texts.{other_texts}
+use Rattle.pc_names.specs.Names.{NamesData, above_faults, name_faults, Collected, IsNameFault}
+use Rattle.pc_names.proofs.Firsts.{is_first_on}
+use Rattle.pc_names.proofs.Closings.{closes, edges_length}
+use Rattle.pc_names.proofs.Differences.{other_texts_differ}
+
+-- The first fault of a list behind an empty one.
+is_first_behind : (f : NameFault) (xs ys : List NameFault) → xs ≡ [] → IsFirst f ys → IsFirst f (xs ++ ys)
+is_first_behind f xs ys e h = subst (λ zs. IsFirst f (zs ++ ys)) (sym e) h
+
+-- The faults of the first pass, of the second, and of the others with the lists that are made.
+abbrev pub pass_names : t.File → List NameFault
+pass_names file = entity_name_faults built_in_names file.entities
+
+abbrev pub pass_above : t.File → List NameFault
+pass_above file = above_faults file.entities (drop first_own (above_all (edges_of file)))
+
+pub fault_of_names : (file : t.File) (f : NameFault) → IsFirst f (pass_names file) → IsNameFault file f
+fault_of_names file f h = (above_all (edges_of file), closes file, is_first_on f (pass_names file) (declaration_faults file ++ pass_above file) h)
+
+pub fault_of_declarations : (file : t.File) (f : NameFault) → pass_names file ≡ [] → IsFirst f (declaration_faults file) → IsNameFault file f
+fault_of_declarations file f e h =
+    (above_all (edges_of file), closes file, is_first_behind f (pass_names file) (declaration_faults file ++ pass_above file) e (is_first_on f (declaration_faults file) (pass_above file) h))
+
+pub fault_of_above : (file : t.File) (f : NameFault) → pass_names file ≡ [] → declaration_faults file ≡ [] → IsFirst f (pass_above file) → IsNameFault file f
+fault_of_above file f e d h =
+    (above_all (edges_of file), closes file, is_first_behind f (pass_names file) (declaration_faults file ++ pass_above file) e (is_first_behind f (declaration_faults file) (pass_above file) d h))
+
+pub want_of_memory : (file : t.File) → IsNameFault file fault.Memory
+want_of_memory file = (above_all (edges_of file), closes file, tt)
+
+pub is_collected : (file : t.File) (n : NamesData) → pass_names file ≡ [] → declaration_faults file ≡ [] → pass_above file ≡ []
+    → n.entities ≡ entity_names file → n.above ≡ above_all (edges_of file) → n.texts ≡ other_texts file.entities → Collected file n
+is_collected file n e d a names above texts = record {
+    faults = ap (name_faults file) above ∙ ap (λ xs. xs ++ (declaration_faults file ++ pass_above file)) e ∙ ap (λ xs. xs ++ pass_above file) d ∙ a;
+    entities = names;
+    above = subst (Closes file) (sym above) (closes file);
+    texts = subst Differ (sym texts) (other_texts_differ file.entities)
+  }
+
+-- ---- lengths
+
+pub own_lengths : (file : t.File) (above : List (List ℕ)) → above ≡ above_all (edges_of file) → length above ≡ first_own + length file.entities
+own_lengths file above e = ap length e ∙ (closes file).0
+
+pub take_all : {T : Type 0} → (xs : List T) (n : ℕ) → n ≡ length xs → take n xs ≡ xs
+take_all [] n e = ap (λ k. take k []) e
+take_all (x ∷ xs) n e = ap (λ k. take k (x ∷ xs)) e ∙ ap (λ l. x ∷ l) (take_all xs (length xs) refl)
+
+pub edges_few : (f : File) (edges : List (List ℕ)) → first_own + length f.entities < 2 ^ 32 → edges ≡ edges_of (file_view f) → length edges < 2 ^ 32
+edges_few f edges few e =
+    let l : length edges ≡ first_own + length (map entity_view f.entities) = ap length e ∙ edges_length (file_view f) in
+    let m = length-map f.entities entity_view in
+    omega (arith, few, l, m)
