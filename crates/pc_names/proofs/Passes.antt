@@ -1,6 +1,7 @@
 -- The passes over a file's names, joined.
 use Rattle.std.proofs.Common.{◌≡◌, ℕ, suc, ◌+◌, ◌-◌, ◌≤◌, ◌<◌, ◌^◌, List, [], ◌∷◌, ◌++◌, length, map, take, drop, refl, sym, ap, ◌∙◌, subst, arith}
-use Rattle.std.proofs.lemmas.List.{length-map}
+use Rattle.std.proofs.lemmas.List.{length-map, length-drop}
+use Rattle.pc_tree.specs.declared.file.Entity.{Entity}
 use Rattle.pc_tree.specs.declared.file.File.{File}
 use Rattle.pc_tree.specs.View.{entity_view, file_view}
 use Rattle.pc_tree.specs.Tree as t
@@ -53,12 +54,20 @@ is_collected file n e d a names above texts = record {
 
 -- ---- lengths
 
-pub own_lengths : (file : t.File) (above : List (List ℕ)) → above ≡ above_all (edges_of file) → length above ≡ first_own + length file.entities
-own_lengths file above e = ap length e ∙ (closes file).0
+abbrev pub OwnLists : File → List Entity → List (List ℕ) → List (List ℕ) → List (List ℕ) → Type 0
+OwnLists f all own lists above = (all ≡ f.entities) × (own ≡ drop first_own lists) × (lists ≡ above) × (above ≡ above_all (edges_of (file_view f)))
 
-pub take_all : {T : Type 0} → (xs : List T) (n : ℕ) → n ≡ length xs → take n xs ≡ xs
-take_all [] n e = ap (λ k. take k []) e
-take_all (x ∷ xs) n e = ap (λ k. take k (x ∷ xs)) e ∙ ap (λ l. x ∷ l) (take_all xs (length xs) refl)
+-- The lists of the file's own entities are as many as these.
+pub own_lengths : (f : File) (all : List Entity) (own lists above : List (List ℕ)) → OwnLists f all own lists above → length own ≡ length all
+own_lengths f all own lists above w =
+    let l : length lists ≡ first_own + length (map entity_view f.entities) = ap length (w.2 ∙ w.3) ∙ (closes (file_view f)).0 in
+    let m = length-map f.entities entity_view in
+    let d : length own ≡ length lists - first_own = ap length w.1 ∙ length-drop first_own lists in
+    let e : length all ≡ length f.entities = ap length w.0 in
+    omega (arith, l, m, d, e)
+
+pub own_faults : (f : File) (all : List Entity) (own lists above : List (List ℕ)) → OwnLists f all own lists above → above_faults (map entity_view all) own ≡ pass_above (file_view f)
+own_faults f all own lists above w = ap (λ xs. above_faults (map entity_view xs) own) w.0 ∙ ap (above_faults (map entity_view f.entities)) (w.1 ∙ ap (drop first_own) (w.2 ∙ w.3))
 
 pub edges_few : (f : File) (edges : List (List ℕ)) → first_own + length f.entities < 2 ^ 32 → edges ≡ edges_of (file_view f) → length edges < 2 ^ 32
 edges_few f edges few e =

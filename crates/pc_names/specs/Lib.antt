@@ -8,3 +8,4 @@ pub mod Counts
 pub mod Mains
 pub mod Texts
 pub mod Names
+pub mod Laws

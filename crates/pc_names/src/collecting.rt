@@ -76,7 +76,6 @@ fn check_above(alloc: Global, all: &[Entity], above: &[List<u32>]) -> Result<(),
 /// this order: a name of an entity that stands already, and the 1,001st entity; a fault of a declaration, entity by
 /// entity; the first trait from which a chain of `is` leads back to it; the entity with which the file has more than
 /// 10,000 methods; and what `Main` lacks. Memory may run out at any time.
-#[tactic(auto, using(crate::proofs::Passes::fault_of_names, crate::proofs::Passes::fault_of_declarations, crate::proofs::Passes::fault_of_above, crate::proofs::Passes::want_of_memory, crate::proofs::Passes::is_collected, crate::proofs::Passes::own_lengths))]
 pub fn collect(alloc: Global, file: &File) -> Result<Names, NameFault>
     ensures ok { IfOk result (λ n. Collected (file_view file.now) n) }
     ensures err { IfErr result (λ f. IsNameFault (file_view file.now) f) }
