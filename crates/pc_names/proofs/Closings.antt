@@ -60,10 +60,10 @@ own_length names (e ∷ es) = ap suc (own_length names es)
 
 -- ---- the edges of all entities
 
-abbrev nobody : Option t.Entity
+abbrev pub nobody : Option t.Entity
 nobody = None
 
-no_entity : {T : Type 0} (e : t.Entity) → Some nobody ≡ Some (Some e) → T
+pub no_entity : {T : Type 0} (e : t.Entity) → Some nobody ≡ Some (Some e) → T
 no_entity e h = absurd (none-some e (same_Some _ _ h))
 
 edge_names : (file : t.File) (a b : ℕ) → IsIn b (next (edges_of file) a) → Names file a b

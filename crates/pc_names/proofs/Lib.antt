@@ -7,3 +7,6 @@ mod Reached
 mod Closings
 mod Differences
 mod Passes
+mod Ones
+mod Leasts
+mod CycleFirsts

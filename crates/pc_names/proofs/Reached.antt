@@ -59,7 +59,7 @@ led_reached e a b w c = all_led (length e + 1) e a b (let f = reached_few e a w 
 eq_refl : (b : ℕ) → nat_eq b b ≡ true
 eq_refl b = search (arith)
 
-in_has : (xs : List ℕ) (b : ℕ) → IsIn b xs → has xs b ≡ true
+pub in_has : (xs : List ℕ) (b : ℕ) → IsIn b xs → has xs b ≡ true
 in_has [] b h = absurd h
 in_has (x ∷ xs) b h = ⊎_elim (λ e. ap (λ t. if t then true else has xs b) (ap (nat_eq b) (sym e) ∙ eq_refl b)) (λ i. by (nat_eq b x) (in_has xs b i)) h
   where

@@ -9,6 +9,7 @@ mod declarations;
 mod edges;
 mod entities;
 mod fault;
+mod laws;
 mod mains;
 mod names;
 mod reach;
@@ -17,4 +18,5 @@ mod texts;
 
 pub use collecting::collect;
 pub use fault::{NameFault, Which};
+pub use laws::{cycles_are_chains, first_is_least, names_are_one};
 pub use names::Names;
