@@ -46,27 +46,27 @@ clear_on n i e l es ls b c (suc j) d m lt ed em = ap (λ k. bad k d m) (let z : 
 
 bad_on : (n : ℕ) (e : t.Entity) (l : List ℕ) (es : List t.Entity) (ls : List (List ℕ)) (f : NameFault) → bad n e l ≡ false → FirstBad (n + 1) es ls f → FirstBad n (e ∷ es) (l ∷ ls) f
 bad_on n e l es ls f b r = record {
-    at = suc r.at;
-    entity = r.entity;
-    above = r.above;
-    has_entity = r.has_entity;
-    has_above = r.has_above;
-    is_bad = ap (λ k. bad k r.entity r.above) (let z : n + suc r.at ≡ n + 1 + r.at = omega arith in z) ∙ r.is_bad;
-    is = r.is;
-    clear = clear_on n r.at e l es ls b r.clear
-  }
+  at = suc r.at;
+  entity = r.entity;
+  above = r.above;
+  has_entity = r.has_entity;
+  has_above = r.has_above;
+  is_bad = ap (λ k. bad k r.entity r.above) (let z : n + suc r.at ≡ n + 1 + r.at = omega arith in z) ∙ r.is_bad;
+  is = r.is;
+  clear = clear_on n r.at e l es ls b r.clear;
+}
 
 bad_here : (n : ℕ) (e : t.Entity) (l : List ℕ) (es : List t.Entity) (ls : List (List ℕ)) (f : NameFault) → bad n e l ≡ true → f ≡ fault.Cycle e.name.span → FirstBad n (e ∷ es) (l ∷ ls) f
 bad_here n e l es ls f b is = record {
-    at = 0;
-    entity = e;
-    above = l;
-    has_entity = refl;
-    has_above = refl;
-    is_bad = ap (λ k. bad k e l) (let z : n + 0 ≡ n = omega arith in z) ∙ b;
-    is = is;
-    clear = nothing_before n (e ∷ es) (l ∷ ls)
-  }
+  at = 0;
+  entity = e;
+  above = l;
+  has_entity = refl;
+  has_above = refl;
+  is_bad = ap (λ k. bad k e l) (let z : n + 0 ≡ n = omega arith in z) ∙ b;
+  is = is;
+  clear = nothing_before n (e ∷ es) (l ∷ ls);
+}
 
 first_bad : (n : ℕ) (es : List t.Entity) (ls : List (List ℕ)) (f : NameFault) → slice_get (cycle_faults n es ls) 0 ≡ Some f → FirstBad n es ls f
 first_bad n [] ls f h = absurd (none-some f h)
@@ -159,7 +159,7 @@ pub cycle_is_first : CycleIsFirst
 cycle_is_first file above f c o h =
     let r = first_bad first_own file.entities (drop first_own above) f (first_is f (cycle_faults first_own file.entities (drop first_own above)) o h) in
     let none : (b : ℕ) → b < own r.at → InCycle file b → ⊥ = λ b l x.
-      let y = cycle_bad file above b c x in
-      let e = y.3 in
-      no_both (bad (first_own + y.0) y.1 y.2) y.6 (r.clear y.0 y.1 y.2 (omega (arith, l, e)) y.4 y.5) in
+    let y = cycle_bad file above b c x in
+    let e = y.3 in
+    no_both (bad (first_own + y.0) y.1 y.2) y.6 (r.clear y.0 y.1 y.2 (omega (arith, l, e)) y.4 y.5) in
     (own r.at, r.entity, (bad_cycle file above r.at r.entity r.above c r.has_entity r.has_above r.is_bad, none), get_some file.entities r.at r.entity r.has_entity, r.is)

@@ -38,9 +38,9 @@ differ_push : (x : Text) (xs : List Text) → Differ xs → is_among x xs ≡ fa
 differ_push x xs d new i j y hi hj =
     let fresh : (k : ℕ) → slice_get xs k ≡ Some x → ⊥ = λ k h. true_false (sym (among_at x xs k h) ∙ new) in
     ⊎_elim
-      (λ a. ⊎_elim (λ b. d i j y a b) (λ b. absurd (fresh i (a ∙ ap (λ z. Some z) b.1))) (push_places x y xs j hj))
-      (λ a. ⊎_elim (λ b. absurd (fresh j (b ∙ ap (λ z. Some z) a.1))) (λ b. a.0 ∙ sym b.0) (push_places x y xs j hj))
-      (push_places x y xs i hi)
+    (λ a. ⊎_elim (λ b. d i j y a b) (λ b. absurd (fresh i (a ∙ ap (λ z. Some z) b.1))) (push_places x y xs j hj))
+    (λ a. ⊎_elim (λ b. absurd (fresh j (b ∙ ap (λ z. Some z) a.1))) (λ b. a.0 ∙ sym b.0) (push_places x y xs j hj))
+    (push_places x y xs i hi)
 
 name_differs : (names : List Text) (x : Text) → Differ names → Differ (with_name names x)
 name_differs names x d = by (is_among x names) refl

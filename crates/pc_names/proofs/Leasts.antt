@@ -55,24 +55,24 @@ field_at : (entities known : List Text) (fs : List t.Field) → At (spec.field_f
 field_at entities known [] = done
 field_at entities known (f ∷ fs) =
     join (either_at (is_among f.name.text known) (not (nat_lt (length known) spec.field_limit)) (fault.Double f.name.span) (fault.TooMany which.Fields f.name.span) refl)
-      (join (type_at entities f.ty) (field_at entities (known ++ f.name.text ∷ []) fs))
+    (join (type_at entities f.ty) (field_at entities (known ++ f.name.text ∷ []) fs))
 
 param_at : (entities fields known : List Text) (ps : List ParamDef) → At (spec.param_faults entities fields known ps) (param_places ps)
 param_at entities fields known [] = done
 param_at entities fields known (p ∷ ps) =
     join (where_at (is_among p.name.text fields || is_among p.name.text known) (fault.Double p.name.span))
-      (join (type_at entities p.ty) (param_at entities fields (known ++ p.name.text ∷ []) ps))
+    (join (type_at entities p.ty) (param_at entities fields (known ++ p.name.text ∷ []) ps))
 
 method_at : (entities fields known : List Text) (ms : List t.Method) → At (spec.method_faults entities fields known ms) (method_places ms)
 method_at entities fields known [] = done
 method_at entities fields known (m ∷ ms) =
     join (where_at (is_among m.name.text fields || is_among m.name.text known) (fault.Double m.name.span))
-      (join (join (param_at entities fields [] m.params) (result_at entities m.result)) (method_at entities fields (known ++ m.name.text ∷ []) ms))
+    (join (join (param_at entities fields [] m.params) (result_at entities m.result)) (method_at entities fields (known ++ m.name.text ∷ []) ms))
 
 entity_at : (entities traits : List Text) (e : t.Entity) → At (spec.entity_faults entities traits e) (places e)
 entity_at entities traits e =
     join (where_at (has_added e && spec.is_taken (codes "create") e) (fault.Double e.name.span))
-      (join (provided_at traits [] e.provides) (join (field_at entities [] e.fields) (method_at entities (spec.field_texts e.fields) [] e.methods)))
+    (join (provided_at traits [] e.provides) (join (field_at entities [] e.fields) (method_at entities (spec.field_texts e.fields) [] e.methods)))
 
 at_place : {fs : List NameFault} {ps : List ℕ} → At fs ps → (g : NameFault) (i : ℕ) → slice_get fs i ≡ Some g → Has ps (fault_start g)
 at_place done g i e = absurd (none-some g e)

@@ -46,11 +46,11 @@ want_of_memory file = (above_all (edges_of file), closes file, tt)
 pub is_collected : (file : t.File) (n : NamesData) → pass_names file ≡ [] → declaration_faults file ≡ [] → pass_above file ≡ []
     → n.entities ≡ entity_names file → n.above ≡ above_all (edges_of file) → n.texts ≡ other_texts file.entities → Collected file n
 is_collected file n e d a names above texts = record {
-    faults = ap (name_faults file) above ∙ ap (λ xs. xs ++ (declaration_faults file ++ pass_above file)) e ∙ ap (λ xs. xs ++ pass_above file) d ∙ a;
-    entities = names;
-    above = subst (Closes file) (sym above) (closes file);
-    texts = subst Differ (sym texts) (other_texts_differ file.entities)
-  }
+  faults = ap (name_faults file) above ∙ ap (λ xs. xs ++ (declaration_faults file ++ pass_above file)) e ∙ ap (λ xs. xs ++ pass_above file) d ∙ a;
+  entities = names;
+  above = subst (Closes file) (sym above) (closes file);
+  texts = subst Differ (sym texts) (other_texts_differ file.entities);
+}
 
 -- ---- lengths
 

@@ -30,11 +30,7 @@ fn add_names_at(table: &mut NameTable, all: &[Entity], number: u32) -> Result<()
 }
 
 // The same of each of these entities.
-fn add_names_above(
-    table: &mut NameTable,
-    all: &[Entity],
-    above: &[u32],
-) -> Result<(), AllocError>
+fn add_names_above(table: &mut NameTable, all: &[Entity], above: &[u32]) -> Result<(), AllocError>
     ensures { OnOk result (table.new ≡ with_names table.old (spec.names_above (map entity_view all.now) above.now)) }
 {
     for at in 0..above.len() {

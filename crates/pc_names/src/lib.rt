@@ -14,6 +14,8 @@ mod mains;
 mod names;
 mod reach;
 mod table;
+#[cfg(test)]
+mod tests;
 mod texts;
 
 pub use collecting::collect;

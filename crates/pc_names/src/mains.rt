@@ -39,7 +39,8 @@ fn begins(method: &MethodDef) -> bool
     ensures { result ≡ spec.begins (method_view method.now) }
 {
     is_new(method.word)
-        && (method.name.text.as_slice() == b"create".as_slice() && takes_env(method.params.as_slice()))
+        && (method.name.text.as_slice() == b"create".as_slice()
+            && takes_env(method.params.as_slice()))
 }
 
 // Whether a program may begin with one of these methods.
