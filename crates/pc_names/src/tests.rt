@@ -30,7 +30,7 @@ fn named(alloc: Global, word: &Word) -> Result<Name, AllocError> {
         text: List::from_slice(alloc, word.0)?,
         span: Span {
             start: word.1,
-            end: word.1.saturating_add(word.0.len() as u32),
+            end: word.1.saturating_add(word.0.len().min(100) as u32),
         },
     })
 }
