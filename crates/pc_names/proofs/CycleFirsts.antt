@@ -1,9 +1,8 @@
 -- The fault of a cycle is at the first trait that a chain of `is` leads back to itself.
-use Rattle.std.proofs.Common.{◌≡◌, ℕ, zero, suc, ◌+◌, ◌≤◌, ◌<◌, Bool, true, false, ◌&&◌, List, [], ◌∷◌, ◌++◌, map, drop, length, Option, Some, None, refl, sym, ap, ◌∙◌, subst, arith}
+use Rattle.std.proofs.Common.{◌≡◌, ℕ, zero, suc, ◌+◌, ◌<◌, Bool, true, false, ◌&&◌, List, [], ◌∷◌, ◌++◌, map, drop, length, Some, refl, sym, ap, ◌∙◌, subst, arith}
 use Rattle.std.specs.Prelude.{slice_get}
 use Rattle.std.proofs.lemmas.Option.{same_Some, none-some, slice_get_within}
 use Rattle.pc_core.specs.Runs.{get_drop}
-use Rattle.pc_core.specs.Words.{Has}
 use Rattle.pc_tree.specs.Tree as t
 use Rattle.pc_names.specs.declared.fault.NameFault.{NameFault}
 use Rattle.pc_names.specs.declared.fault.NameFault.TheVariants as fault
@@ -12,7 +11,7 @@ use Rattle.pc_names.specs.Faults.{where_}
 use Rattle.pc_names.specs.Reach.{has}
 use Rattle.pc_names.specs.Chains.{Closes, InCycle, Leads, entity_at, first_own}
 use Rattle.pc_names.specs.Cycles.{cycle_faults}
-use Rattle.pc_names.specs.Laws.{OfFile, CycleIsFirst, NoCycle}
+use Rattle.pc_names.specs.Laws.{CycleIsFirst, NoCycle}
 use Rattle.pc_names.proofs.Reaches.{has_in, in_get, get_in}
 use Rattle.pc_names.proofs.Reached.{in_has}
 use Rattle.pc_names.proofs.Closings.{no_entity}

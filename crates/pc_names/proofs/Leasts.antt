@@ -1,5 +1,5 @@
 -- The faults of an entity stand in the order of its places.
-use Rattle.std.proofs.Common.{◌≡◌, ℕ, zero, suc, ◌+◌, ◌≤◌, ◌<◌, Bool, true, false, not, ◌||◌, List, [], ◌∷◌, ◌++◌, map, length, Option, Some, None, refl, sym, ap, ◌∙◌, subst, arith}
+use Rattle.std.proofs.Common.{◌≡◌, ℕ, zero, suc, ◌≤◌, ◌<◌, Bool, true, false, not, ◌||◌, List, [], ◌∷◌, ◌++◌, map, length, Option, Some, None, refl, sym, ap, ◌∙◌, subst, arith}
 use Rattle.std.specs.Prelude.{slice_get, nat_lt, codes, ◌&&◌}
 use Rattle.std.proofs.lemmas.Option.{same_Some, none-some}
 use Rattle.pc_core.specs.Words.{Has, Ascends}
@@ -13,7 +13,7 @@ use Rattle.pc_names.specs.declared.fault.Which.TheVariants as which
 use Rattle.pc_names.specs.Words.{Text, is_among, has_added}
 use Rattle.pc_names.specs.Faults as spec
 use Rattle.pc_names.specs.Faults.{where_, either}
-use Rattle.pc_names.specs.Laws.{OfFile, FirstIsLeast, fault_start, start_of, result_places, field_places, param_places, method_places, places}
+use Rattle.pc_names.specs.Laws.{FirstIsLeast, fault_start, start_of, result_places, field_places, param_places, method_places, places}
 use Rattle.pc_names.proofs.Ones.{ascends_tail, first_is}
 
 -- The faults stand at some of the places, in their order, one at a place.

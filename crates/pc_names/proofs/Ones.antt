@@ -1,14 +1,14 @@
 -- What a file's names are, and which fault is the first, is one thing.
-use Rattle.std.proofs.Common.{◌≡◌, ℕ, zero, suc, ◌+◌, ◌≤◌, ◌<◌, List, [], ◌∷◌, ◌++◌, length, Option, Some, None, refl, sym, ap, ◌∙◌, subst, arith, inl, inr, ⊎_elim, ◌⊎◌}
+use Rattle.std.proofs.Common.{◌≡◌, ℕ, zero, suc, ◌≤◌, ◌<◌, List, [], ◌∷◌, length, Some, refl, sym, ap, ◌∙◌, arith, inl, inr, ⊎_elim, ◌⊎◌}
 use Rattle.std.specs.Prelude.{slice_get}
-use Rattle.std.proofs.lemmas.Option.{same_Some, none-some, slice_get_within}
+use Rattle.std.proofs.lemmas.Option.{same_Some, none-some}
 use Rattle.pc_core.specs.Words.{Each, Has, Ascends}
 use Rattle.pc_tree.specs.Tree as t
 use Rattle.pc_names.specs.declared.fault.NameFault.{NameFault}
 use Rattle.pc_names.specs.declared.fault.NameFault.TheVariants as fault
 use Rattle.pc_names.specs.Faults.{IsFirst}
-use Rattle.pc_names.specs.Chains.{IsAbove, Closes}
-use Rattle.pc_names.specs.Names.{NamesData, Collected, IsNameFault, name_faults}
+use Rattle.pc_names.specs.Chains.{IsAbove}
+use Rattle.pc_names.specs.Names.{name_faults}
 use Rattle.pc_names.specs.Laws.{OfFile, OneClosing, OneFault, NotBoth}
 
 -- ---- ascending lists

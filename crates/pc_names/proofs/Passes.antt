@@ -1,5 +1,5 @@
 -- The passes over a file's names, joined.
-use Rattle.std.proofs.Common.{◌≡◌, ℕ, suc, ◌+◌, ◌-◌, ◌≤◌, ◌<◌, ◌^◌, List, [], ◌∷◌, ◌++◌, length, map, take, drop, refl, sym, ap, ◌∙◌, subst, arith}
+use Rattle.std.proofs.Common.{◌≡◌, ℕ, ◌+◌, ◌-◌, ◌<◌, ◌^◌, List, [], ◌++◌, length, map, drop, sym, ap, ◌∙◌, subst, arith}
 use Rattle.std.proofs.lemmas.List.{length-map, length-drop}
 use Rattle.pc_tree.specs.declared.file.Entity.{Entity}
 use Rattle.pc_tree.specs.declared.file.File.{File}
@@ -7,7 +7,7 @@ use Rattle.pc_tree.specs.View.{entity_view, file_view}
 use Rattle.pc_tree.specs.Tree as t
 use Rattle.pc_names.specs.declared.fault.NameFault.{NameFault}
 use Rattle.pc_names.specs.declared.fault.NameFault.TheVariants as fault
-use Rattle.pc_names.specs.Words.{Text, built_in_names, entity_names}
+use Rattle.pc_names.specs.Words.{built_in_names, entity_names}
 use Rattle.pc_names.specs.Faults.{IsFirst, entity_name_faults, declaration_faults}
 use Rattle.pc_names.specs.Reach.{above_all}
 use Rattle.pc_names.specs.Chains.{first_own, edges_of, Closes}

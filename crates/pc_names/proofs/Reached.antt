@@ -1,13 +1,13 @@
 -- What is reached is exactly what chains of edges lead to, and its list in ascending order.
 use Rattle.std.proofs.Common.{◌≡◌, ℕ, zero, suc, ◌+◌, ◌≤◌, ◌<◌, List, [], ◌∷◌, ◌++◌, length, Option, Some, None, Bool, true, false, nat_eq, refl, sym, ap, ◌∙◌, subst, arith, inl, inr, ⊎_elim, ◌⊎◌, if◌then◌else◌}
-use Rattle.std.specs.Prelude.{◌↔◌, slice_get}
-use Rattle.std.specs.List.{list_any, IsDistinct}
+use Rattle.std.specs.Prelude.{slice_get}
+use Rattle.std.specs.List.{IsDistinct}
 use Rattle.std.proofs.lemmas.Cmp.{nat_eq_equiv}
-use Rattle.std.proofs.lemmas.Option.{same_Some, none-some, slice_get_within}
+use Rattle.std.proofs.lemmas.Option.{same_Some, none-some}
 use Rattle.std.proofs.lemmas.Map.Keys.{IsDistinct-push}
 use Rattle.std.proofs.lemmas.Map.Steps.{length-le_from_distinct_below}
 use Rattle.pc_core.specs.Words.{Has, Ascends}
-use Rattle.pc_names.specs.Reach.{Edges, next, IsIn, has, add, add_all, turn, grow, reached, ascending, above_from, above_all, Chain, link, links}
+use Rattle.pc_names.specs.Reach.{Edges, next, IsIn, has, add, add_all, turn, grow, reached, ascending, above_from, Chain, link, links}
 use Rattle.pc_names.proofs.Reaches.{any_has, has_in, get_in, in_get, only_led, all_led}
 
 -- ---- what is found differs

@@ -1,7 +1,7 @@
 -- A list of keys, and the list of what they show.
-use Rattle.std.proofs.Common.{◌≡◌, ◌∙◌, ℕ, ◌+◌, List, [], ◌∷◌, ◌++◌, Bool, true, false, not, cond, map, length, ◌||◌, Vec, Global, refl, ap, sym}
+use Rattle.std.proofs.Common.{◌≡◌, ℕ, ◌+◌, List, [], ◌∷◌, ◌++◌, Bool, true, false, not, cond, map, ◌||◌, Vec, Global, refl, ap}
 use Rattle.std.specs.List.{list_any, position, position_or_len, prefix_len}
-use Rattle.std.specs.Prelude.{Option, Some, None, nat_lt}
+use Rattle.std.specs.Prelude.{Some, None, nat_lt}
 use Rattle.std.specs.Str.{bytes_eq}
 use Rattle.pc_names.specs.Tables.{with_name}
 use Rattle.std.proofs.lemmas.List.{map-append, length-map}

@@ -1,5 +1,5 @@
 -- How many methods a file has.
-use Rattle.std.specs.Prelude.{◌≡◌, ℕ, ◌+◌, ◌-◌, ◌<◌, ◌≤◌, Bool, true, false, List, [], ◌∷◌, ◌++◌, length, map, Option, Some, None, slice_get, nat_lt, if◌then◌else◌}
+use Rattle.std.specs.Prelude.{ℕ, ◌+◌, ◌-◌, List, [], ◌∷◌, ◌++◌, length, Option, Some, None, slice_get, nat_lt, if◌then◌else◌}
 use Rattle.pc_tree.specs.Tree as t
 use Rattle.pc_names.specs.Words.{Text, is_trait, has_added}
 use Rattle.pc_names.specs.declared.fault.NameFault.{NameFault}

@@ -1,6 +1,5 @@
 -- What holds of the names of every file.
 use Rattle.std.specs.Prelude.{◌≡◌, ℕ, ◌≤◌, ◌<◌, List, [], ◌∷◌, ◌++◌, map, drop, Option, Some, None}
-use Rattle.pc_caps.specs.declared.span.Span.{Span}
 use Rattle.pc_core.specs.Words.{Has, Ascends}
 use Rattle.pc_tree.specs.declared.file.ParamDef.{ParamDef}
 use Rattle.pc_tree.specs.declared.names.Name.{Name}

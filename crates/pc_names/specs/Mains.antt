@@ -1,5 +1,5 @@
 -- The entity Main, with which a program begins.
-use Rattle.std.specs.Prelude.{◌≡◌, ℕ, Bool, true, false, ◌&&◌, List, [], ◌∷◌, Option, Some, None, codes, if◌then◌else◌}
+use Rattle.std.specs.Prelude.{Bool, true, false, ◌&&◌, List, [], ◌∷◌, Option, Some, None, codes, if◌then◌else◌}
 use Rattle.std.specs.List.{list_any}
 use Rattle.std.specs.Str.{bytes_eq}
 use Rattle.pc_caps.specs.declared.capability.Cap.{Cap}
@@ -11,8 +11,7 @@ use Rattle.pc_tree.specs.declared.names.TypeRef.{TypeRef}
 use Rattle.pc_tree.specs.Tree as t
 use Rattle.pc_names.specs.declared.fault.NameFault.{NameFault}
 use Rattle.pc_names.specs.declared.fault.NameFault.TheVariants as fault
-use Rattle.pc_names.specs.Words.{Text, is_new}
-use Rattle.pc_names.specs.Faults.{where_}
+use Rattle.pc_names.specs.Words.{is_new}
 
 abbrev pub is_actor : EntityKind → Bool
 is_actor kind.Actor = true

@@ -1,5 +1,5 @@
 use Rattle.std.proofs.Common.{◌≡◌, ◌++◌, ◌≤◌, [], map, length, drop}
-use Rattle.pc_tree.specs.View.{entity_view, field_view, method_view}
+use Rattle.pc_tree.specs.View.{field_view}
 use Rattle.pc_names.specs.Faults as spec
 use Rattle.pc_names.proofs.declarations.check_fields.Given as goal
 

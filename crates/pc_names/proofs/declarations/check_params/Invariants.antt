@@ -1,5 +1,4 @@
-use Rattle.std.proofs.Common.{◌≡◌, ◌++◌, ◌≤◌, [], map, length, drop}
-use Rattle.pc_tree.specs.View.{entity_view, field_view, method_view}
+use Rattle.std.proofs.Common.{◌≡◌, [], drop}
 use Rattle.pc_names.specs.Faults as spec
 use Rattle.pc_names.proofs.declarations.check_params.Given as goal
 

@@ -1,5 +1,4 @@
-use Rattle.std.proofs.Common.{◌≡◌, rules, ℕ, Vec, Global}
-use Rattle.std.specs.Str.{bytes_eq}
+use Rattle.std.proofs.Common.{rules}
 use Rattle.pc_names.proofs.Views.{added}
 use Rattle.pc_names.proofs.table.NameTable.add.Goals as goal
 

@@ -1,4 +1,4 @@
-use Rattle.std.proofs.Common.{◌≡◌, rules, ℕ, Vec, Global}
+use Rattle.std.proofs.Common.{rules, ℕ, Vec, Global}
 use Rattle.std.specs.Str.{bytes_eq}
 use Rattle.pc_names.proofs.Views.{list_any_shown}
 use Rattle.pc_names.proofs.table.NameTable.has.Goals as goal
