@@ -59,11 +59,14 @@ impl NameTable {
         self.names.contains(name)
     }
 
-    /// Adds the name behind the others, unless it is there. An `Err` changes nothing.
+    /// Adds the name behind the others, unless it is there, which takes no memory. An `Err` changes nothing.
     pub fn add(&mut self, name: &[u8]) -> Result<(), AllocError>
         ensures ok { OnOk result (self.new ≡ with_name self.old name.now) }
         ensures err { OnErr result (self.new ≡ self.old) }
     {
+        if self.has(name) {
+            return Ok(());
+        }
         if self.names.len() >= MOST_NAMES {
             return Err(AllocError);
         }
