@@ -1,0 +1,21 @@
+-- The first element of a list that goes on.
+use Rattle.std.proofs.Common.{◌≡◌, List, [], ◌∷◌, ◌++◌, Some}
+use Rattle.std.specs.Prelude.{slice_get}
+use Rattle.std.proofs.lemmas.Option.{none-some}
+use Rattle.pc_names.specs.declared.fault.NameFault.{NameFault}
+use Rattle.pc_names.specs.declared.fault.NameFault.TheVariants as fault
+use Rattle.pc_names.specs.Faults.{IsFirst}
+
+first_goes_on : {T : Type 0} → (xs ys : List T) (x : T) → slice_get xs 0 ≡ Some x → slice_get (xs ++ ys) 0 ≡ Some x
+first_goes_on [] ys x e = absurd (none-some x e)
+first_goes_on (y ∷ xs) ys x e = e
+
+-- The first fault of a list is that of the list that goes on.
+pub is_first_on : (f : NameFault) (xs ys : List NameFault) → IsFirst f xs → IsFirst f (xs ++ ys)
+is_first_on (fault.Double s) xs ys e = first_goes_on xs ys (fault.Double s) e
+is_first_on (fault.Unknown s) xs ys e = first_goes_on xs ys (fault.Unknown s) e
+is_first_on fault.NoMain xs ys e = first_goes_on xs ys fault.NoMain e
+is_first_on (fault.BadMain s) xs ys e = first_goes_on xs ys (fault.BadMain s) e
+is_first_on (fault.Cycle s) xs ys e = first_goes_on xs ys (fault.Cycle s) e
+is_first_on (fault.TooMany w s) xs ys e = first_goes_on xs ys (fault.TooMany w s) e
+is_first_on fault.Memory xs ys e = tt

@@ -1,0 +1,12 @@
+mod Views
+mod Firsts
+mod Stops
+mod Reaches
+mod Tables
+mod Reached
+mod Closings
+mod Differences
+mod Passes
+mod Ones
+mod Leasts
+mod CycleFirsts

@@ -1,0 +1,76 @@
+-- The passes over a file's names, joined.
+use Rattle.std.proofs.Common.{◌≡◌, ℕ, ◌+◌, ◌-◌, ◌<◌, ◌^◌, List, [], ◌++◌, length, map, drop, sym, ap, ◌∙◌, subst, arith}
+use Rattle.std.proofs.lemmas.List.{length-map, length-drop}
+use Rattle.pc_tree.specs.declared.file.Entity.{Entity}
+use Rattle.pc_tree.specs.declared.file.File.{File}
+use Rattle.pc_tree.specs.View.{entity_view, file_view}
+use Rattle.pc_tree.specs.Tree as t
+use Rattle.pc_names.specs.declared.fault.NameFault.{NameFault}
+use Rattle.pc_names.specs.declared.fault.NameFault.TheVariants as fault
+use Rattle.pc_names.specs.Words.{built_in_names, entity_names}
+use Rattle.pc_names.specs.Faults.{IsFirst, entity_name_faults, declaration_faults}
+use Rattle.pc_names.specs.Reach.{above_all}
+use Rattle.pc_names.specs.Chains.{first_own, edges_of, Closes}
+use Rattle.pc_core.specs.Words.{Differ}
+use Rattle.pc_names.specs.Texts.{other_texts}
+use Rattle.pc_names.specs.Names.{NamesData, above_faults, name_faults, Collected, IsNameFault}
+use Rattle.pc_names.proofs.Firsts.{is_first_on}
+use Rattle.pc_names.proofs.Closings.{closes, edges_length}
+use Rattle.pc_names.proofs.Differences.{other_texts_differ}
+
+-- The first fault of a list behind an empty one.
+is_first_behind : (f : NameFault) (xs ys : List NameFault) → xs ≡ [] → IsFirst f ys → IsFirst f (xs ++ ys)
+is_first_behind f xs ys e h = subst (λ zs. IsFirst f (zs ++ ys)) (sym e) h
+
+-- The faults of the first pass, of the second, and of the others with the lists that are made.
+abbrev pub pass_names : t.File → List NameFault
+pass_names file = entity_name_faults built_in_names file.entities
+
+abbrev pub pass_above : t.File → List NameFault
+pass_above file = above_faults file.entities (drop first_own (above_all (edges_of file)))
+
+pub fault_of_names : (file : t.File) (f : NameFault) → IsFirst f (pass_names file) → IsNameFault file f
+fault_of_names file f h = (above_all (edges_of file), closes file, is_first_on f (pass_names file) (declaration_faults file ++ pass_above file) h)
+
+pub fault_of_declarations : (file : t.File) (f : NameFault) → pass_names file ≡ [] → IsFirst f (declaration_faults file) → IsNameFault file f
+fault_of_declarations file f e h =
+    (above_all (edges_of file), closes file, is_first_behind f (pass_names file) (declaration_faults file ++ pass_above file) e (is_first_on f (declaration_faults file) (pass_above file) h))
+
+pub fault_of_above : (file : t.File) (f : NameFault) → pass_names file ≡ [] → declaration_faults file ≡ [] → IsFirst f (pass_above file) → IsNameFault file f
+fault_of_above file f e d h =
+    (above_all (edges_of file), closes file, is_first_behind f (pass_names file) (declaration_faults file ++ pass_above file) e (is_first_behind f (declaration_faults file) (pass_above file) d h))
+
+pub want_of_memory : (file : t.File) → IsNameFault file fault.Memory
+want_of_memory file = (above_all (edges_of file), closes file, tt)
+
+pub is_collected : (file : t.File) (n : NamesData) → pass_names file ≡ [] → declaration_faults file ≡ [] → pass_above file ≡ []
+    → n.entities ≡ entity_names file → n.above ≡ above_all (edges_of file) → n.texts ≡ other_texts file.entities → Collected file n
+is_collected file n e d a names above texts = record {
+  faults = ap (name_faults file) above ∙ ap (λ xs. xs ++ (declaration_faults file ++ pass_above file)) e ∙ ap (λ xs. xs ++ pass_above file) d ∙ a;
+  entities = names;
+  above = subst (Closes file) (sym above) (closes file);
+  texts = subst Differ (sym texts) (other_texts_differ file.entities);
+}
+
+-- ---- lengths
+
+abbrev pub OwnLists : File → List Entity → List (List ℕ) → List (List ℕ) → List (List ℕ) → Type 0
+OwnLists f all own lists above = (all ≡ f.entities) × (own ≡ drop first_own lists) × (lists ≡ above) × (above ≡ above_all (edges_of (file_view f)))
+
+-- The lists of the file's own entities are as many as these.
+pub own_lengths : (f : File) (all : List Entity) (own lists above : List (List ℕ)) → OwnLists f all own lists above → length own ≡ length all
+own_lengths f all own lists above w =
+    let l : length lists ≡ first_own + length (map entity_view f.entities) = ap length (w.2 ∙ w.3) ∙ (closes (file_view f)).0 in
+    let m = length-map f.entities entity_view in
+    let d : length own ≡ length lists - first_own = ap length w.1 ∙ length-drop first_own lists in
+    let e : length all ≡ length f.entities = ap length w.0 in
+    omega (arith, l, m, d, e)
+
+pub own_faults : (f : File) (all : List Entity) (own lists above : List (List ℕ)) → OwnLists f all own lists above → above_faults (map entity_view all) own ≡ pass_above (file_view f)
+own_faults f all own lists above w = ap (λ xs. above_faults (map entity_view xs) own) w.0 ∙ ap (above_faults (map entity_view f.entities)) (w.1 ∙ ap (drop first_own) (w.2 ∙ w.3))
+
+pub edges_few : (f : File) (edges : List (List ℕ)) → first_own + length f.entities < 2 ^ 32 → edges ≡ edges_of (file_view f) → length edges < 2 ^ 32
+edges_few f edges few e =
+    let l : length edges ≡ first_own + length (map entity_view f.entities) = ap length e ∙ edges_length (file_view f) in
+    let m = length-map f.entities entity_view in
+    omega (arith, few, l, m)

@@ -1,0 +1,118 @@
+-- The faults of a file's names, pass by pass. Each pass has the list of its faults in the order of the text, of which the
+-- first is told.
+use Rattle.std.specs.Prelude.{◌≡◌, ℕ, Bool, true, false, ◌&&◌, ◌||◌, not, List, [], ◌∷◌, ◌++◌, map, length, Option, Some, None, Result, Ok, Err, slice_get, nat_lt, codes}
+use Rattle.pc_tree.specs.declared.file.ParamDef.{ParamDef}
+use Rattle.pc_tree.specs.declared.names.Name.{Name}
+use Rattle.pc_tree.specs.declared.names.TypeRef.{TypeRef}
+use Rattle.pc_tree.specs.Tree as t
+use Rattle.pc_names.specs.declared.fault.NameFault.{NameFault}
+use Rattle.pc_names.specs.declared.fault.NameFault.TheVariants as fault
+use Rattle.pc_names.specs.declared.fault.Which.TheVariants as which
+use Rattle.pc_names.specs.Words.{Text, is_among, entity_names, has_added}
+use Rattle.pc_names.specs.Tables.{trait_names}
+
+-- A fault where the test holds.
+abbrev pub where_ : Bool → NameFault → List NameFault
+where_ true f = f ∷ []
+where_ false f = []
+
+-- One fault or the other, the first before the second, or none.
+abbrev pub either : Bool → NameFault → Bool → NameFault → List NameFault
+either true f b g = f ∷ []
+either false f b g = where_ b g
+
+-- The fault is the first of the list. Memory may run out at any time.
+abbrev pub IsFirst : NameFault → List NameFault → Type 0
+IsFirst fault.Memory fs = Unit {0}
+IsFirst f fs = slice_get fs 0 ≡ Some f
+
+-- The first fault of a list is told, and none where the list is empty.
+abbrev pub Tells : {A : Type 0} → Result A NameFault → List NameFault → Type 0
+Tells (Ok x) fs = fs ≡ []
+Tells (Err f) fs = IsFirst f fs
+
+-- ---- the names of entities
+
+-- how many entities there may be, with the six that are built in
+abbrev pub entity_limit : ℕ
+entity_limit = 1006
+
+-- An entity whose name is known already, or one too many.
+abbrev pub entity_name_faults : List Text → List t.Entity → List NameFault
+entity_name_faults known [] = []
+entity_name_faults known (e ∷ es) =
+    either (is_among e.name.text known) (fault.Double e.name.span) (not (nat_lt (length known) entity_limit)) (fault.TooMany which.Entities e.name.span)
+    ++ entity_name_faults (known ++ e.name.text ∷ []) es
+
+-- ---- declarations, entity by entity
+
+-- A type that is no entity.
+abbrev pub type_faults : List Text → TypeRef → List NameFault
+type_faults entities ty = where_ (not (is_among ty.name.text entities)) (fault.Unknown ty.name.span)
+
+abbrev pub result_faults : List Text → Option TypeRef → List NameFault
+result_faults entities None = []
+result_faults entities (Some ty) = type_faults entities ty
+
+-- A name after `is` that is no trait, or that stands there already.
+abbrev pub provided_faults : List Text → List Text → List Name → List NameFault
+provided_faults traits known [] = []
+provided_faults traits known (n ∷ ns) =
+    either (not (is_among n.text traits)) (fault.Unknown n.span) (is_among n.text known) (fault.Double n.span)
+    ++ provided_faults traits (known ++ n.text ∷ []) ns
+
+-- how many fields an entity may have
+abbrev pub field_limit : ℕ
+field_limit = 64
+
+-- A field whose name a field before it has, the 65th field, and the field's type.
+abbrev pub field_faults : List Text → List Text → List t.Field → List NameFault
+field_faults entities known [] = []
+field_faults entities known (f ∷ fs) =
+    either (is_among f.name.text known) (fault.Double f.name.span) (not (nat_lt (length known) field_limit)) (fault.TooMany which.Fields f.name.span)
+    ++ (type_faults entities f.ty ++ field_faults entities (known ++ f.name.text ∷ []) fs)
+
+-- A parameter whose name a field or a parameter before it has, and its type.
+abbrev pub param_faults : List Text → List Text → List Text → List ParamDef → List NameFault
+param_faults entities fields known [] = []
+param_faults entities fields known (p ∷ ps) =
+    where_ (is_among p.name.text fields || is_among p.name.text known) (fault.Double p.name.span)
+    ++ (type_faults entities p.ty ++ param_faults entities fields (known ++ p.name.text ∷ []) ps)
+
+-- What is wrong inside a method: its parameters, and its result.
+abbrev pub signature_faults : List Text → List Text → t.Method → List NameFault
+signature_faults entities fields m = param_faults entities fields [] m.params ++ result_faults entities m.result
+
+-- A method whose name a field or a method before it has, and what is wrong inside.
+abbrev pub method_faults : List Text → List Text → List Text → List t.Method → List NameFault
+method_faults entities fields known [] = []
+method_faults entities fields known (m ∷ ms) =
+    where_ (is_among m.name.text fields || is_among m.name.text known) (fault.Double m.name.span)
+    ++ (signature_faults entities fields m ++ method_faults entities fields (known ++ m.name.text ∷ []) ms)
+
+abbrev pub field_texts : List t.Field → List Text
+field_texts fs = map (λ (f : t.Field). f.name.text) fs
+
+abbrev pub method_texts : List t.Method → List Text
+method_texts ms = map (λ (m : t.Method). m.name.text) ms
+
+-- An added `create` comes behind all fields and methods, and its name stands at the entity's.
+abbrev pub is_taken : Text → t.Entity → Bool
+is_taken text e = is_among text (field_texts e.fields) || is_among text (method_texts e.methods)
+
+abbrev pub added_faults : t.Entity → List NameFault
+added_faults e = where_ (has_added e && is_taken (codes "create") e) (fault.Double e.name.span)
+
+-- What is wrong in an entity, with the names of all entities and those of all traits.
+abbrev pub entity_faults : List Text → List Text → t.Entity → List NameFault
+entity_faults entities traits e =
+    added_faults e
+    ++ (provided_faults traits [] e.provides
+    ++ (field_faults entities [] e.fields ++ method_faults entities (field_texts e.fields) [] e.methods))
+
+abbrev pub entities_faults : List Text → List Text → List t.Entity → List NameFault
+entities_faults entities traits [] = []
+entities_faults entities traits (e ∷ es) = entity_faults entities traits e ++ entities_faults entities traits es
+
+abbrev pub declaration_faults : t.File → List NameFault
+declaration_faults file = entities_faults (entity_names file) (trait_names file.entities) file.entities

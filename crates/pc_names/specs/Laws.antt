@@ -1,0 +1,86 @@
+-- What holds of the names of every file.
+use Rattle.std.specs.Prelude.{◌≡◌, ℕ, ◌≤◌, ◌<◌, List, [], ◌∷◌, ◌++◌, map, drop, Option, Some, None}
+use Rattle.pc_core.specs.Words.{Has, Ascends}
+use Rattle.pc_tree.specs.declared.file.ParamDef.{ParamDef}
+use Rattle.pc_tree.specs.declared.names.Name.{Name}
+use Rattle.pc_tree.specs.declared.names.TypeRef.{TypeRef}
+use Rattle.pc_tree.specs.Tree as t
+use Rattle.pc_names.specs.declared.fault.NameFault.{NameFault}
+use Rattle.pc_names.specs.declared.fault.NameFault.TheVariants as fault
+use Rattle.pc_names.specs.Words.{Text}
+use Rattle.pc_names.specs.Faults.{IsFirst, entity_faults}
+use Rattle.pc_names.specs.Chains.{Closes, InCycle, entity_at, first_own}
+use Rattle.pc_names.specs.Cycles.{cycle_faults}
+use Rattle.pc_names.specs.Names.{NamesData, Collected, IsNameFault}
+
+-- A fault other than the want of memory.
+abbrev pub OfFile : NameFault → Type 0
+OfFile f = f ≡ fault.Memory → ⊥
+
+-- A file has one list above each of its entities.
+abbrev pub OneClosing : Type 0
+OneClosing = (file : t.File) (one other : List (List ℕ)) → Closes file one → Closes file other → one ≡ other
+
+-- A file has at most one first fault, and not both a fault and names.
+abbrev pub OneFault : Type 0
+OneFault = (file : t.File) (f g : NameFault) → OfFile f → OfFile g → IsNameFault file f → IsNameFault file g → f ≡ g
+
+abbrev pub NotBoth : Type 0
+NotBoth = (file : t.File) (f : NameFault) (names : NamesData) → OfFile f → IsNameFault file f → Collected file names → ⊥
+
+-- ---- the fault with the smallest start
+
+-- Where a fault stands. What has no place counts as the start of the text.
+abbrev pub fault_start : NameFault → ℕ
+fault_start (fault.Double s) = s.start
+fault_start (fault.Unknown s) = s.start
+fault_start fault.NoMain = 0
+fault_start (fault.BadMain s) = s.start
+fault_start (fault.Cycle s) = s.start
+fault_start (fault.TooMany w s) = s.start
+fault_start fault.Memory = 0
+
+-- The places at which an entity's declarations may have a fault, in the order in which a text has them.
+abbrev pub start_of : Name → ℕ
+start_of n = n.span.start
+
+abbrev pub result_places : Option TypeRef → List ℕ
+result_places None = []
+result_places (Some ty) = start_of ty.name ∷ []
+
+abbrev pub field_places : List t.Field → List ℕ
+field_places [] = []
+field_places (f ∷ fs) = start_of f.name ∷ start_of f.ty.name ∷ field_places fs
+
+abbrev pub param_places : List ParamDef → List ℕ
+param_places [] = []
+param_places (p ∷ ps) = start_of p.name ∷ start_of p.ty.name ∷ param_places ps
+
+abbrev pub method_places : List t.Method → List ℕ
+method_places [] = []
+method_places (m ∷ ms) = start_of m.name ∷ ((param_places m.params ++ result_places m.result) ++ method_places ms)
+
+abbrev pub places : t.Entity → List ℕ
+places e = start_of e.name ∷ (map start_of e.provides ++ (field_places e.fields ++ method_places e.methods))
+
+-- Where an entity's places ascend, the first of its faults has the smallest start.
+abbrev pub FirstIsLeast : Type 0
+FirstIsLeast =
+    (entities traits : List Text) (e : t.Entity) (f g : NameFault) → Ascends (places e)
+    → IsFirst f (entity_faults entities traits e) → OfFile f → Has (entity_faults entities traits e) g → fault_start f ≤ fault_start g
+
+-- ---- cycles
+
+-- The trait from which a chain of `is` leads back to it, where none before it is such a trait.
+abbrev pub FirstCycle : t.File → ℕ → Type 0
+FirstCycle file a = InCycle file a × ((b : ℕ) → b < a → InCycle file b → ⊥)
+
+-- With the lists above a file's entities, the first fault of cycles is that of the first trait in a cycle, and there is none
+-- where no trait is in a cycle.
+abbrev pub CycleIsFirst : Type 0
+CycleIsFirst =
+    (file : t.File) (above : List (List ℕ)) (f : NameFault) → Closes file above → OfFile f → IsFirst f (cycle_faults first_own file.entities (drop first_own above))
+    → (a : ℕ) × (e : t.Entity) × FirstCycle file a × entity_at file a e × (f ≡ fault.Cycle e.name.span)
+
+abbrev pub NoCycle : Type 0
+NoCycle = (file : t.File) (above : List (List ℕ)) → Closes file above → cycle_faults first_own file.entities (drop first_own above) ≡ [] → (a : ℕ) → InCycle file a → ⊥

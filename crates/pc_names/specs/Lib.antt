@@ -1,0 +1,11 @@
+pub mod Words
+pub mod Tables
+pub mod Faults
+pub mod Reach
+pub mod Chains
+pub mod Cycles
+pub mod Counts
+pub mod Mains
+pub mod Texts
+pub mod Names
+pub mod Laws

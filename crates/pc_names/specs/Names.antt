@@ -1,0 +1,36 @@
+-- What is collected of a file.
+use Rattle.std.specs.Prelude.{◌≡◌, ℕ, List, [], ◌++◌, drop}
+use Rattle.pc_core.specs.Words.{Differ}
+use Rattle.pc_tree.specs.Tree as t
+use Rattle.pc_names.specs.declared.fault.NameFault.{NameFault}
+use Rattle.pc_names.specs.Words.{Text, built_in_names, entity_names}
+use Rattle.pc_names.specs.Faults.{IsFirst, entity_name_faults, declaration_faults}
+use Rattle.pc_names.specs.Chains.{Closes, first_own}
+use Rattle.pc_names.specs.Cycles.{cycle_faults}
+use Rattle.pc_names.specs.Counts.{count_faults}
+use Rattle.pc_names.specs.Mains.{main_faults}
+
+-- The names of the entities in the order of their numbers, the other texts, and for each entity those above it.
+pub record NamesData : Type 0 where
+  pub entities : List Text
+  pub texts : List Text
+  pub above : List (List ℕ)
+
+-- The faults that rest on what is above each of these entities, the entities of a file.
+abbrev pub above_faults : List t.Entity → List (List ℕ) → List NameFault
+above_faults all above = cycle_faults first_own all above ++ (count_faults all 0 all above ++ main_faults all)
+
+-- All faults of a file's names, pass by pass, where these are the entities above each.
+abbrev pub name_faults : t.File → List (List ℕ) → List NameFault
+name_faults file above = entity_name_faults built_in_names file.entities ++ (declaration_faults file ++ above_faults file.entities (drop first_own above))
+
+-- The file's names have no fault, and this is what they are.
+pub record Collected (file : t.File) (names : NamesData) : Type 0 where
+  pub faults : name_faults file names.above ≡ []
+  pub entities : names.entities ≡ entity_names file
+  pub above : Closes file names.above
+  pub texts : Differ names.texts
+
+-- The first fault of the file's names.
+abbrev pub IsNameFault : t.File → NameFault → Type 0
+IsNameFault file f = (above : List (List ℕ)) × Closes file above × IsFirst f (name_faults file above)

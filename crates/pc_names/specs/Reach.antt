@@ -1,0 +1,67 @@
+-- What is reached along edges, each number once, in the order in which it is found.
+use Rattle.std.specs.Prelude.{ℕ, zero, suc, ◌+◌, ◌≡◌, ◌⊎◌, Bool, true, false, List, [], ◌∷◌, ◌++◌, length, Option, Some, None, slice_get, nat_eq, if◌then◌else◌}
+
+-- For each number, those to which an edge goes from it.
+abbrev pub Edges : Type 0
+Edges = List (List ℕ)
+
+abbrev pub or_nil : Option (List ℕ) → List ℕ
+or_nil None = []
+or_nil (Some l) = l
+
+abbrev pub next : Edges → ℕ → List ℕ
+next e a = or_nil (slice_get e a)
+
+abbrev pub IsIn : ℕ → List ℕ → Type 0
+IsIn b [] = ⊥
+IsIn b (x ∷ xs) = (b ≡ x) ⊎ IsIn b xs
+
+abbrev pub has : List ℕ → ℕ → Bool
+has [] b = false
+has (x ∷ xs) b = if nat_eq b x then true else has xs b
+
+-- A new one goes last.
+abbrev pub add : List ℕ → ℕ → List ℕ
+add found b = if has found b then found else found ++ b ∷ []
+
+abbrev pub add_all : List ℕ → List ℕ → List ℕ
+add_all found [] = found
+add_all found (b ∷ bs) = add_all (add found b) bs
+
+-- From the found one at this place on, those behind its edges are added. The number bounds the turns.
+abbrev pub turn : Option ℕ → List ℕ → (ℕ → List ℕ) → List ℕ
+turn None found go = found
+turn (Some a) found go = go a
+
+abbrev pub grow : ℕ → Edges → List ℕ → ℕ → List ℕ
+grow zero e found at = found
+grow (suc k) e found at = turn (slice_get found at) found (λ a. grow k e (add_all found (next e a)) (suc at))
+
+abbrev pub reached_in : ℕ → Edges → ℕ → List ℕ
+reached_in k e a = grow k e (add_all [] (next e a)) 0
+
+-- One turn more than there are numbers is always enough.
+abbrev pub reached : Edges → ℕ → List ℕ
+reached e a = reached_in (length e + 1) e a
+
+-- ---- in ascending order
+
+-- Those of the numbers from `at` on that were found, for so many numbers.
+abbrev pub ascending : List ℕ → ℕ → ℕ → List ℕ
+ascending found at zero = []
+ascending found at (suc k) = if has found at then at ∷ ascending found (suc at) k else ascending found (suc at) k
+
+-- For each number, what is reached from it, in ascending order.
+abbrev pub above_from : Edges → ℕ → ℕ → List (List ℕ)
+above_from e a zero = []
+above_from e a (suc k) = ascending (reached e a) 0 (length e) ∷ above_from e (suc a) k
+
+abbrev pub above_all : Edges → List (List ℕ)
+above_all e = above_from e 0 (length e)
+
+-- ---- chains
+
+-- A chain of at least one edge leads from a number to another.
+pub data Chain (e : Edges) : ℕ → ℕ → Type 0 where
+  link : {a b : ℕ} → IsIn b (next e a) → Chain e a b
+  links : {a b c : ℕ} → IsIn b (next e a) → Chain e b c → Chain e a c

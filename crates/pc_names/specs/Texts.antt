@@ -1,0 +1,18 @@
+-- The texts of a file that are no entities' names.
+use Rattle.std.specs.Prelude.{List, [], ◌∷◌, ◌++◌, codes}
+use Rattle.pc_tree.specs.Tree as t
+use Rattle.pc_names.specs.Words.{Text}
+use Rattle.pc_names.specs.Faults.{field_texts, method_texts}
+use Rattle.pc_names.specs.Tables.{with_names}
+
+-- What the built-in entities' field and methods are called, and a constructor that is added.
+abbrev pub built_in_texts : List Text
+built_in_texts = codes "out" ∷ codes "print" ∷ codes "create" ∷ []
+
+-- The names of these entities' fields and methods behind those that are known, each at its first appearance.
+abbrev pub with_members : List Text → List t.Entity → List Text
+with_members known [] = known
+with_members known (e ∷ es) = with_members (with_names known (field_texts e.fields ++ method_texts e.methods)) es
+
+abbrev pub other_texts : List t.Entity → List Text
+other_texts es = with_members (with_names [] built_in_texts) es

@@ -1,0 +1,89 @@
+//! The names of a file, or the first thing that is wrong with them.
+ghost use Rattle.std.specs.Prelude.{◌≡◌, ◌++◌, ◌+◌, ◌<◌, ◌≤◌, ◌^◌, map, drop, length, IfOk, IfErr};
+ghost use Rattle.pc_tree.specs.View.{entity_view, file_view};
+ghost use Rattle.pc_names.specs.Chains.{first_own, edges_of};
+ghost use Rattle.pc_names.specs.Counts.{count_faults};
+ghost use Rattle.pc_names.specs.Cycles.{cycle_faults};
+ghost use Rattle.pc_names.specs.Faults.{Tells, declaration_faults};
+ghost use Rattle.pc_names.specs.Mains.{main_faults};
+ghost use Rattle.pc_names.specs.Names.{Collected, IsNameFault, above_faults};
+ghost use Rattle.pc_names.specs.Reach.{above_all};
+ghost use Rattle.pc_names.specs.Words.{entity_names};
+
+use crate::counts::check_counts;
+use crate::cycles::check_cycles;
+use crate::declarations::check_entities;
+use crate::edges::list_edges;
+use crate::entities::{table_entities, table_traits};
+use crate::fault::NameFault;
+use crate::mains::check_main;
+use crate::names::Names;
+use crate::reach::close;
+use crate::table::NameTable;
+use crate::texts::table_texts;
+use pc_caps::List;
+use pc_tree::{Entity, File};
+use std::alloc::{AllocError, Global};
+
+/// How many entities are built in.
+const FIRST_OWN: u32 = 6;
+
+// The declarations of a file whose entities have these names.
+fn check_declarations(alloc: Global, entities: &NameTable, file: &File) -> Result<(), NameFault>
+    requires { entities.now ≡ entity_names (file_view file.now) }
+    ensures { Tells result (declaration_faults (file_view file.now)) }
+{
+    let traits = table_traits(alloc, file)?;
+    check_entities(alloc, entities, &traits, file.entities.as_slice())
+}
+
+// For each entity of a file, those above it.
+#[tactic(auto, using(crate::proofs::Passes::edges_few))]
+fn list_above(
+    alloc: Global,
+    entities: &NameTable,
+    file: &File,
+) -> Result<List<List<u32>>, AllocError>
+    requires names { entities.now ≡ entity_names (file_view file.now) }
+    requires numbers { first_own + length file.now.entities < 2 ^ 32 }
+    ensures { IfOk result (λ l. l ≡ above_all (edges_of (file_view file.now))) }
+{
+    let edges = list_edges(alloc, entities, file)?;
+    close(alloc, edges.as_slice())
+}
+
+// The part of a list of all entities that is about those of the file.
+fn own_part(lists: &[List<u32>]) -> &[List<u32>]
+    requires { first_own ≤ length lists.now }
+    ensures { result.now ≡ drop first_own lists.now }
+{
+    &lists[FIRST_OWN as usize..]
+}
+
+// No cycle, not too many methods, and a `Main`, where these are above each entity of the file.
+#[tactic(auto, using(crate::proofs::Firsts::is_first_on))]
+fn check_above(alloc: Global, all: &[Entity], above: &[List<u32>]) -> Result<(), NameFault>
+    requires lists { length above.now ≡ length all.now }
+    requires numbers { first_own + length all.now < 2 ^ 32 }
+    ensures { Tells result (above_faults (map entity_view all.now) above.now) }
+{
+    check_cycles(FIRST_OWN, all, above)?;
+    check_counts(alloc, all, above)?;
+    check_main(all)
+}
+
+/// The names of a file. It is `Err` exactly where something is wrong with them, and then it names the first of these, in
+/// this order: a name of an entity that stands already, and the 1,001st entity; a fault of a declaration, entity by
+/// entity; the first trait from which a chain of `is` leads back to it; the entity with which the file has more than
+/// 10,000 methods; and what `Main` lacks. Memory may run out at any time.
+pub fn collect(alloc: Global, file: &File) -> Result<Names, NameFault>
+    ensures ok { IfOk result (λ n. Collected (file_view file.now) n) }
+    ensures err { IfErr result (λ f. IsNameFault (file_view file.now) f) }
+{
+    let entities = table_entities(alloc, file)?;
+    check_declarations(alloc, &entities, file)?;
+    let above = list_above(alloc, &entities, file)?;
+    check_above(alloc, file.entities.as_slice(), own_part(above.as_slice()))?;
+    let texts = table_texts(alloc, file)?;
+    Ok(Names::of(entities, texts, above))
+}

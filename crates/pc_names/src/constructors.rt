@@ -1,0 +1,45 @@
+//! Which entities have a constructor.
+ghost use Rattle.std.specs.Prelude.{◌≡◌, map};
+ghost use Rattle.std.specs.List.{list_any};
+ghost use Rattle.pc_tree.specs.Tree as tree;
+ghost use Rattle.pc_tree.specs.View.{entity_view, method_view};
+ghost use Rattle.pc_names.specs.Words as spec;
+
+use pc_tree::{Entity, EntityKind, MethodDef, MethodWord};
+
+/// Whether the word is `new`.
+pub(crate) fn is_new(word: MethodWord) -> bool
+    ensures { result ≡ spec.is_new word }
+{
+    matches!(word, MethodWord::New)
+}
+
+// Whether one of the methods is a constructor.
+fn has_constructor(methods: &[MethodDef]) -> bool
+    ensures { result ≡ list_any (λ (m : tree.Method). spec.is_new m.word) (map method_view methods.now) }
+{
+    for method in methods {
+        if is_new(method.word) {
+            return true;
+        }
+    }
+    false
+}
+
+// Whether `create` is added to entities of this kind that have no constructor.
+fn may_be_created(kind: EntityKind) -> bool
+    ensures { result ≡ spec.may_be_created kind }
+{
+    matches!(kind, EntityKind::Class | EntityKind::Actor)
+}
+
+/// Whether the constructor `create` is added to the entity: it is a class or an actor and has no constructor.
+pub(crate) fn has_added(entity: &Entity) -> bool
+    ensures { result ≡ spec.has_added (entity_view entity.now) }
+{
+    if has_constructor(entity.methods.as_slice()) {
+        false
+    } else {
+        may_be_created(entity.kind)
+    }
+}

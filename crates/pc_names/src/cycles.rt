@@ -1,0 +1,50 @@
+//! Traits that lead back to themselves.
+ghost use Rattle.std.specs.Prelude.{◌≡◌, ◌&&◌, ◌+◌, ◌<◌, ◌^◌, map, length};
+ghost use Rattle.pc_tree.specs.View.{entity_view};
+ghost use Rattle.pc_names.specs.Cycles.{cycle_faults};
+ghost use Rattle.pc_names.specs.Faults.{Tells};
+ghost use Rattle.pc_names.specs.Reach as reach;
+ghost use Rattle.pc_names.specs.Words.{is_trait};
+
+use crate::fault::NameFault;
+use pc_caps::List;
+use pc_tree::{Entity, EntityKind};
+
+// Whether the number is in the list.
+fn has(numbers: &[u32], wanted: u32) -> bool
+    ensures { result ≡ reach.has numbers.now wanted }
+{
+    for number in numbers {
+        if *number == wanted {
+            return true;
+        }
+    }
+    false
+}
+
+// Whether the entity of this number is a trait that stands among those above it.
+fn is_in_cycle(entity: &Entity, above: &[u32], number: u32) -> bool
+    ensures { result ≡ (is_trait entity.now.kind && reach.has above.now number) }
+{
+    matches!(entity.kind, EntityKind::Trait) && has(above, number)
+}
+
+/// No trait of these entities, of which the first has this number, stands above itself.
+pub(crate) fn check_cycles(
+    first: u32,
+    entities: &[Entity],
+    above: &[List<u32>],
+) -> Result<(), NameFault>
+    requires lists { length above.now ≡ length entities.now }
+    requires numbers { first + length entities.now < 2 ^ 32 }
+    ensures { Tells result (cycle_faults first (map entity_view entities.now) above.now) }
+{
+    for at in 0..entities.len() {
+        let entity = &entities[at];
+        let number = first + at as u32;
+        if is_in_cycle(entity, above[at].as_slice(), number) {
+            return Err(NameFault::Cycle(entity.name.span));
+        }
+    }
+    Ok(())
+}

@@ -1,0 +1,214 @@
+//! What is wrong with the declarations of an entity.
+ghost use Rattle.std.specs.Prelude.{◌≡◌, ◌||◌, [], map, IfOk};
+ghost use Rattle.pc_tree.specs.View.{entity_view, field_view, method_view};
+ghost use Rattle.pc_names.specs.Faults as spec;
+ghost use Rattle.pc_names.specs.Words.{is_among};
+
+use crate::constructors::has_added;
+use crate::fault::{NameFault, Which};
+use crate::table::NameTable;
+use pc_tree::{Entity, FieldDef, MethodDef, Name, ParamDef, TypeRef};
+use std::alloc::Global;
+
+/// How many fields an entity may have.
+const FIELD_LIMIT: u32 = 64;
+
+// The type is an entity.
+fn check_type(entities: &NameTable, ty: &TypeRef) -> Result<(), NameFault>
+    ensures { spec.Tells result (spec.type_faults entities.now ty.now) }
+{
+    if entities.has(ty.name.text.as_slice()) {
+        Ok(())
+    } else {
+        Err(NameFault::Unknown(ty.name.span))
+    }
+}
+
+// The type, if one is written, is an entity.
+fn check_result(entities: &NameTable, ty: &Option<TypeRef>) -> Result<(), NameFault>
+    ensures { spec.Tells result (spec.result_faults entities.now ty.now) }
+{
+    match ty {
+        None => Ok(()),
+        Some(ty) => check_type(entities, ty),
+    }
+}
+
+// The names after `is` are traits, each named once.
+fn check_provided(alloc: Global, traits: &NameTable, provides: &[Name]) -> Result<(), NameFault>
+    ensures { spec.Tells result (spec.provided_faults traits.now [] provides.now) }
+{
+    let mut known = NameTable::new(alloc);
+    for name in provides {
+        if !traits.has(name.text.as_slice()) {
+            return Err(NameFault::Unknown(name.span));
+        }
+        if known.has(name.text.as_slice()) {
+            return Err(NameFault::Double(name.span));
+        }
+        known.add(name.text.as_slice())?;
+    }
+    Ok(())
+}
+
+// The names of the fields differ, there are not too many, and their types are entities.
+#[tactic(auto, using(crate::proofs::Firsts::is_first_on))]
+fn check_fields(
+    alloc: Global,
+    entities: &NameTable,
+    fields: &[FieldDef],
+) -> Result<NameTable, NameFault>
+    ensures tells { spec.Tells result (spec.field_faults entities.now [] (map field_view fields.now)) }
+    ensures names { IfOk result (λ t. t ≡ spec.field_texts (map field_view fields.now)) }
+{
+    let mut known = NameTable::new(alloc);
+    for field in fields {
+        let name = &field.name;
+        if known.has(name.text.as_slice()) {
+            return Err(NameFault::Double(name.span));
+        }
+        if known.len() >= FIELD_LIMIT {
+            return Err(NameFault::TooMany(Which::Fields, name.span));
+        }
+        check_type(entities, &field.ty)?;
+        known.add(name.text.as_slice())?;
+    }
+    Ok(known)
+}
+
+// The names of the parameters are no fields' and differ, and their types are entities.
+#[tactic(auto, using(crate::proofs::Firsts::is_first_on))]
+fn check_params(
+    alloc: Global,
+    entities: &NameTable,
+    fields: &NameTable,
+    params: &[ParamDef],
+) -> Result<(), NameFault>
+    ensures { spec.Tells result (spec.param_faults entities.now fields.now [] params.now) }
+{
+    let mut known = NameTable::new(alloc);
+    for param in params {
+        let name = &param.name;
+        if is_in_either(fields, &known, name) {
+            return Err(NameFault::Double(name.span));
+        }
+        check_type(entities, &param.ty)?;
+        known.add(name.text.as_slice())?;
+    }
+    Ok(())
+}
+
+// Whether one of the two tables has the name.
+fn is_in_either(one: &NameTable, other: &NameTable, name: &Name) -> bool
+    ensures { result ≡ (is_among name.now.text one.now || is_among name.now.text other.now) }
+{
+    one.has(name.text.as_slice()) || other.has(name.text.as_slice())
+}
+
+// The parameters and the result of a method.
+#[tactic(auto, using(crate::proofs::Firsts::is_first_on))]
+fn check_signature(
+    alloc: Global,
+    entities: &NameTable,
+    fields: &NameTable,
+    method: &MethodDef,
+) -> Result<(), NameFault>
+    ensures { spec.Tells result (spec.signature_faults entities.now fields.now (method_view method.now)) }
+{
+    check_params(alloc, entities, fields, method.params.as_slice())?;
+    check_result(entities, &method.result)
+}
+
+// The names of the methods are no fields' and differ, and what is inside each is right.
+#[tactic(auto, using(crate::proofs::Firsts::is_first_on))]
+fn check_methods(
+    alloc: Global,
+    entities: &NameTable,
+    fields: &NameTable,
+    methods: &[MethodDef],
+) -> Result<(), NameFault>
+    ensures { spec.Tells result (spec.method_faults entities.now fields.now [] (map method_view methods.now)) }
+{
+    let mut known = NameTable::new(alloc);
+    for method in methods {
+        let name = &method.name;
+        if is_in_either(fields, &known, name) {
+            return Err(NameFault::Double(name.span));
+        }
+        check_signature(alloc, entities, fields, method)?;
+        known.add(name.text.as_slice())?;
+    }
+    Ok(())
+}
+
+// The name of an added `create` is no field's and no method's.
+fn check_added(entity: &Entity) -> Result<(), NameFault>
+    ensures { spec.Tells result (spec.added_faults (entity_view entity.now)) }
+{
+    if has_added(entity) && is_taken(entity, b"create") {
+        Err(NameFault::Double(entity.name.span))
+    } else {
+        Ok(())
+    }
+}
+
+// Whether a field or a method of the entity has this name.
+fn is_taken(entity: &Entity, name: &[u8]) -> bool
+    ensures { result ≡ spec.is_taken name.now (entity_view entity.now) }
+{
+    has_field(entity.fields.as_slice(), name) || has_method(entity.methods.as_slice(), name)
+}
+
+fn has_field(fields: &[FieldDef], name: &[u8]) -> bool
+    ensures { result ≡ is_among name.now (spec.field_texts (map field_view fields.now)) }
+{
+    for field in fields {
+        if name == field.name.text.as_slice() {
+            return true;
+        }
+    }
+    false
+}
+
+fn has_method(methods: &[MethodDef], name: &[u8]) -> bool
+    ensures { result ≡ is_among name.now (spec.method_texts (map method_view methods.now)) }
+{
+    for method in methods {
+        if name == method.name.text.as_slice() {
+            return true;
+        }
+    }
+    false
+}
+
+// The declarations of one entity.
+#[tactic(auto, using(crate::proofs::Firsts::is_first_on))]
+fn check_entity(
+    alloc: Global,
+    entities: &NameTable,
+    traits: &NameTable,
+    entity: &Entity,
+) -> Result<(), NameFault>
+    ensures { spec.Tells result (spec.entity_faults entities.now traits.now (entity_view entity.now)) }
+{
+    check_added(entity)?;
+    check_provided(alloc, traits, entity.provides.as_slice())?;
+    let fields = check_fields(alloc, entities, entity.fields.as_slice())?;
+    check_methods(alloc, entities, &fields, entity.methods.as_slice())
+}
+
+/// The declarations of these entities, one after the other.
+#[tactic(auto, using(crate::proofs::Firsts::is_first_on))]
+pub(crate) fn check_entities(
+    alloc: Global,
+    entities: &NameTable,
+    traits: &NameTable,
+    all: &[Entity],
+) -> Result<(), NameFault>
+    ensures { spec.Tells result (spec.entities_faults entities.now traits.now (map entity_view all.now)) }
+{
+    for entity in all {
+        check_entity(alloc, entities, traits, entity)?;
+    }
+    Ok(())
+}

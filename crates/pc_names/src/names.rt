@@ -1,0 +1,78 @@
+//! The names of a file, as they are collected.
+ghost use Rattle.std.specs.Prelude.{◌≡◌, length, slice_get};
+ghost use Rattle.std.specs.Option.{option_copied};
+ghost use Rattle.pc_names.specs.Tables.{find_name};
+
+use crate::table::NameTable;
+use pc_caps::List;
+use std::marker::Model;
+
+/// The names of a file: its entities by their numbers, the other texts, and which entities stand above which.
+///
+/// The six built-in entities have the numbers 0 to 5, the file's entities those from 6 on, in order.
+#[derive(Drop)]
+pub struct Names {
+    entities: NameTable,
+    texts: NameTable,
+    above: List<List<u32>>,
+}
+
+impl Model for Names {
+    ghost use Rattle.pc_names.specs.Names.{NamesData};
+
+    ghost Value = { NamesData };
+
+    ghost view = { λ n. record { entities = n.entities; texts = n.texts; above = n.above } };
+}
+
+impl Names {
+    /// What was collected, of its three parts.
+    pub(crate) fn of(entities: NameTable, texts: NameTable, above: List<List<u32>>) -> Names
+        ensures { result ≡ record { entities = entities; texts = texts; above = above } }
+    {
+        Names {
+            entities,
+            texts,
+            above,
+        }
+    }
+
+    /// The number of the entity of this name. `None` exactly where there is none. It takes no memory.
+    pub fn entity(&self, name: &[u8]) -> Option<u32>
+        ensures { result ≡ find_name self.now.entities name.now }
+    {
+        self.entities.find(name)
+    }
+
+    /// The number of this text, which is no entity's name. `None` exactly where it is not there. It takes no memory.
+    pub fn text(&self, name: &[u8]) -> Option<u32>
+        ensures { result ≡ find_name self.now.texts name.now }
+    {
+        self.texts.find(name)
+    }
+
+    /// The numbers of the entities to which a chain of `is` leads from the entity of this number, ascending. `None`
+    /// exactly where no entity has the number.
+    pub fn above(&self, entity: u32) -> Option<&[u32]>
+        ensures { option_copied result ≡ slice_get self.now.above entity }
+    {
+        match self.above.get(entity as usize) {
+            Some(above) => Some(above.as_slice()),
+            None => None,
+        }
+    }
+
+    /// How many entities there are, with the six that are built in.
+    pub fn entity_count(&self) -> u32
+        ensures { result ≡ length self.now.entities }
+    {
+        self.entities.len()
+    }
+
+    /// How many other texts there are.
+    pub fn text_count(&self) -> u32
+        ensures { result ≡ length self.now.texts }
+    {
+        self.texts.len()
+    }
+}
