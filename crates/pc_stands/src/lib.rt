@@ -1,0 +1,6 @@
+//! What elaboration is: which nodes, slots and faults stand for the body of a method. Definitions, and what is true of them.
+#![tactic(auto)]
+
+mod laws;
+
+pub use laws::nodes_stand_in_post_order;
