@@ -1,1 +1,3 @@
 pub mod PostOrders
+pub mod Shapes
+pub mod Scopes

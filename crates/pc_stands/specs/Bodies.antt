@@ -9,7 +9,7 @@ use Rattle.pc_tree.specs.Tree as t
 use Rattle.pc_core.specs.declared.nodes.NodeKind.TheVariants as node
 use Rattle.pc_stands.specs.Roses.{Rose, Roses, rose, leaf, no_roses, more, one, two, and_last}
 use Rattle.pc_stands.specs.Scopes.{Context, Scope, params_scope}
-use Rattle.pc_stands.specs.Expressions.{expr_of, items_of, write_field, added_this}
+use Rattle.pc_stands.specs.Expressions.{expr_of, items_of, write_field, added_this, added_none, sequence}
 
 -- The initial values of fields are written to the fields of `this`, in order, before what follows. In them no parameter is
 -- visible.
@@ -26,22 +26,18 @@ abbrev pub initial_fields : MethodWord → List t.Field → List t.Field
 initial_fields word.New fs = fs
 initial_fields w fs = []
 
--- The value None, for which nothing is written.
-abbrev pub added_none : Span → Rose
-added_none s = leaf (node.Prim 0) s 0
-
 -- A function without a written result gives None.
 abbrev pub gives_none : MethodWord → Option TypeRef → Bool
 gives_none word.Fun None = true
 gives_none w r = false
 
 abbrev pub none_last : Bool → Span → Roses → Roses
-none_last true s rs = and_last rs (added_none s)
+none_last true s rs = and_last rs (added_none s 0)
 none_last false s rs = rs
 
 -- A body stands at the name of its method, and its sequence from its first written item to its last.
 abbrev pub body_around : Span → Span → Roses → Rose
-body_around name s items = rose node.Body name 0 (one (rose node.Seq s 0 items))
+body_around name s items = rose node.Body name 0 (one (sequence s 0 items))
 
 abbrev pub body_with : Context → List t.Field → t.Method → t.Seq → Rose
 body_with c fs m (t.seq is s) = body_around m.name.span s (initials_then c (initial_fields m.word fs) (none_last (gives_none m.word m.result) m.name.span (items_of c (params_scope m.params) 0 is)))
@@ -56,4 +52,4 @@ body_of c fs m = maybe_body c fs m m.body
 
 -- The body of a `create` that is added to an entity of this name: the initial values, and then None.
 abbrev pub added_body : Context → List t.Field → Span → Rose
-added_body c fs name = body_around name name (initials_then c fs (one (added_none name)))
+added_body c fs name = body_around name name (initials_then c fs (one (added_none name 0)))

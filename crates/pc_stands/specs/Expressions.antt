@@ -135,9 +135,21 @@ abbrev pub arm_place : Bool → Span → Span → Span
 arm_place true whole arm = whole
 arm_place false whole arm = join arm whole
 
+-- The value None, for which nothing is written.
+abbrev pub added_none : Span → ℕ → Rose
+added_none s d = leaf (node.Prim 0) s d
+
+-- A sequence has an item: without one, which no text spells, it gives None.
+abbrev pub or_none : Span → ℕ → Roses → Roses
+or_none s d no_roses = one (added_none s d)
+or_none s d (more r rs) = more r rs
+
+abbrev pub sequence : Span → ℕ → Roses → Rose
+sequence s d items = rose node.Seq s d (or_none s d items)
+
 -- A missing `else` gives None, at the word `end`.
 abbrev pub no_else : Span → ℕ → Rose
-no_else s d = rose node.Seq (end_word s) d (one (leaf (node.Prim 0) (end_word s) d))
+no_else s d = sequence (end_word s) d (one (added_none (end_word s) d))
 
 abbrev mutual
   -- An expression at this depth, where these locals and parameters are visible.
@@ -158,15 +170,16 @@ abbrev mutual
   expr_of c sc d (t.recover cap b s) = rose (node.Recover cap) s d (one (whole_of c sc (deeper d) b))
   expr_of c sc d (t.assign l r s) = assign_of c sc d s (expr_of c sc d r) l
 
-  -- What stands left of `=` gets the value.
+  -- What stands left of `=` gets the value. Only names and fields stand there.
   pub assign_of : Context → Scope → ℕ → Span → Rose → t.Expr → Rose
   assign_of c sc d s value (t.name n) = write_name c s n d value (resolve c sc n.text)
   assign_of c sc d s value (t.chain h ss whole) = chain_of c sc d whole (write s value) (start_of c sc h) (expr_of c sc d h) ss
-  assign_of c sc d s value e = gap s d
+  assign_of c sc d s value e = value
 
-  -- Chains of operators nest to the left, and each reaches from the start of the chain to its own right side.
+  -- Chains of operators nest to the left, and each reaches from the start of the chain to its own right side. They have
+  -- operands: without one, which no text spells, they give None.
   pub infix_of : Context → Scope → ℕ → Op → Span → t.Exprs → Rose
-  infix_of c sc d o s t.no_exprs = gap s d
+  infix_of c sc d o s t.no_exprs = added_none s d
   infix_of c sc d o s (t.expr e es) = operands_of c sc d o s (expr_of c sc d e) es
 
   pub operands_of : Context → Scope → ℕ → Op → Span → Rose → t.Exprs → Rose
@@ -204,11 +217,11 @@ abbrev mutual
 
   -- A sequence, from its first item to its last.
   pub whole_of : Context → Scope → ℕ → t.Seq → Rose
-  whole_of c sc d (t.seq is s) = rose node.Seq s d (items_of c sc d is)
+  whole_of c sc d (t.seq is s) = sequence s d (items_of c sc d is)
 
   -- A sequence at another place: in parentheses, with them.
   pub seq_of : Context → Scope → ℕ → Span → t.Seq → Rose
-  seq_of c sc d s (t.seq is sp) = rose node.Seq s d (items_of c sc d is)
+  seq_of c sc d s (t.seq is sp) = sequence s d (items_of c sc d is)
 
   pub items_of : Context → Scope → ℕ → t.Items → Roses
   items_of c sc d t.no_items = no_roses

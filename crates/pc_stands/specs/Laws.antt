@@ -3,7 +3,12 @@ use Rattle.std.specs.Prelude.{◌≡◌, ℕ, ◌+◌, ◌≤◌, List, [], ◌�
 use Rattle.pc_core.specs.declared.nodes.Node.{Node}
 use Rattle.pc_core.specs.Words.{Each}
 use Rattle.pc_core.specs.Methods.{PostOrder}
+use Rattle.pc_tree.specs.Tree as t
 use Rattle.pc_stands.specs.Roses.{Rose, put, node_limit}
+use Rattle.pc_stands.specs.Scopes.{Context, Scope}
+use Rattle.pc_stands.specs.Expressions.{expr_of}
+use Rattle.pc_stands.specs.Shapes.{Shaped}
+use Rattle.pc_stands.specs.Visibility.{Scoped, slots}
 
 -- What is there when a rose of method m has been put behind some nodes: `own` are its nodes, and n is the last of them.
 pub record Stands (m n : ℕ) (before after : List Node) : Type 0 where
@@ -17,3 +22,9 @@ pub record Stands (m n : ℕ) (before after : List Node) : Type 0 where
 
 abbrev pub IsPostOrder : Type 0
 IsPostOrder = (m : ℕ) (r : Rose) (n : ℕ) (before after : List Node) → put m r before ≡ Some (n, after) → Stands m n before after
+
+abbrev pub IsShaped : Type 0
+IsShaped = (c : Context) (scope : Scope) (d : ℕ) (e : t.Expr) → Shaped d (expr_of c scope d e)
+
+abbrev pub IsScoped : Type 0
+IsScoped = (c : Context) (scope : Scope) (d : ℕ) (e : t.Expr) → Scoped (slots scope) (expr_of c scope d e)

@@ -4,4 +4,6 @@ pub mod Expressions
 pub mod Bodies
 pub mod Faults
 pub mod Slots
+pub mod Shapes
+pub mod Visibility
 pub mod Laws

@@ -1,8 +1,20 @@
 //! What is true of the definitions. Each call does nothing, and its contract is the fact.
-ghost use Rattle.pc_stands.specs.Laws.{IsPostOrder};
+ghost use Rattle.pc_stands.specs.Laws.{IsPostOrder, IsScoped, IsShaped};
 
 /// However a rose looks, its nodes are put behind those that are there, all of its method and in post-order, and its own
 /// node is the last.
 pub fn nodes_stand_in_post_order()
     ensures { IsPostOrder }
+{}
+
+/// What stands for an expression at some depth has that depth, each of its nodes has as many children as its kind wants, and
+/// each child has its parent's depth, or one more in a `recover`.
+pub fn children_are_shaped()
+    ensures { IsShaped }
+{}
+
+/// What stands for an expression names no local but those that are visible. A definition stands nowhere but as an item of a
+/// sequence, and what it defines is visible to the later items of that sequence alone.
+pub fn locals_are_visible()
+    ensures { IsScoped }
 {}
