@@ -1,3 +1,4 @@
 pub mod PostOrders
 pub mod Shapes
 pub mod Scopes
+pub mod Meanings

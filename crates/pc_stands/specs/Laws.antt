@@ -1,5 +1,5 @@
 -- What is true of the definitions.
-use Rattle.std.specs.Prelude.{◌≡◌, ℕ, ◌+◌, ◌≤◌, List, [], ◌∷◌, ◌++◌, length, Some}
+use Rattle.std.specs.Prelude.{◌≡◌, ℕ, ◌+◌, ◌<◌, ◌≤◌, List, [], ◌∷◌, ◌++◌, length, Some}
 use Rattle.pc_core.specs.declared.nodes.Node.{Node}
 use Rattle.pc_core.specs.Words.{Each}
 use Rattle.pc_core.specs.Methods.{PostOrder}
@@ -9,6 +9,8 @@ use Rattle.pc_stands.specs.Scopes.{Context, Scope}
 use Rattle.pc_stands.specs.Expressions.{expr_of}
 use Rattle.pc_stands.specs.Shapes.{Shaped}
 use Rattle.pc_stands.specs.Visibility.{Scoped, slots}
+use Rattle.pc_stands.specs.Faults.{faults_of}
+use Rattle.pc_stands.specs.Meanings.{Every, Names}
 
 -- What is there when a rose of method m has been put behind some nodes: `own` are its nodes, and n is the last of them.
 pub record Stands (m n : ℕ) (before after : List Node) : Type 0 where
@@ -28,3 +30,7 @@ IsShaped = (c : Context) (scope : Scope) (d : ℕ) (e : t.Expr) → Shaped d (ex
 
 abbrev pub IsScoped : Type 0
 IsScoped = (c : Context) (scope : Scope) (d : ℕ) (e : t.Expr) → Scoped (slots scope) (expr_of c scope d e)
+
+-- Every program has texts, such as the names of the language itself.
+abbrev pub NothingIsMissing : Type 0
+NothingIsMissing = (c : Context) (scope : Scope) (d : ℕ) (e : t.Expr) → 0 < length c.texts → faults_of c scope e ≡ [] → Every (Names c) (expr_of c scope d e)

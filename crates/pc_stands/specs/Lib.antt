@@ -6,4 +6,5 @@ pub mod Faults
 pub mod Slots
 pub mod Shapes
 pub mod Visibility
+pub mod Meanings
 pub mod Laws

@@ -1,5 +1,5 @@
 //! What is true of the definitions. Each call does nothing, and its contract is the fact.
-ghost use Rattle.pc_stands.specs.Laws.{IsPostOrder, IsScoped, IsShaped};
+ghost use Rattle.pc_stands.specs.Laws.{IsPostOrder, IsScoped, IsShaped, NothingIsMissing};
 
 /// However a rose looks, its nodes are put behind those that are there, all of its method and in post-order, and its own
 /// node is the last.
@@ -17,4 +17,10 @@ pub fn children_are_shaped()
 /// sequence, and what it defines is visible to the later items of that sequence alone.
 pub fn locals_are_visible()
     ensures { IsScoped }
+{}
+
+/// Where an expression has no fault, each number in what stands for it names what it should: None or a primitive of the
+/// program's own, a constructor of a class or of an actor, a text; and nothing stands for a missing name.
+pub fn names_are_there()
+    ensures { NothingIsMissing }
 {}
