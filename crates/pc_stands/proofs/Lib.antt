@@ -2,3 +2,4 @@ pub mod PostOrders
 pub mod Shapes
 pub mod Scopes
 pub mod Meanings
+pub mod Nodes

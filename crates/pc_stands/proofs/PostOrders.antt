@@ -66,7 +66,7 @@ only m x zero y own e = subst (λ (z : Node). z.method ≡ m) (same_Some x y e) 
 only m x (suc i) y own e = absurd (none-some y e)
 
 mutual
-  post : (m : ℕ) (r : Rose) (n : ℕ) (before after : List Node) → put m r before ≡ Some (n, after) → Stands m n before after
+  pub post : (m : ℕ) (r : Rose) (n : ℕ) (before after : List Node) → put m r before ≡ Some (n, after) → Stands m n before after
   post m (rose k s d rs) n before after h =
       let p : Parts (puts m rs before) (push m k s d) (n, after) = parts (puts m rs before) (push m k s d) (n, after) h in
       let q : Pushed m k s d p.fst p.mid n after = pushed m k s d p.fst p.mid n after p.second in
@@ -87,7 +87,7 @@ mutual
         order = λ waiting. subst (λ j. PostOrder (length before) (c.own ++ x ∷ []) waiting (waiting ++ j ∷ [])) it (post_order_push (length before) c.own waiting waiting x (c.order waiting));
       }
 
-  posts : (m : ℕ) (rs : Roses) (numbers : List ℕ) (before after : List Node) → puts m rs before ≡ Some (numbers, after) → AllStand m numbers before after
+  pub posts : (m : ℕ) (rs : Roses) (numbers : List ℕ) (before after : List Node) → puts m rs before ≡ Some (numbers, after) → AllStand m numbers before after
   posts m no_roses numbers before after h =
       let e = same_Some _ _ h in
       record {

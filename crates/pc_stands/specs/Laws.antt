@@ -1,8 +1,10 @@
 -- What is true of the definitions.
-use Rattle.std.specs.Prelude.{◌≡◌, ℕ, ◌+◌, ◌<◌, ◌≤◌, List, [], ◌∷◌, ◌++◌, length, Some}
+use Rattle.std.specs.Prelude.{◌≡◌, ℕ, ◌+◌, ◌<◌, ◌≤◌, List, [], ◌∷◌, ◌++◌, length, Some, slice_get}
 use Rattle.pc_core.specs.declared.nodes.Node.{Node}
 use Rattle.pc_core.specs.Words.{Each}
 use Rattle.pc_core.specs.Methods.{PostOrder}
+use Rattle.pc_core.specs.declared.nodes.NodeKind.{NodeKind}
+use Rattle.pc_core.specs.Nodes.{HasArity, inner_depth}
 use Rattle.pc_tree.specs.Tree as t
 use Rattle.pc_stands.specs.Roses.{Rose, put, node_limit}
 use Rattle.pc_stands.specs.Scopes.{Context, Scope}
@@ -34,3 +36,13 @@ IsScoped = (c : Context) (scope : Scope) (d : ℕ) (e : t.Expr) → Scoped (slot
 -- Every program has texts, such as the names of the language itself.
 abbrev pub NothingIsMissing : Type 0
 NothingIsMissing = (c : Context) (scope : Scope) (d : ℕ) (e : t.Expr) → 0 < length c.texts → faults_of c scope e ≡ [] → Every (Names c) (expr_of c scope d e)
+
+-- A node of a list has as many children as its kind wants, and each of them stands in the list, as deep as it has to be.
+pub record HasChildren (nodes : List Node) (x : Node) : Type 0 where
+  pub arity : HasArity x.kind (length x.children)
+  pub depths : Each (λ i k. (y : Node) × (slice_get nodes k ≡ Some y) × (y.depth ≡ inner_depth x.kind x.depth)) x.children
+
+-- So it is with the nodes of a whole body. A depth is never so great that it would not be a number of 32 bits, since the
+-- nodes are not so many.
+abbrev pub NodesHaveChildren : Type 0
+NodesHaveChildren = (m : ℕ) (r : Rose) (n : ℕ) (before after : List Node) → Shaped 0 r → put m r before ≡ Some (n, after) → (i : ℕ) (x : Node) → length before ≤ i → slice_get after i ≡ Some x → HasChildren after x

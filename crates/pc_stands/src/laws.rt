@@ -1,5 +1,5 @@
 //! What is true of the definitions. Each call does nothing, and its contract is the fact.
-ghost use Rattle.pc_stands.specs.Laws.{IsPostOrder, IsScoped, IsShaped, NothingIsMissing};
+ghost use Rattle.pc_stands.specs.Laws.{IsPostOrder, IsScoped, IsShaped, NodesHaveChildren, NothingIsMissing};
 
 /// However a rose looks, its nodes are put behind those that are there, all of its method and in post-order, and its own
 /// node is the last.
@@ -23,4 +23,10 @@ pub fn locals_are_visible()
 /// program's own, a constructor of a class or of an actor, a text; and nothing stands for a missing name.
 pub fn names_are_there()
     ensures { NothingIsMissing }
+{}
+
+/// When a rose with the right shape has been put behind some nodes, each new node has as many children as its kind wants, and
+/// each of them stands there with its parent's depth, or one more in a `recover`.
+pub fn nodes_have_children()
+    ensures { NodesHaveChildren }
 {}

@@ -3,4 +3,6 @@
 
 mod laws;
 
-pub use laws::{children_are_shaped, locals_are_visible, names_are_there, nodes_stand_in_post_order};
+pub use laws::{
+    children_are_shaped, locals_are_visible, names_are_there, nodes_have_children, nodes_stand_in_post_order,
+};
