@@ -3,3 +3,4 @@ pub mod Shapes
 pub mod Scopes
 pub mod Meanings
 pub mod Nodes
+pub mod Bodies

@@ -31,11 +31,11 @@ IsSome (x ∷ xs) = Unit {0}
 some_fault : {x : Fault} {xs : List Fault} → x ∷ xs ≡ [] → ⊥
 some_fault h = subst IsSome h tt
 
-left_none : (xs ys : List Fault) → xs ++ ys ≡ [] → xs ≡ []
+pub left_none : (xs ys : List Fault) → xs ++ ys ≡ [] → xs ≡ []
 left_none [] ys h = refl
 left_none (x ∷ xs) ys h = absurd (some_fault h)
 
-right_none : (xs ys : List Fault) → xs ++ ys ≡ [] → ys ≡ []
+pub right_none : (xs ys : List Fault) → xs ++ ys ≡ [] → ys ≡ []
 right_none [] ys h = h
 right_none (x ∷ xs) ys h = absurd (some_fault h)
 
@@ -106,17 +106,17 @@ module _ (c : Context) (some_text : 0 < length c.texts) where
   abbrev AllFine : Roses → Type 0
   AllFine = EveryOf (Names c)
 
-  text_ok : (n : List ℕ) → text_of c n < length c.texts
+  pub text_ok : (n : List ℕ) → text_of c n < length c.texts
   text_ok n = text_below 0 c.texts n (length c.texts) (omega arith) some_text
 
-  last_ok : (rs : Roses) (r : Rose) → AllFine rs → Fine r → AllFine (and_last rs r)
+  pub last_ok : (rs : Roses) (r : Rose) → AllFine rs → Fine r → AllFine (and_last rs r)
   last_ok no_roses r h g = (g, tt)
   last_ok (more x xs) r h g = (h.0, last_ok xs r h.1 g)
 
   call_ok : (s : Span) (n : List ℕ) (d : ℕ) (args : Roses) (r : Rose) → AllFine args → Fine r → Fine (call c s n d args r)
   call_ok s n d args r h g = (text_ok n, last_ok args r h g)
 
-  sequence_ok : (s : Span) (d : ℕ) (rs : Roses) → AllFine rs → Fine (sequence s d rs)
+  pub sequence_ok : (s : Span) (d : ℕ) (rs : Roses) → AllFine rs → Fine (sequence s d rs)
   sequence_ok s d no_roses h = (tt, ((inl refl, tt), tt))
   sequence_ok s d (more r rs) h = (tt, h)
 
@@ -294,7 +294,7 @@ module _ (c : Context) (some_text : 0 < length c.texts) where
   begun_ok sc d (t.assign l r s) x alone f = alone f
 
   mutual
-    expr_ok : (sc : Scope) (d : ℕ) (e : t.Expr) → faults_of c sc e ≡ [] → Fine (expr_of c sc d e)
+    pub expr_ok : (sc : Scope) (d : ℕ) (e : t.Expr) → faults_of c sc e ≡ [] → Fine (expr_of c sc d e)
     expr_ok sc d (t.number n s) f = (tt, tt)
     expr_ok sc d (t.truth b s) f = (tt, tt)
     expr_ok sc d (t.text b s) f = (tt, tt)

@@ -236,7 +236,7 @@ module _ (P : NodeKind → Type 0) where
         let inside : NewAre before p.mid = all_kept m rs p.fst before p.mid every.1 p.first in
         subst (NewAre before) (sym q.nodes) (λ i x from e. elim (get_push p.mid (node_of m k s d p.fst) i x e) [ inl old ↦ inside i x from old | inr new ↦ subst (λ (y : Node). P y.kind) new.1 every.0 ])
 
-    all_kept : (m : ℕ) (rs : Roses) (ks : List ℕ) (before after : List Node) → EveryOf P rs → puts m rs before ≡ Some (ks, after) → NewAre before after
+    pub all_kept : (m : ℕ) (rs : Roses) (ks : List ℕ) (before after : List Node) → EveryOf P rs → puts m rs before ≡ Some (ks, after) → NewAre before after
     all_kept m no_roses ks before after every h = subst (NewAre before) (ap (λ r. r.1) (same_Some _ _ h)) (λ i x from g. absurd (beyond before i x from g))
     all_kept m (more r rs) ks before after every h =
         let p = parts (put m r before) (λ a. λ ns. and_then (puts m rs ns) (λ b. λ ns. Some (a ∷ b, ns))) (ks, after) h in

@@ -14,7 +14,7 @@ use Rattle.pc_core.specs.Nodes.{HasArity}
 use Rattle.pc_stands.specs.Shapes.{count, depth_inside, Shaped, AllShaped}
 use Rattle.pc_stands.specs.Laws.{IsShaped}
 
-last_ok : (d : ℕ) (rs : Roses) (r : Rose) → AllShaped d rs → Shaped d r → AllShaped d (and_last rs r)
+pub last_ok : (d : ℕ) (rs : Roses) (r : Rose) → AllShaped d rs → Shaped d r → AllShaped d (and_last rs r)
 last_ok d no_roses r h g = (g, tt)
 last_ok d (more x xs) r h g = (h.0, last_ok d xs r h.1 g)
 
@@ -25,7 +25,7 @@ last_some (more x xs) r = omega arith
 call_ok : (c : Context) (s : Span) (name : List ℕ) (d : ℕ) (args : Roses) (r : Rose) → AllShaped d args → Shaped d r → Shaped d (call c s name d args r)
 call_ok c s name d args r h g = (refl, last_some args r, last_ok d args r h g)
 
-sequence_ok : (s : Span) (d : ℕ) (rs : Roses) → AllShaped d rs → Shaped d (sequence s d rs)
+pub sequence_ok : (s : Span) (d : ℕ) (rs : Roses) → AllShaped d rs → Shaped d (sequence s d rs)
 sequence_ok s d no_roses h = (refl, omega arith, ((refl, refl, tt), tt))
 sequence_ok s d (more r rs) h = (refl, omega arith, h)
 
@@ -106,7 +106,7 @@ if_ok true s d a b r h g k = (refl, refl, (h, (g, (k, tt))))
 if_ok false s d a b r h g k = (refl, omega arith, ((refl, refl, (h, (g, (k, tt)))), tt))
 
 mutual
-  expr_ok : (c : Context) (sc : Scope) (d : ℕ) (e : t.Expr) → Shaped d (expr_of c sc d e)
+  pub expr_ok : (c : Context) (sc : Scope) (d : ℕ) (e : t.Expr) → Shaped d (expr_of c sc d e)
   expr_ok c sc d (t.number n s) = (refl, refl, tt)
   expr_ok c sc d (t.truth b s) = (refl, refl, tt)
   expr_ok c sc d (t.text b s) = (refl, refl, tt)

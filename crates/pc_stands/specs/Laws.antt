@@ -4,6 +4,8 @@ use Rattle.pc_core.specs.declared.nodes.Node.{Node}
 use Rattle.pc_core.specs.Words.{Each}
 use Rattle.pc_core.specs.Methods.{PostOrder}
 use Rattle.pc_core.specs.declared.nodes.NodeKind.{NodeKind}
+use Rattle.pc_core.specs.declared.nodes.NodeKind.TheVariants as node
+use Rattle.pc_caps.specs.declared.span.Span.{Span}
 use Rattle.pc_core.specs.Nodes.{HasArity, inner_depth}
 use Rattle.pc_tree.specs.Tree as t
 use Rattle.pc_stands.specs.Roses.{Rose, put, node_limit}
@@ -11,7 +13,8 @@ use Rattle.pc_stands.specs.Scopes.{Context, Scope}
 use Rattle.pc_stands.specs.Expressions.{expr_of}
 use Rattle.pc_stands.specs.Shapes.{Shaped}
 use Rattle.pc_stands.specs.Visibility.{Scoped, slots}
-use Rattle.pc_stands.specs.Faults.{faults_of}
+use Rattle.pc_stands.specs.Bodies.{body_of, added_body}
+use Rattle.pc_stands.specs.Faults.{faults_of, body_faults, initial_faults}
 use Rattle.pc_stands.specs.Meanings.{Every, Names}
 
 -- What is there when a rose of method m has been put behind some nodes: `own` are its nodes, and n is the last of them.
@@ -46,3 +49,20 @@ pub record HasChildren (nodes : List Node) (x : Node) : Type 0 where
 -- nodes are not so many.
 abbrev pub NodesHaveChildren : Type 0
 NodesHaveChildren = (m : ℕ) (r : Rose) (n : ℕ) (before after : List Node) → Shaped 0 r → put m r before ≡ Some (n, after) → (i : ℕ) (x : Node) → length before ≤ i → slice_get after i ≡ Some x → HasChildren after x
+
+-- What is there when a whole body of method m has been put behind some nodes: its nodes, in post-order, of which the body is
+-- the last and the only one of its kind; each with its children; and what they name is there.
+pub record BodyStands (c : Context) (m n : ℕ) (before after : List Node) : Type 0 where
+  pub stands : Stands m n before after
+  pub root : Node
+  pub is_root : slice_get after n ≡ Some root
+  pub is_body : root.kind ≡ node.Body
+  pub depth : root.depth ≡ 0
+  pub children : (i : ℕ) (x : Node) → length before ≤ i → slice_get after i ≡ Some x → HasChildren after x
+  pub names : (i : ℕ) (x : Node) → length before ≤ i → i < n → slice_get after i ≡ Some x → Names c x.kind
+
+abbrev pub BodiesStand : Type 0
+BodiesStand = (c : Context) (fs : List t.Field) (x : t.Method) (r : Rose) (m n : ℕ) (before after : List Node) → 0 < length c.texts → body_faults c fs x ≡ [] → body_of c fs x ≡ Some r → put m r before ≡ Some (n, after) → BodyStands c m n before after
+
+abbrev pub AddedBodiesStand : Type 0
+AddedBodiesStand = (c : Context) (fs : List t.Field) (name : Span) (m n : ℕ) (before after : List Node) → 0 < length c.texts → initial_faults c fs ≡ [] → put m (added_body c fs name) before ≡ Some (n, after) → BodyStands c m n before after

@@ -1,5 +1,5 @@
 //! What is true of the definitions. Each call does nothing, and its contract is the fact.
-ghost use Rattle.pc_stands.specs.Laws.{IsPostOrder, IsScoped, IsShaped, NodesHaveChildren, NothingIsMissing};
+ghost use Rattle.pc_stands.specs.Laws.{AddedBodiesStand, BodiesStand, IsPostOrder, IsScoped, IsShaped, NodesHaveChildren, NothingIsMissing};
 
 /// However a rose looks, its nodes are put behind those that are there, all of its method and in post-order, and its own
 /// node is the last.
@@ -29,4 +29,12 @@ pub fn names_are_there()
 /// each of them stands there with its parent's depth, or one more in a `recover`.
 pub fn nodes_have_children()
     ensures { NodesHaveChildren }
+{}
+
+/// Where a body has no fault, its nodes are put in post-order behind those that are there; they are of its method; the body is
+/// the last of them and the only one of its kind; each has its children; and what they name is there. So it is with the body
+/// of a `create` that is added.
+pub fn bodies_stand()
+    ensures written { BodiesStand }
+    ensures added { AddedBodiesStand }
 {}
