@@ -4,3 +4,4 @@ pub mod Scopes
 pub mod Meanings
 pub mod Nodes
 pub mod Bodies
+pub mod Examples

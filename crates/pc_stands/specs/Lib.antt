@@ -8,3 +8,4 @@ pub mod Shapes
 pub mod Visibility
 pub mod Meanings
 pub mod Laws
+pub mod Example

@@ -1,4 +1,5 @@
 //! What is true of the definitions. Each call does nothing, and its contract is the fact.
+ghost use Rattle.pc_stands.specs.Example.{FirstStands, SecondStands, ThirdStands};
 ghost use Rattle.pc_stands.specs.Laws.{AddedBodiesStand, BodiesStand, IsPostOrder, IsScoped, IsShaped, NodesHaveChildren, NothingIsMissing};
 
 /// However a rose looks, its nodes are put behind those that are there, all of its method and in post-order, and its own
@@ -37,4 +38,12 @@ pub fn nodes_have_children()
 pub fn bodies_stand()
     ensures written { BodiesStand }
     ensures added { AddedBodiesStand }
+{}
+
+/// Three small bodies, whose nodes are written out by hand, stand so: with a constructor; with calls, an `elseif` and a field
+/// that is written; and with operators, a local and a `recover`.
+pub fn small_bodies_stand()
+    ensures first { FirstStands }
+    ensures second { SecondStands }
+    ensures third { ThirdStands }
 {}
