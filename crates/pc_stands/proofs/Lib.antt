@@ -4,4 +4,5 @@ pub mod Scopes
 pub mod Meanings
 pub mod Nodes
 pub mod Bodies
+pub mod BodyScopes
 pub mod Examples

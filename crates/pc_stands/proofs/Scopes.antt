@@ -41,7 +41,7 @@ meant c sc name = by (slot_of sc name) refl
     by None h = other (is_among c.fields name) (is_among c.methods name)
 
 -- An item that defines nothing.
-item_alone : (vis : List ℕ) (r : Rose) (rs : Roses) → Scoped vis r → ItemsScoped vis rs → ItemsScoped vis (more r rs)
+pub item_alone : (vis : List ℕ) (r : Rose) (rs : Roses) → Scoped vis r → ItemsScoped vis rs → ItemsScoped vis (more r rs)
 item_alone vis (rose k s d cs) rs h g = by k h
   where
     by : (q : NodeKind) → Asks q vis (AllScoped vis cs) (ItemsScoped vis cs) → ItemAsks q vis (AllScoped vis cs) (Asks q vis (AllScoped vis cs) (ItemsScoped vis cs)) (λ v. ItemsScoped v rs)
@@ -74,7 +74,7 @@ last_ok : (vis : List ℕ) (rs : Roses) (r : Rose) → AllScoped vis rs → Scop
 last_ok vis no_roses r h g = (g, tt)
 last_ok vis (more x xs) r h g = (h.0, last_ok vis xs r h.1 g)
 
-sequence_ok : (vis : List ℕ) (s : Span) (d : ℕ) (rs : Roses) → ItemsScoped vis rs → Scoped vis (sequence s d rs)
+pub sequence_ok : (vis : List ℕ) (s : Span) (d : ℕ) (rs : Roses) → ItemsScoped vis rs → Scoped vis (sequence s d rs)
 sequence_ok vis s d no_roses h = (tt, tt)
 sequence_ok vis s d (more r rs) h = h
 
@@ -155,7 +155,7 @@ if_ok vis true s d a b r h g k = (h, (g, (k, tt)))
 if_ok vis false s d a b r h g k = ((h, (g, (k, tt))), tt)
 
 mutual
-  expr_ok : (c : Context) (sc : Scope) (d : ℕ) (e : t.Expr) → Scoped (slots sc) (expr_of c sc d e)
+  pub expr_ok : (c : Context) (sc : Scope) (d : ℕ) (e : t.Expr) → Scoped (slots sc) (expr_of c sc d e)
   expr_ok c sc d (t.number n s) = tt
   expr_ok c sc d (t.truth b s) = tt
   expr_ok c sc d (t.text b s) = tt

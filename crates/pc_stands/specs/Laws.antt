@@ -9,7 +9,7 @@ use Rattle.pc_caps.specs.declared.span.Span.{Span}
 use Rattle.pc_core.specs.Nodes.{HasArity, inner_depth}
 use Rattle.pc_tree.specs.Tree as t
 use Rattle.pc_stands.specs.Roses.{Rose, put, node_limit}
-use Rattle.pc_stands.specs.Scopes.{Context, Scope}
+use Rattle.pc_stands.specs.Scopes.{Context, Scope, params_scope}
 use Rattle.pc_stands.specs.Expressions.{expr_of}
 use Rattle.pc_stands.specs.Shapes.{Shaped}
 use Rattle.pc_stands.specs.Visibility.{Scoped, slots}
@@ -66,3 +66,10 @@ BodiesStand = (c : Context) (fs : List t.Field) (x : t.Method) (r : Rose) (m n :
 
 abbrev pub AddedBodiesStand : Type 0
 AddedBodiesStand = (c : Context) (fs : List t.Field) (name : Span) (m n : ℕ) (before after : List Node) → 0 < length c.texts → initial_faults c fs ≡ [] → put m (added_body c fs name) before ≡ Some (n, after) → BodyStands c m n before after
+
+-- A body names no local but its parameters and what it defines. The body of an added `create` has no parameters.
+abbrev pub BodiesAreScoped : Type 0
+BodiesAreScoped = (c : Context) (fs : List t.Field) (x : t.Method) (r : Rose) → body_of c fs x ≡ Some r → Scoped (slots (params_scope x.params)) r
+
+abbrev pub AddedBodiesAreScoped : Type 0
+AddedBodiesAreScoped = (c : Context) (fs : List t.Field) (name : Span) → Scoped [] (added_body c fs name)

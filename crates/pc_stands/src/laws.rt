@@ -1,6 +1,6 @@
 //! What is true of the definitions. Each call does nothing, and its contract is the fact.
 ghost use Rattle.pc_stands.specs.Example.{FirstStands, SecondStands, ThirdStands};
-ghost use Rattle.pc_stands.specs.Laws.{AddedBodiesStand, BodiesStand, IsPostOrder, IsScoped, IsShaped, NodesHaveChildren, NothingIsMissing};
+ghost use Rattle.pc_stands.specs.Laws.{AddedBodiesAreScoped, AddedBodiesStand, BodiesAreScoped, BodiesStand, IsPostOrder, IsScoped, IsShaped, NodesHaveChildren, NothingIsMissing};
 
 /// However a rose looks, its nodes are put behind those that are there, all of its method and in post-order, and its own
 /// node is the last.
@@ -14,10 +14,13 @@ pub fn children_are_shaped()
     ensures { IsShaped }
 {}
 
-/// What stands for an expression names no local but those that are visible. A definition stands nowhere but as an item of a
+/// What stands for an expression names no local but those that are visible, and what stands for a body none but its
+/// parameters and what it defines. A definition stands nowhere but as an item of a
 /// sequence, and what it defines is visible to the later items of that sequence alone.
 pub fn locals_are_visible()
-    ensures { IsScoped }
+    ensures expressions { IsScoped }
+    ensures bodies { BodiesAreScoped }
+    ensures added { AddedBodiesAreScoped }
 {}
 
 /// Where an expression has no fault, each number in what stands for it names what it should: None or a primitive of the
