@@ -5,4 +5,5 @@ pub mod Meanings
 pub mod Nodes
 pub mod Bodies
 pub mod BodyScopes
+pub mod Locals
 pub mod Examples

@@ -71,7 +71,7 @@ front_children ns extra x h = record { arity = h.arity; depths = at_front ns ext
 abbrev New : List Node → List Node → Type 0
 New before after = (i : ℕ) (x : Node) → length before ≤ i → slice_get after i ≡ Some x → HasChildren after x
 
-beyond : (ns : List Node) (i : ℕ) (x : Node) → length ns ≤ i → slice_get ns i ≡ Some x → ⊥
+pub beyond : (ns : List Node) (i : ℕ) (x : Node) → length ns ≤ i → slice_get ns i ≡ Some x → ⊥
 beyond ns i x from e = let l = get_below ns i x e in absurd (omega (arith, l, from))
 
 inside_is : (k : NodeKind) (d : ℕ) → d + 1 ≤ 2 ^ 32 - 1 → depth_inside k d ≡ inner_depth k d

@@ -1,8 +1,8 @@
 -- What is true of the definitions.
-use Rattle.std.specs.Prelude.{◌≡◌, ℕ, ◌+◌, ◌<◌, ◌≤◌, List, [], ◌∷◌, ◌++◌, length, Some, slice_get}
+use Rattle.std.specs.Prelude.{◌≡◌, ◌⊎◌, ℕ, ◌+◌, ◌<◌, ◌≤◌, List, [], ◌∷◌, ◌++◌, length, Some, slice_get}
 use Rattle.pc_core.specs.declared.nodes.Node.{Node}
-use Rattle.pc_core.specs.Words.{Each}
-use Rattle.pc_core.specs.Methods.{PostOrder}
+use Rattle.pc_core.specs.Words.{Each, Has}
+use Rattle.pc_core.specs.Methods.{PostOrder, Uses}
 use Rattle.pc_core.specs.declared.nodes.NodeKind.{NodeKind}
 use Rattle.pc_core.specs.declared.nodes.NodeKind.TheVariants as node
 use Rattle.pc_caps.specs.declared.span.Span.{Span}
@@ -12,7 +12,7 @@ use Rattle.pc_stands.specs.Roses.{Rose, put, node_limit}
 use Rattle.pc_stands.specs.Scopes.{Context, Scope, params_scope}
 use Rattle.pc_stands.specs.Expressions.{expr_of}
 use Rattle.pc_stands.specs.Shapes.{Shaped}
-use Rattle.pc_stands.specs.Visibility.{Scoped, slots}
+use Rattle.pc_stands.specs.Visibility.{IsIn, Scoped, slots}
 use Rattle.pc_stands.specs.Bodies.{body_of, added_body}
 use Rattle.pc_stands.specs.Faults.{faults_of, body_faults, initial_faults}
 use Rattle.pc_stands.specs.Meanings.{Every, Names}
@@ -73,3 +73,34 @@ BodiesAreScoped = (c : Context) (fs : List t.Field) (x : t.Method) (r : Rose) �
 
 abbrev pub AddedBodiesAreScoped : Type 0
 AddedBodiesAreScoped = (c : Context) (fs : List t.Field) (name : Span) → Scoped [] (added_body c fs name)
+
+-- Node i is an item of a sequence that comes after it.
+pub record IsItem (nodes : List Node) (i : ℕ) : Type 0 where
+  pub sequence : ℕ
+  pub around : Node
+  pub is_around : slice_get nodes sequence ≡ Some around
+  pub is_sequence : around.kind ≡ node.Seq
+  pub item : Has around.children i
+  pub behind : i < sequence
+
+-- Node i stands in a later item of a sequence, of which an earlier one defines the local with slot s: between the two.
+pub record IsDefined (nodes : List Node) (i s : ℕ) : Type 0 where
+  pub define : ℕ
+  pub definition : Node
+  pub is_definition : slice_get nodes define ≡ Some definition
+  pub defines : definition.kind ≡ node.Define s
+  pub before : define < i
+  pub sequence : ℕ
+  pub around : Node
+  pub is_around : slice_get nodes sequence ≡ Some around
+  pub is_sequence : around.kind ≡ node.Seq
+  pub item : Has around.children define
+  pub behind : i < sequence
+
+-- When a rose that names only what is visible has been put: whatever uses a slot uses one of those that were visible from
+-- the start, or one that is defined before it; and each definition is an item of a sequence.
+abbrev pub LocalsAreDefined : Type 0
+LocalsAreDefined =
+    (visible : List ℕ) (m : ℕ) (r : Rose) (n : ℕ) (before after : List Node) → Scoped visible r → put m r before ≡ Some (n, after)
+    → (i : ℕ) (x : Node) → length before ≤ i → slice_get after i ≡ Some x
+    → ((s : ℕ) → Uses s x.kind → IsIn s visible ⊎ IsDefined after i s) × ((s : ℕ) → x.kind ≡ node.Define s → IsItem after i)

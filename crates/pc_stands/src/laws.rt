@@ -1,6 +1,6 @@
 //! What is true of the definitions. Each call does nothing, and its contract is the fact.
 ghost use Rattle.pc_stands.specs.Example.{FirstStands, SecondStands, ThirdStands};
-ghost use Rattle.pc_stands.specs.Laws.{AddedBodiesAreScoped, AddedBodiesStand, BodiesAreScoped, BodiesStand, IsPostOrder, IsScoped, IsShaped, NodesHaveChildren, NothingIsMissing};
+ghost use Rattle.pc_stands.specs.Laws.{AddedBodiesAreScoped, AddedBodiesStand, BodiesAreScoped, BodiesStand, IsPostOrder, IsScoped, IsShaped, LocalsAreDefined, NodesHaveChildren, NothingIsMissing};
 
 /// However a rose looks, its nodes are put behind those that are there, all of its method and in post-order, and its own
 /// node is the last.
@@ -49,4 +49,11 @@ pub fn small_bodies_stand()
     ensures first { FirstStands }
     ensures second { SecondStands }
     ensures third { ThirdStands }
+{}
+
+/// When a rose that names only what is visible has been put, each node that uses a local with a slot not visible from the
+/// start comes after a definition of that slot, which is an item of a sequence, and before that sequence: it stands in a later
+/// item. And each definition is an item of a sequence.
+pub fn locals_are_defined()
+    ensures { LocalsAreDefined }
 {}
