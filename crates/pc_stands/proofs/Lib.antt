@@ -6,4 +6,5 @@ pub mod Nodes
 pub mod Bodies
 pub mod BodyScopes
 pub mod Locals
+pub mod Places
 pub mod Examples

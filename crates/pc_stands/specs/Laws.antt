@@ -1,7 +1,7 @@
 -- What is true of the definitions.
 use Rattle.std.specs.Prelude.{◌≡◌, ◌⊎◌, ℕ, ◌+◌, ◌<◌, ◌≤◌, List, [], ◌∷◌, ◌++◌, length, Some, slice_get}
 use Rattle.pc_core.specs.declared.nodes.Node.{Node}
-use Rattle.pc_core.specs.Words.{Each, Has}
+use Rattle.pc_core.specs.Words.{Each, Has, Ascends}
 use Rattle.pc_core.specs.Methods.{PostOrder, Uses}
 use Rattle.pc_core.specs.declared.nodes.NodeKind.{NodeKind}
 use Rattle.pc_core.specs.declared.nodes.NodeKind.TheVariants as node
@@ -9,12 +9,14 @@ use Rattle.pc_caps.specs.declared.span.Span.{Span}
 use Rattle.pc_core.specs.Nodes.{HasArity, inner_depth}
 use Rattle.pc_tree.specs.Tree as t
 use Rattle.pc_stands.specs.Roses.{Rose, put, node_limit}
-use Rattle.pc_stands.specs.Scopes.{Context, Scope, params_scope}
+use Rattle.pc_stands.specs.Scopes.{Context, Scope, params_scope, slot_at}
 use Rattle.pc_stands.specs.Expressions.{expr_of}
 use Rattle.pc_stands.specs.Shapes.{Shaped}
 use Rattle.pc_stands.specs.Visibility.{IsIn, Scoped, slots}
 use Rattle.pc_stands.specs.Bodies.{body_of, added_body}
-use Rattle.pc_stands.specs.Faults.{faults_of, body_faults, initial_faults}
+use Rattle.pc_stands.specs.Slots.{Local, method_locals, slots_of}
+use Rattle.pc_stands.specs.Places.{body_places, fault_start, local_start}
+use Rattle.pc_stands.specs.Faults.{Fault, faults_of, body_faults, initial_faults}
 use Rattle.pc_stands.specs.Meanings.{Every, Names}
 
 -- What is there when a rose of method m has been put behind some nodes: `own` are its nodes, and n is the last of them.
@@ -104,3 +106,12 @@ LocalsAreDefined =
     (visible : List ℕ) (m : ℕ) (r : Rose) (n : ℕ) (before after : List Node) → Scoped visible r → put m r before ≡ Some (n, after)
     → (i : ℕ) (x : Node) → length before ≤ i → slice_get after i ≡ Some x
     → ((s : ℕ) → Uses s x.kind → IsIn s visible ⊎ IsDefined after i s) × ((s : ℕ) → x.kind ≡ node.Define s → IsItem after i)
+
+-- Where the names of a body stand in the order of the text, as they do in a tree that a text spells: the first fault is the
+-- one with the smallest start.
+abbrev pub FirstIsLeast : Type 0
+FirstIsLeast = (c : Context) (fs : List t.Field) (x : t.Method) (g : Fault) (rest : List Fault) → Ascends (body_places fs x) → body_faults c fs x ≡ g ∷ rest → Each (λ i h. fault_start g ≤ fault_start h) (body_faults c fs x)
+
+-- Where they do, each local has the slot of its place among the locals, which no other one has.
+abbrev pub LocalsHaveSlots : Type 0
+LocalsHaveSlots = (fs : List t.Field) (x : t.Method) → Ascends (body_places fs x) → (i : ℕ) (l : Local) → slice_get (method_locals fs x) i ≡ Some l → slot_at (slots_of fs x) (local_start l) ≡ 1 + length x.params + i

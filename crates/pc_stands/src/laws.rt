@@ -1,6 +1,6 @@
 //! What is true of the definitions. Each call does nothing, and its contract is the fact.
 ghost use Rattle.pc_stands.specs.Example.{FirstStands, SecondStands, ThirdStands};
-ghost use Rattle.pc_stands.specs.Laws.{AddedBodiesAreScoped, AddedBodiesStand, BodiesAreScoped, BodiesStand, IsPostOrder, IsScoped, IsShaped, LocalsAreDefined, NodesHaveChildren, NothingIsMissing};
+ghost use Rattle.pc_stands.specs.Laws.{AddedBodiesAreScoped, AddedBodiesStand, BodiesAreScoped, BodiesStand, FirstIsLeast, IsPostOrder, IsScoped, IsShaped, LocalsAreDefined, LocalsHaveSlots, NodesHaveChildren, NothingIsMissing};
 
 /// However a rose looks, its nodes are put behind those that are there, all of its method and in post-order, and its own
 /// node is the last.
@@ -56,4 +56,11 @@ pub fn small_bodies_stand()
 /// item. And each definition is an item of a sequence.
 pub fn locals_are_defined()
     ensures { LocalsAreDefined }
+{}
+
+/// Where the names of a body stand in the order of the text, as they do in a tree that a text spells: of its faults the first
+/// has the smallest start, and each local has a slot of its own, by the place of its name.
+pub fn names_stand_in_order()
+    ensures first { FirstIsLeast }
+    ensures slots { LocalsHaveSlots }
 {}
