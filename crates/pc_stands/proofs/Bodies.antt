@@ -1,21 +1,20 @@
 -- Whole bodies.
-use Rattle.std.proofs.Common.{◌≡◌, ℕ, ◌+◌, ◌<◌, ◌≤◌, List, [], ◌∷◌, ◌++◌, length, Option, Some, None, Bool, true, false, refl, ap, ◌∙◌, sym, subst, arith, inl, inr}
+use Rattle.std.proofs.Common.{◌≡◌, ℕ, ◌<◌, List, [], ◌∷◌, length, Option, Some, None, Bool, true, false, refl, ap, ◌∙◌, sym, arith, inl, inr}
 use Rattle.std.specs.Prelude.{slice_get}
 use Rattle.std.proofs.lemmas.Option.{same_Some, none-some}
 use Rattle.pc_caps.specs.declared.span.Span.{Span}
 use Rattle.pc_caps.specs.Gets.{get_push, get_behind}
-use Rattle.pc_tree.specs.declared.kinds.MethodWord.{MethodWord}
 use Rattle.pc_tree.specs.declared.names.Name.{Name}
 use Rattle.pc_tree.specs.Tree as t
 use Rattle.pc_core.specs.declared.nodes.Node.{Node}
 use Rattle.pc_core.specs.declared.nodes.NodeKind.TheVariants as node
-use Rattle.pc_stands.specs.Roses.{Rose, Roses, rose, one, more, put, puts, push, node_of}
-use Rattle.pc_stands.specs.Scopes.{Context, Scope, params_scope}
-use Rattle.pc_stands.specs.Expressions.{sequence, items_of, expr_of, added_none, added_this, write_field}
-use Rattle.pc_stands.specs.Bodies.{initial_of, initials_then, initial_fields, gives_none, none_last, body_around, body_with, maybe_body, body_of, added_body}
-use Rattle.pc_stands.specs.Faults.{Fault, value_faults, initial_faults, written_body_faults, body_faults}
-use Rattle.pc_stands.specs.Shapes.{Shaped, AllShaped}
-use Rattle.pc_stands.specs.Meanings.{Every, EveryOf, Names}
+use Rattle.pc_stands.specs.Roses.{Rose, Roses, one, put, puts, push, node_of}
+use Rattle.pc_stands.specs.Scopes.{Context, params_scope}
+use Rattle.pc_stands.specs.Expressions.{sequence, items_of, added_none}
+use Rattle.pc_stands.specs.Bodies.{initial_of, initials_then, initial_fields, gives_none, none_last, body_around, body_with, maybe_body}
+use Rattle.pc_stands.specs.Faults.{value_faults, initial_faults, written_body_faults}
+use Rattle.pc_stands.specs.Shapes.{AllShaped}
+use Rattle.pc_stands.specs.Meanings.{EveryOf, Names}
 use Rattle.pc_stands.specs.Laws.{BodyStands, BodiesStand, AddedBodiesStand}
 use Rattle.pc_stands.proofs.PostOrders.{Parts, parts, Pushed, pushed, post}
 use Rattle.pc_stands.proofs.Shapes as shape
@@ -79,9 +78,9 @@ module _ (c : Context) (some_text : 0 < length c.texts) where
       let sc = params_scope x.params in
       let last = none_last (gives_none x.word x.result) x.name.span (items_of c sc 0 is) in
       around x.name.span s (initials_then c (initial_fields x.word fs) last) m n before after
-          (initials_shaped c (initial_fields x.word fs) last (none_shaped (gives_none x.word x.result) x.name.span (items_of c sc 0 is) (shape.items_ok c sc 0 is)))
-          (initials_fine (initial_fields x.word fs) last f (none_fine (gives_none x.word x.result) x.name.span (items_of c sc 0 is) (meaning.items_ok c some_text sc 0 is g)))
-          h
+      (initials_shaped c (initial_fields x.word fs) last (none_shaped (gives_none x.word x.result) x.name.span (items_of c sc 0 is) (shape.items_ok c sc 0 is)))
+      (initials_fine (initial_fields x.word fs) last f (none_fine (gives_none x.word x.result) x.name.span (items_of c sc 0 is) (meaning.items_ok c some_text sc 0 is g)))
+      h
 
   maybe_stands : (fs : List t.Field) (x : t.Method) (o : Option t.Seq) (r : Rose) (m n : ℕ) (before after : List Node) → initial_faults c (initial_fields x.word fs) ≡ [] → written_body_faults c (params_scope x.params) o ≡ [] → maybe_body c fs x o ≡ Some r → put m r before ≡ Some (n, after) → BodyStands c m n before after
   maybe_stands fs x None r m n before after f g e h = absurd (none-some r e)

@@ -1,5 +1,5 @@
 -- What a body names is visible there.
-use Rattle.std.proofs.Common.{◌≡◌, ℕ, List, [], ◌∷◌, ◌++◌, Option, Some, None, Bool, true, false, refl, sym, subst, ap, inl, inr}
+use Rattle.std.proofs.Common.{◌≡◌, ℕ, List, [], ◌∷◌, ◌++◌, Option, Some, None, Bool, true, false, refl, sym, subst, inl, inr}
 use Rattle.std.specs.Prelude.{◌⊎◌}
 use Rattle.std.proofs.lemmas.Option.{same_Some, none-some}
 use Rattle.pc_caps.specs.declared.span.Span.{Span}
@@ -10,10 +10,10 @@ use Rattle.pc_core.specs.declared.nodes.NodeKind.TheVariants as node
 use Rattle.pc_stands.specs.Roses.{Rose, Roses, rose, one, more, no_roses, and_last}
 use Rattle.pc_stands.specs.Scopes.{Context, params_scope}
 use Rattle.pc_stands.specs.Expressions.{expr_of, items_of, added_none}
-use Rattle.pc_stands.specs.Bodies.{initial_of, initials_then, initial_fields, gives_none, none_last, body_with, maybe_body, body_of, added_body}
+use Rattle.pc_stands.specs.Bodies.{initial_of, initials_then, initial_fields, gives_none, none_last, body_with, maybe_body}
 use Rattle.pc_stands.specs.Visibility.{IsIn, Asks, ItemAsks, Scoped, AllScoped, ItemsScoped, slots}
 use Rattle.pc_stands.specs.Laws.{BodiesAreScoped, AddedBodiesAreScoped}
-use Rattle.pc_stands.proofs.Scopes.{expr_ok, items_ok, item_alone, sequence_ok}
+use Rattle.pc_stands.proofs.Scopes.{expr_ok, items_ok, sequence_ok}
 
 -- ---- where more is visible
 
@@ -29,10 +29,12 @@ sub_push a b y h x i = elim (split a x i) [ inl l ↦ left b x (h x l) | inr r �
     split [] x (inr e) = absurd e
     split (z ∷ zs) x (inl e) = inl (inl e)
     split (z ∷ zs) x (inr e) = elim (split zs x e) [ inl l ↦ inl (inr l) | inr r ↦ inr r ]
+
     left : (xs : List ℕ) (x : ℕ) → IsIn x xs → IsIn x (xs ++ y ∷ [])
     left [] x e = absurd e
     left (z ∷ zs) x (inl e) = inl e
     left (z ∷ zs) x (inr e) = inr (left zs x e)
+
     right : (xs : List ℕ) → IsIn y (xs ++ y ∷ [])
     right [] = inl refl
     right (z ∷ zs) = inr (right zs)

@@ -1,10 +1,9 @@
 -- Locals among the nodes: what uses one comes after its definition, in the same sequence.
-use Rattle.std.proofs.Common.{◌≡◌, ℕ, zero, suc, ◌+◌, ◌-◌, ◌<◌, ◌≤◌, List, [], ◌∷◌, ◌++◌, length, Some, None, refl, ap, ◌∙◌, sym, subst, arith, inl, inr}
+use Rattle.std.proofs.Common.{◌≡◌, ℕ, suc, ◌+◌, ◌<◌, ◌≤◌, List, [], ◌∷◌, ◌++◌, length, Some, refl, ap, ◌∙◌, sym, subst, arith, inl, inr}
 use Rattle.std.specs.Prelude.{slice_get, ◌⊎◌}
 use Rattle.std.proofs.lemmas.Bool.{cases_lt}
 use Rattle.std.proofs.lemmas.List.{length-append, append-nil}
 use Rattle.std.proofs.lemmas.Option.{same_Some, none-some}
-use Rattle.pc_caps.specs.declared.span.Span.{Span}
 use Rattle.pc_caps.specs.Gets.{get_front, get_push, get_behind, get_below}
 use Rattle.pc_core.specs.declared.nodes.Node.{Node}
 use Rattle.pc_core.specs.declared.nodes.NodeKind.{NodeKind}
@@ -14,8 +13,8 @@ use Rattle.pc_core.specs.Methods.{Uses}
 use Rattle.pc_core.specs.Growing.{append_get}
 use Rattle.pc_stands.specs.Roses.{Rose, Roses, rose, more, no_roses, and_then, put, puts, push, node_of}
 use Rattle.pc_stands.specs.Visibility.{IsIn, Asks, ItemAsks, Scoped, AllScoped, ItemsScoped}
-use Rattle.pc_stands.specs.Laws.{IsItem, IsDefined, LocalsAreDefined, Stands}
-use Rattle.pc_stands.proofs.PostOrders.{Parts, parts, Pushed, pushed, AllStand, post, posts}
+use Rattle.pc_stands.specs.Laws.{IsItem, IsDefined, LocalsAreDefined}
+use Rattle.pc_stands.proofs.PostOrders.{Parts, parts, Pushed, pushed, AllStand, posts}
 use Rattle.pc_stands.proofs.Nodes.{beyond}
 
 -- ---- what a kind asks, by cases
@@ -133,9 +132,9 @@ good_more vis ns own ks js i x sub g = record {
   uses = λ s u. elim (g.uses s u) [
     | inl a ↦ inl a
     | inr b ↦ elim b [
-        | inl d ↦ inr (inl (defined_front ns own i s d))
-        | inr e ↦ inr (inr (record { define = e.define; definition = e.definition; is_definition = get_front ns own e.define e.definition e.is_definition; defines = e.defines; before = e.before; item = sub e.define e.item }))
-      ]
+      | inl d ↦ inr (inl (defined_front ns own i s d))
+      | inr e ↦ inr (inr (record { define = e.define; definition = e.definition; is_definition = get_front ns own e.define e.definition e.is_definition; defines = e.defines; before = e.before; item = sub e.define e.item }))
+    ]
   ];
   item = λ s e. elim (g.item s e) [ inl a ↦ inl (item_front ns own i a) | inr b ↦ inr (sub i b) ];
 }
@@ -183,9 +182,9 @@ close_items vis before mid y is own other a i x from e =
           uses = λ s u. elim (g.uses s u) [
             | inl v ↦ inl v
             | inr b ↦ elim b [
-                | inl d ↦ inr (inl d)
-                | inr f ↦ inr (inl (record { define = f.define; definition = f.definition; is_definition = f.is_definition; defines = f.defines; before = f.before; sequence = length mid; around = y; is_around = get_behind mid y []; is_sequence = is; item = f.item; behind = below }))
-              ]
+              | inl d ↦ inr (inl d)
+              | inr f ↦ inr (inl (record { define = f.define; definition = f.definition; is_definition = f.is_definition; defines = f.defines; before = f.before; sequence = length mid; around = y; is_around = get_behind mid y []; is_sequence = is; item = f.item; behind = below }))
+            ]
           ];
           item = λ s d. elim (g.item s d) [
             | inl v ↦ inl v
@@ -215,13 +214,13 @@ after_define vis bs s a mid all y at is below later i x from e =
     record {
       uses = λ z u. elim (g.uses z u) [
         | inl v ↦ elim (split vis s z v) [
-            | inl w ↦ inl w
-            | inr w ↦ inr (inr (record { define = a; definition = y; is_definition = at; defines = is ∙ ap node.Define w; before = low; item = (0, refl) }))
-          ]
+          | inl w ↦ inl w
+          | inr w ↦ inr (inr (record { define = a; definition = y; is_definition = at; defines = is ∙ ap node.Define w; before = low; item = (0, refl) }))
+        ]
         | inr b ↦ elim b [
-            | inl d ↦ inr (inl d)
-            | inr f ↦ inr (inr (record { define = f.define; definition = f.definition; is_definition = f.is_definition; defines = f.defines; before = f.before; item = one_more a bs f.define f.item }))
-          ]
+          | inl d ↦ inr (inl d)
+          | inr f ↦ inr (inr (record { define = f.define; definition = f.definition; is_definition = f.is_definition; defines = f.defines; before = f.before; item = one_more a bs f.define f.item }))
+        ]
       ];
       item = λ z d. elim (g.item z d) [ inl v ↦ inl v | inr b ↦ inr (one_more a bs i b) ];
     }
@@ -285,8 +284,10 @@ mutual
 
 pub locals_are_defined : LocalsAreDefined
 locals_are_defined vis m r n before after h e i x from at =
-    let g : Good vis after [] i x = put_good m r n before after vis h e i x from at in
-    (λ s u. elim (g.uses s u) [
-      | inl a ↦ inl a
-      | inr b ↦ elim b [ inl d ↦ inr d | inr f ↦ absurd (none-some f.define f.item.1) ]
-    ], λ s d. elim (g.item s d) [ inl a ↦ a | inr b ↦ absurd (none-some i b.1) ])
+    let g : Good vis after [] i x = put_good m r n before after vis h e i x from at in (
+      λ s u. elim (g.uses s u) [
+        | inl a ↦ inl a
+        | inr b ↦ elim b [ inl d ↦ inr d | inr f ↦ absurd (none-some f.define f.item.1) ]
+      ],
+      λ s d. elim (g.item s d) [ inl a ↦ a | inr b ↦ absurd (none-some i b.1) ],
+    )

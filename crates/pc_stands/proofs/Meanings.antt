@@ -1,5 +1,5 @@
 -- Where there is no fault, what the numbers in an expression name is there.
-use Rattle.std.proofs.Common.{◌≡◌, ℕ, zero, suc, ◌+◌, ◌<◌, ◌≤◌, length, List, [], ◌∷◌, ◌++◌, map, Option, Some, None, Bool, true, false, refl, sym, subst, inl, inr, arith, if◌then◌else◌}
+use Rattle.std.proofs.Common.{◌≡◌, ℕ, suc, ◌+◌, ◌<◌, ◌≤◌, length, List, [], ◌∷◌, ◌++◌, Option, Some, None, Bool, true, false, refl, sym, subst, inl, inr, arith, if◌then◌else◌}
 use Rattle.std.specs.Prelude.{slice_get, nat_eq, nat_lt, ◌⊎◌}
 use Rattle.std.specs.Str.{bytes_eq}
 use Rattle.std.proofs.Common.{ap, ◌∙◌}
@@ -9,18 +9,14 @@ use Rattle.pc_caps.specs.declared.span.Span.{Span}
 use Rattle.pc_tree.specs.declared.kinds.Op.{Op}
 use Rattle.pc_tree.specs.declared.kinds.Op.TheVariants as op
 use Rattle.pc_tree.specs.declared.names.Name.{Name}
-use Rattle.pc_tree.specs.declared.names.TypeRef.{TypeRef}
 use Rattle.pc_tree.specs.declared.kinds.EntityKind.{EntityKind}
 use Rattle.pc_tree.specs.declared.kinds.EntityKind.TheVariants as kind
 use Rattle.pc_tree.specs.Tree as t
-use Rattle.pc_core.specs.declared.nodes.NodeKind.{NodeKind}
-use Rattle.pc_core.specs.declared.nodes.NodeKind.TheVariants as node
-use Rattle.pc_stands.specs.Roses.{Rose, Roses, rose, leaf, more, no_roses, and_last, one, two, three}
-use Rattle.pc_stands.specs.Scopes.{Context, Scope, Constructor, Known, text_from, type_from, is_own, by_kind, Meaning, local, field, method, nothing, TypeMeaning, primitive, created, no_value, slot_of, slot_at, text_of, resolve, type_meaning, constructor_named, scope_after, deeper, defined, member, is_among, unless_local}
-use Rattle.pc_stands.specs.Expressions.{join, end_word, gap, added_this, operation, read_field, write_field, call, read_name, consumed, write_name, new_object, create_name, read_type, Start, with_method, with_type, with_value, start_of, start_with_name, apply_name, apply_primitive, apply, call_named, Use, read, write, use_field, if_of, arm_place, no_else, added_none, or_none, sequence, expr_of, assign_of, infix_of, operands_of, chain_of, named_of, exprs_of, arms_of, arm_of, other_of, whole_of, seq_of, items_of, item_of}
+use Rattle.pc_stands.specs.Roses.{Rose, Roses, rose, more, no_roses, and_last, two, three}
+use Rattle.pc_stands.specs.Scopes.{Context, Scope, Constructor, Known, text_from, type_from, is_own, by_kind, Meaning, local, field, method, nothing, TypeMeaning, primitive, created, no_value, slot_of, text_of, resolve, type_meaning, constructor_named, scope_after, deeper}
+use Rattle.pc_stands.specs.Expressions.{join, added_this, operation, read_field, call, read_name, consumed, write_name, new_object, create_name, read_type, Start, with_method, with_type, with_value, start_of, start_with_name, apply_name, apply_primitive, apply, call_named, Use, read, write, use_field, if_of, arm_place, sequence, expr_of, assign_of, infix_of, operands_of, chain_of, named_of, exprs_of, arms_of, arm_of, other_of, whole_of, seq_of, items_of, item_of}
 use Rattle.pc_core.specs.Words.{Has}
-use Rattle.pc_core.specs.Nodes.{is_binary}
-use Rattle.pc_stands.specs.Faults.{Fault, unknown, double, long_text, unless_some, when, is_taken, name_faults, type_faults, written_faults, Next, arguments, name, end, next_of, start_faults, constructor_faults, dot_faults, faults_of, exprs_faults, suffixes_faults, arms_faults, arm_faults, other_faults, seq_faults, items_faults, item_faults}
+use Rattle.pc_stands.specs.Faults.{Fault, unknown, double, unless_some, when, is_taken, name_faults, type_faults, written_faults, Next, arguments, name, end, next_of, start_faults, dot_faults, faults_of, exprs_faults, suffixes_faults, arms_faults, arm_faults, other_faults, seq_faults, items_faults, item_faults}
 use Rattle.pc_stands.specs.Meanings.{Every, EveryOf, IsOfKind, IsConstructor, Names}
 use Rattle.pc_stands.specs.Laws.{NothingIsMissing}
 
@@ -79,11 +75,14 @@ types_known c at (x ∷ xs) n h = by (bytes_eq x.name n) (types_known c (suc at)
   where
     later : (i : ℕ) (y : Known) → slice_get xs i ≡ Some y → slice_get c.entities (suc at + i) ≡ Some y
     later i y e = let s : suc at + i ≡ at + suc i = omega arith in ap (slice_get c.entities) s ∙ h (suc i) y e
+
     here : slice_get c.entities at ≡ Some x
     here = let s : at ≡ at + 0 = omega arith in ap (slice_get c.entities) s ∙ h 0 x refl
+
     owned : (b : Bool) → is_own at ≡ b → TypeKnown c (if b then by_kind x.kind at x.constructors else no_value)
     owned true o = kind_known c at x x.kind here refl (own_number at o)
     owned false o = tt
+
     by : (b : Bool) → TypeKnown c (type_from (suc at) xs n) → TypeKnown c (if b then (if is_own at then by_kind x.kind at x.constructors else no_value) else type_from (suc at) xs n)
     by true r = owned (is_own at) refl
     by false r = r
@@ -159,6 +158,7 @@ module _ (c : Context) (some_text : 0 < length c.texts) where
     where
       there : (a : Bool) (m : ℕ) → TypeKnown c (created a cs) → constructor_named cs n ≡ Some m → IsConstructor c (creator a) m
       there a m t e = (t.0, t.1, t.2, t.3, subst (λ (xs : List Constructor). (y : Constructor) × Has xs y × (y.method ≡ m)) (sym t.4) (named_constructor cs n m e))
+
       by : (a : Bool) (o : Option ℕ) → TypeKnown c (created a cs) → constructor_named cs n ≡ o → unless_some o (unknown place) ≡ [] → Fine (new_object a s d args o)
       by true (Some m) t e z = (there true m t e, g)
       by false (Some m) t e z = (there false m t e, g)

@@ -1,6 +1,6 @@
 -- From what is true of a rose to its nodes.
-use Rattle.std.proofs.Common.{◌≡◌, ℕ, zero, suc, ◌+◌, ◌-◌, ◌<◌, ◌≤◌, List, [], ◌∷◌, ◌++◌, length, Some, None, refl, ap, ◌∙◌, sym, subst, arith, inl, inr}
-use Rattle.std.specs.Prelude.{slice_get, ◌^◌, min}
+use Rattle.std.proofs.Common.{◌≡◌, ℕ, zero, suc, ◌+◌, ◌-◌, ◌≤◌, List, [], ◌∷◌, ◌++◌, length, Some, refl, ap, ◌∙◌, sym, subst, arith, inl, inr}
+use Rattle.std.specs.Prelude.{slice_get, ◌^◌}
 use Rattle.std.proofs.lemmas.Bool.{cases_lt}
 use Rattle.std.proofs.Math.Nat.{min-eq_left}
 use Rattle.std.proofs.lemmas.List.{length-append}
@@ -13,7 +13,7 @@ use Rattle.pc_core.specs.declared.nodes.NodeKind.TheVariants as node
 use Rattle.pc_core.specs.Words.{Each}
 use Rattle.pc_core.specs.Nodes.{HasArity, inner_depth}
 use Rattle.pc_core.specs.Growing.{append_get}
-use Rattle.pc_stands.specs.Roses.{Rose, Roses, rose, more, no_roses, and_then, put, puts, push, node_of, node_limit}
+use Rattle.pc_stands.specs.Roses.{Rose, Roses, rose, more, no_roses, and_then, put, puts, push, node_of}
 use Rattle.pc_stands.specs.Scopes.{deeper}
 use Rattle.pc_stands.specs.Shapes.{count, depth_inside, Shaped, AllShaped}
 use Rattle.pc_stands.specs.Meanings.{Every, EveryOf}
@@ -150,9 +150,9 @@ close m k s d many ks before mid low arity a i x from e =
     elim (get_push mid (node_of m k s d ks) i x e) [
       | inl old ↦ front_children mid (node_of m k s d ks ∷ []) x (a.new i x from old)
       | inr new ↦ subst (HasChildren (mid ++ node_of m k s d ks ∷ [])) new.1 (record {
-          arity = subst (HasArity k) (sym a.many_are) arity;
-          depths = subst (λ z. AllAt (mid ++ node_of m k s d ks ∷ []) z ks) (inside_is k d low) (at_front mid (node_of m k s d ks ∷ []) (depth_inside k d) ks a.are);
-        })
+        arity = subst (HasArity k) (sym a.many_are) arity;
+        depths = subst (λ z. AllAt (mid ++ node_of m k s d ks ∷ []) z ks) (inside_is k d low) (at_front mid (node_of m k s d ks ∷ []) (depth_inside k d) ks a.are);
+      })
     ]
 
 -- One list of new nodes behind another.

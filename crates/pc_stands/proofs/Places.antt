@@ -1,7 +1,6 @@
 -- Faults and locals in the order of the text.
-use Rattle.std.proofs.Common.{◌≡◌, ℕ, zero, suc, ◌+◌, ◌<◌, ◌≤◌, Bool, true, false, List, [], ◌∷◌, ◌++◌, length, Option, Some, None, refl, sym, ap, ◌∙◌, subst, arith, if◌then◌else◌}
+use Rattle.std.proofs.Common.{◌≡◌, ℕ, zero, suc, ◌+◌, ◌<◌, ◌≤◌, Bool, true, false, List, [], ◌∷◌, ◌++◌, length, Option, Some, None, refl, sym, subst, arith, if◌then◌else◌}
 use Rattle.std.specs.Prelude.{slice_get, nat_eq, nat_lt}
-use Rattle.std.specs.Str.{bytes_eq}
 use Rattle.std.proofs.lemmas.Option.{same_Some, none-some}
 use Rattle.std.proofs.lemmas.Bool.{eqb-true}
 use Rattle.pc_caps.specs.declared.span.Span.{Span}
@@ -9,11 +8,11 @@ use Rattle.pc_tree.specs.declared.names.Name.{Name}
 use Rattle.pc_tree.specs.declared.names.TypeRef.{TypeRef}
 use Rattle.pc_tree.specs.Tree as t
 use Rattle.pc_core.specs.Words.{Each, Ascends}
-use Rattle.pc_stands.specs.Scopes.{Context, Scope, Constructor, Meaning, local, field, method, nothing, TypeMeaning, primitive, created, no_value, Placed, slot_of, slot_at, resolve, type_meaning, constructor_named, scope_after, params_scope, deeper}
+use Rattle.pc_stands.specs.Scopes.{Context, Scope, Constructor, Meaning, local, field, method, nothing, TypeMeaning, primitive, created, no_value, slot_of, slot_at, resolve, type_meaning, constructor_named, scope_after, params_scope, deeper}
 use Rattle.pc_stands.specs.Expressions.{Start, with_method, with_type, with_value, start_of, create_name}
 use Rattle.pc_stands.specs.Bodies.{initial_fields}
 use Rattle.pc_stands.specs.Faults.{Fault, unknown, double, long_text, unless_some, when, is_taken, is_entity, text_limit, name_faults, type_faults, written_faults, Next, arguments, name, end, next_of, start_faults, constructor_faults, dot_faults, faults_of, exprs_faults, suffixes_faults, arms_faults, arm_faults, other_faults, seq_faults, items_faults, item_faults, value_faults, initial_faults, written_body_faults, body_faults}
-use Rattle.pc_stands.specs.Slots.{Local, locals_of, exprs_locals, suffix_locals, suffixes_locals, arm_locals, arms_locals, other_locals, seq_locals, items_locals, item_locals, value_locals, initial_locals, body_locals, method_locals, placed_from, slots_of}
+use Rattle.pc_stands.specs.Slots.{Local, locals_of, exprs_locals, suffixes_locals, arm_locals, arms_locals, other_locals, seq_locals, items_locals, item_locals, value_locals, initial_locals, body_locals, method_locals, placed_from}
 use Rattle.pc_stands.specs.Places.{written_places, places, exprs_places, suffixes_places, arm_places, arms_places, other_places, seq_places, items_places, item_places, value_places, initial_places, written_body_places, body_places, fault_start, local_start}
 use Rattle.pc_stands.specs.Laws.{FirstIsLeast, LocalsHaveSlots}
 
@@ -276,6 +275,7 @@ slot_is at (x ∷ xs) r zero l e = subst (λ (z : Local). slot_at (placed_from a
   where
     same_eq : (n : ℕ) → nat_eq n n ≡ true
     same_eq n = search arith
+
     by : (b : Bool) → b ≡ true → (if b then at else slot_at (placed_from (suc at) xs) (local_start x)) ≡ at + 0
     by true h = omega arith
     by false h = absurd (false_true h)
@@ -283,12 +283,14 @@ slot_is at (x ∷ xs) r zero l e = subst (λ (z : Local). slot_at (placed_from a
         IsTrue : Bool → Type 0
         IsTrue true = ⊥
         IsTrue false = Unit {0}
+
         false_true : false ≡ true → ⊥
         false_true g = subst IsTrue g tt
 slot_is at (x ∷ xs) r (suc i) l e = by (nat_eq (local_start x) (local_start l)) refl (slot_is (suc at) xs r.1 i l e)
   where
     before : local_start x < local_start l
     before = r.0 i l e
+
     by : (b : Bool) → nat_eq (local_start x) (local_start l) ≡ b → slot_at (placed_from (suc at) xs) (local_start l) ≡ suc at + i → (if b then at else slot_at (placed_from (suc at) xs) (local_start l)) ≡ at + suc i
     by true h rest = let same = eqb-true (local_start x) (local_start l) h in absurd (omega (arith, before, same))
     by false h rest = omega (arith, rest)

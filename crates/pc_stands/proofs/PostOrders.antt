@@ -1,11 +1,10 @@
 -- The nodes of a rose stand in post-order behind those that are there.
-use Rattle.std.proofs.Common.{◌≡◌, ℕ, zero, suc, ◌+◌, ◌-◌, ◌<◌, ◌≤◌, List, [], ◌∷◌, ◌++◌, length, Some, None, nat_lt, refl, ap, ◌∙◌, sym, subst, append_assoc, append-nil, arith, if◌then◌else◌, true, false, Bool, inl, inr}
+use Rattle.std.proofs.Common.{◌≡◌, ℕ, zero, suc, ◌+◌, ◌-◌, ◌<◌, List, [], ◌∷◌, ◌++◌, length, Some, None, nat_lt, refl, ap, ◌∙◌, sym, subst, append_assoc, append-nil, arith, if◌then◌else◌, true, false, Bool, inl, inr}
 use Rattle.std.specs.Prelude.{slice_get}
 use Rattle.std.proofs.lemmas.List.{length-append}
 use Rattle.std.proofs.lemmas.Bool.{ltb-true}
 use Rattle.std.proofs.lemmas.Option.{same_Some, none-some}
 use Rattle.pc_caps.specs.declared.span.Span.{Span}
-use Rattle.pc_caps.specs.Gets.{get_push}
 use Rattle.pc_core.specs.declared.nodes.Node.{Node}
 use Rattle.pc_core.specs.declared.nodes.NodeKind.{NodeKind}
 use Rattle.pc_core.specs.Words.{Each}

@@ -1,5 +1,5 @@
 -- An expression names only the locals that stand before it.
-use Rattle.std.proofs.Common.{◌≡◌, ℕ, suc, ◌≤◌, List, [], ◌∷◌, ◌++◌, map, Option, Some, None, Bool, true, false, refl, sym, subst, inl, inr, arith, if◌then◌else◌}
+use Rattle.std.proofs.Common.{◌≡◌, ℕ, List, [], ◌∷◌, ◌++◌, Option, Some, None, Bool, true, false, refl, sym, subst, inl, inr, if◌then◌else◌}
 use Rattle.pc_caps.specs.declared.span.Span.{Span}
 use Rattle.pc_tree.specs.declared.kinds.Op.{Op}
 use Rattle.pc_tree.specs.declared.kinds.Op.TheVariants as op
@@ -7,9 +7,9 @@ use Rattle.pc_tree.specs.declared.names.Name.{Name}
 use Rattle.pc_tree.specs.Tree as t
 use Rattle.pc_core.specs.declared.nodes.NodeKind.{NodeKind}
 use Rattle.pc_core.specs.declared.nodes.NodeKind.TheVariants as node
-use Rattle.pc_stands.specs.Roses.{Rose, Roses, rose, leaf, more, no_roses, and_last, one, two, three}
-use Rattle.pc_stands.specs.Scopes.{Context, Scope, Constructor, Meaning, local, field, method, nothing, TypeMeaning, primitive, created, no_value, slot_of, slot_at, text_of, resolve, type_meaning, constructor_named, scope_after, deeper, defined, member, is_among, unless_local}
-use Rattle.pc_stands.specs.Expressions.{join, end_word, gap, added_this, operation, read_field, write_field, call, read_name, consumed, write_name, new_object, create_name, read_type, Start, with_method, with_type, with_value, start_of, apply_name, apply_primitive, apply, call_named, Use, read, write, use_field, if_of, arm_place, no_else, added_none, or_none, sequence, expr_of, assign_of, infix_of, operands_of, chain_of, named_of, exprs_of, arms_of, arm_of, other_of, whole_of, seq_of, items_of, item_of}
+use Rattle.pc_stands.specs.Roses.{Rose, Roses, rose, more, no_roses, and_last, two, three}
+use Rattle.pc_stands.specs.Scopes.{Context, Scope, Meaning, local, field, method, nothing, TypeMeaning, primitive, created, no_value, slot_of, resolve, type_meaning, constructor_named, deeper, defined, member, is_among, unless_local}
+use Rattle.pc_stands.specs.Expressions.{join, added_this, operation, read_field, read_name, consumed, write_name, new_object, create_name, read_type, Start, with_method, with_type, with_value, start_of, apply_primitive, apply, call_named, Use, read, write, use_field, if_of, arm_place, sequence, expr_of, assign_of, infix_of, operands_of, chain_of, named_of, exprs_of, arms_of, arm_of, other_of, whole_of, seq_of, items_of}
 use Rattle.std.proofs.lemmas.List.{map_push}
 use Rattle.std.proofs.lemmas.Option.{same_Some, none-some}
 use Rattle.std.specs.Str.{bytes_eq}
@@ -36,6 +36,7 @@ meant c sc name = by (slot_of sc name) refl
     other true b = tt
     other false true = tt
     other false false = tt
+
     by : (o : Option ℕ) → slot_of sc name ≡ o → Meant (slots sc) (unless_local o (member (is_among c.fields name) (is_among c.methods name)))
     by (Some s) h = slot_in sc name s h
     by None h = other (is_among c.fields name) (is_among c.methods name)

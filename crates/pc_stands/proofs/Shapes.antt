@@ -1,17 +1,14 @@
 -- Each node of an expression has as many children as its kind wants, as deep as they have to be.
-use Rattle.std.proofs.Common.{◌≡◌, ℕ, suc, ◌≤◌, List, [], ◌∷◌, ◌++◌, map, Option, Some, None, Bool, true, false, refl, sym, subst, inl, inr, arith, if◌then◌else◌}
+use Rattle.std.proofs.Common.{ℕ, ◌≤◌, List, Option, Some, None, Bool, true, false, refl, arith}
 use Rattle.pc_caps.specs.declared.span.Span.{Span}
 use Rattle.pc_tree.specs.declared.kinds.Op.{Op}
 use Rattle.pc_tree.specs.declared.kinds.Op.TheVariants as op
 use Rattle.pc_tree.specs.declared.names.Name.{Name}
 use Rattle.pc_tree.specs.Tree as t
-use Rattle.pc_core.specs.declared.nodes.NodeKind.{NodeKind}
-use Rattle.pc_core.specs.declared.nodes.NodeKind.TheVariants as node
-use Rattle.pc_stands.specs.Roses.{Rose, Roses, rose, leaf, more, no_roses, and_last, one, two, three}
-use Rattle.pc_stands.specs.Scopes.{Context, Scope, Constructor, Meaning, local, field, method, nothing, TypeMeaning, primitive, created, no_value, slot_of, slot_at, text_of, resolve, type_meaning, constructor_named, scope_after, deeper, defined, member, is_among, unless_local}
-use Rattle.pc_stands.specs.Expressions.{join, end_word, gap, added_this, operation, read_field, write_field, call, read_name, consumed, write_name, new_object, create_name, read_type, Start, with_method, with_type, with_value, start_of, apply_name, apply_primitive, apply, call_named, Use, read, write, use_field, if_of, arm_place, no_else, added_none, or_none, sequence, expr_of, assign_of, infix_of, operands_of, chain_of, named_of, exprs_of, arms_of, arm_of, other_of, whole_of, seq_of, items_of, item_of}
-use Rattle.pc_core.specs.Nodes.{HasArity}
-use Rattle.pc_stands.specs.Shapes.{count, depth_inside, Shaped, AllShaped}
+use Rattle.pc_stands.specs.Roses.{Rose, Roses, rose, more, no_roses, and_last, two, three}
+use Rattle.pc_stands.specs.Scopes.{Context, Scope, Meaning, local, field, method, nothing, TypeMeaning, primitive, created, no_value, slot_of, resolve, type_meaning, constructor_named, scope_after, deeper}
+use Rattle.pc_stands.specs.Expressions.{join, added_this, operation, read_field, call, read_name, consumed, write_name, new_object, create_name, read_type, Start, with_method, with_type, with_value, start_of, apply_name, apply_primitive, apply, call_named, Use, read, write, use_field, if_of, arm_place, sequence, expr_of, assign_of, infix_of, operands_of, chain_of, named_of, exprs_of, arms_of, arm_of, other_of, whole_of, seq_of, items_of, item_of}
+use Rattle.pc_stands.specs.Shapes.{count, Shaped, AllShaped}
 use Rattle.pc_stands.specs.Laws.{IsShaped}
 
 pub last_ok : (d : ℕ) (rs : Roses) (r : Rose) → AllShaped d rs → Shaped d r → AllShaped d (and_last rs r)

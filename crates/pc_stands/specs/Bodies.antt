@@ -1,5 +1,5 @@
 -- Which nodes stand for the whole body of a method.
-use Rattle.std.specs.Prelude.{ℕ, Bool, true, false, List, [], ◌∷◌, Option, Some, None}
+use Rattle.std.specs.Prelude.{Bool, true, false, List, [], ◌∷◌, Option, Some, None}
 use Rattle.pc_caps.specs.declared.span.Span.{Span}
 use Rattle.pc_tree.specs.declared.kinds.MethodWord.{MethodWord}
 use Rattle.pc_tree.specs.declared.kinds.MethodWord.TheVariants as word
@@ -7,8 +7,8 @@ use Rattle.pc_tree.specs.declared.names.Name.{Name}
 use Rattle.pc_tree.specs.declared.names.TypeRef.{TypeRef}
 use Rattle.pc_tree.specs.Tree as t
 use Rattle.pc_core.specs.declared.nodes.NodeKind.TheVariants as node
-use Rattle.pc_stands.specs.Roses.{Rose, Roses, rose, leaf, no_roses, more, one, two, and_last}
-use Rattle.pc_stands.specs.Scopes.{Context, Scope, params_scope}
+use Rattle.pc_stands.specs.Roses.{Rose, Roses, rose, more, one, and_last}
+use Rattle.pc_stands.specs.Scopes.{Context, params_scope}
 use Rattle.pc_stands.specs.Expressions.{expr_of, items_of, write_field, added_this, added_none, sequence}
 
 -- The initial values of fields are written to the fields of `this`, in order, before what follows. In them no parameter is

@@ -1,5 +1,5 @@
 -- Which nodes stand for which part of a body.
-use Rattle.std.specs.Prelude.{ℕ, ◌+◌, ◌-◌, Bool, true, false, List, [], ◌∷◌, ◌++◌, Option, Some, None, codes}
+use Rattle.std.specs.Prelude.{ℕ, ◌-◌, Bool, true, false, List, Option, Some, None, codes}
 use Rattle.pc_caps.specs.declared.span.Span.{Span}
 use Rattle.pc_tree.specs.declared.kinds.Op.{Op}
 use Rattle.pc_tree.specs.declared.kinds.Op.TheVariants as op
@@ -8,7 +8,7 @@ use Rattle.pc_tree.specs.Tree as t
 use Rattle.pc_core.specs.declared.nodes.NodeKind.{NodeKind}
 use Rattle.pc_core.specs.declared.nodes.NodeKind.TheVariants as node
 use Rattle.pc_stands.specs.Roses.{Rose, Roses, rose, leaf, no_roses, more, one, two, three, and_last}
-use Rattle.pc_stands.specs.Scopes.{Context, Scope, Constructor, Meaning, local, field, method, nothing, TypeMeaning, primitive, created, no_value, slot_of, slot_at, text_of, resolve, type_meaning, constructor_named, scope_after, deeper, unless_local}
+use Rattle.pc_stands.specs.Scopes.{Context, Scope, Meaning, local, field, method, TypeMeaning, primitive, created, no_value, slot_of, slot_at, text_of, resolve, type_meaning, constructor_named, scope_after, deeper}
 
 -- From the start of the first to the end of the second.
 abbrev pub join : Span → Span → Span

@@ -1,11 +1,11 @@
 -- What may be wrong with the names and texts of a body, in the order of the text.
-use Rattle.std.specs.Prelude.{ℕ, Bool, true, false, List, [], ◌∷◌, ◌++◌, length, Option, Some, None, if◌then◌else◌, nat_lt, ◌||◌}
+use Rattle.std.specs.Prelude.{ℕ, Bool, true, false, List, [], ◌∷◌, ◌++◌, length, Option, Some, None, if◌then◌else◌, nat_lt}
 use Rattle.std.specs.Str.{bytes_eq}
 use Rattle.pc_caps.specs.declared.span.Span.{Span}
 use Rattle.pc_tree.specs.declared.names.Name.{Name}
 use Rattle.pc_tree.specs.declared.names.TypeRef.{TypeRef}
 use Rattle.pc_tree.specs.Tree as t
-use Rattle.pc_stands.specs.Scopes.{Context, Scope, Known, Constructor, Meaning, local, field, method, nothing, TypeMeaning, primitive, created, no_value, is_among, slot_of, resolve, type_meaning, constructor_named, scope_after, params_scope}
+use Rattle.pc_stands.specs.Scopes.{Context, Scope, Known, Constructor, Meaning, local, field, TypeMeaning, primitive, created, no_value, slot_of, resolve, type_meaning, constructor_named, scope_after, params_scope}
 use Rattle.pc_stands.specs.Expressions.{Start, with_method, with_type, with_value, start_of, create_name}
 use Rattle.pc_stands.specs.Bodies.{initial_fields}
 

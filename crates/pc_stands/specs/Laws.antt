@@ -3,7 +3,6 @@ use Rattle.std.specs.Prelude.{◌≡◌, ◌⊎◌, ℕ, ◌+◌, ◌<◌, ◌�
 use Rattle.pc_core.specs.declared.nodes.Node.{Node}
 use Rattle.pc_core.specs.Words.{Each, Has, Ascends}
 use Rattle.pc_core.specs.Methods.{PostOrder, Uses}
-use Rattle.pc_core.specs.declared.nodes.NodeKind.{NodeKind}
 use Rattle.pc_core.specs.declared.nodes.NodeKind.TheVariants as node
 use Rattle.pc_caps.specs.declared.span.Span.{Span}
 use Rattle.pc_core.specs.Nodes.{HasArity, inner_depth}
