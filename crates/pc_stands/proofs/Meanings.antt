@@ -14,7 +14,7 @@ use Rattle.pc_tree.specs.declared.kinds.EntityKind.TheVariants as kind
 use Rattle.pc_tree.specs.Tree as t
 use Rattle.pc_stands.specs.Roses.{Rose, Roses, rose, more, no_roses, and_last, two, three}
 use Rattle.pc_stands.specs.Scopes.{Context, Scope, Constructor, Known, text_from, type_from, is_own, by_kind, Meaning, local, field, method, nothing, TypeMeaning, primitive, created, no_value, slot_of, text_of, resolve, type_meaning, constructor_named, scope_after, deeper}
-use Rattle.pc_stands.specs.Expressions.{join, added_this, operation, read_field, call, read_name, consumed, write_name, new_object, create_name, read_type, Start, with_method, with_type, with_value, start_of, start_with_name, apply_name, apply_primitive, apply, call_named, Use, read, write, use_field, if_of, arm_place, sequence, expr_of, assign_of, infix_of, operands_of, chain_of, named_of, exprs_of, arms_of, arm_of, other_of, whole_of, seq_of, items_of, item_of}
+use Rattle.pc_stands.specs.Expressions.{value_then, use_other, join, added_this, operation, read_field, call, read_name, consumed, write_name, new_object, create_name, read_type, Start, with_method, with_type, with_value, start_of, start_with_name, apply_name, apply_primitive, apply, call_named, Use, read, write, use_field, if_of, arm_place, sequence, expr_of, assign_of, infix_of, operands_of, chain_of, named_of, exprs_of, arms_of, arm_of, other_of, whole_of, seq_of, items_of, item_of}
 use Rattle.pc_core.specs.Words.{Has}
 use Rattle.pc_stands.specs.Faults.{Fault, unknown, double, unless_some, when, is_taken, name_faults, type_faults, written_faults, Next, arguments, name, end, next_of, start_faults, dot_faults, faults_of, exprs_faults, suffixes_faults, arms_faults, arm_faults, other_faults, seq_faults, items_faults, item_faults}
 use Rattle.pc_stands.specs.Meanings.{Every, EveryOf, IsOfKind, IsConstructor, Names}
@@ -268,6 +268,13 @@ module _ (c : Context) (some_text : 0 < length c.texts) where
   UseFine read = Unit {0}
   UseFine (write s v) = Fine v
 
+  value_then_ok : (s : Span) (d : ℕ) (v r : Rose) → Fine v → Fine r → Fine (value_then s d v r)
+  value_then_ok s d v r h g = (tt, (h, (g, tt)))
+
+  other_use_ok : (u : Use) (d : ℕ) (r : Rose) → UseFine u → Fine r → Fine (use_other u d r)
+  other_use_ok read d r h g = g
+  other_use_ok (write whole v) d r h g = value_then_ok whole d v r h g
+
   use_ok : (u : Use) (s : Span) (n : Name) (d : ℕ) (r : Rose) → UseFine u → Fine r → Fine (use_field c u s n d r)
   use_ok read s n d r h g = (text_ok n.text, (g, tt))
   use_ok (write whole v) s n d r h g = (text_ok n.text, (h, (g, tt)))
@@ -312,27 +319,27 @@ module _ (c : Context) (some_text : 0 < length c.texts) where
     expr_ok sc d (t.if_ as' o s) f = arms_ok sc d s true as' (other_of c sc d s o) (left_none (arms_faults c sc as') (other_faults c sc o) f) (other_ok sc d s o (right_none (arms_faults c sc as') (other_faults c sc o) f))
     expr_ok sc d (t.while_ cond b s) f = (tt, (whole_ok sc d cond (left_none (seq_faults c sc cond) (seq_faults c sc b) f), (whole_ok sc d b (right_none (seq_faults c sc cond) (seq_faults c sc b) f), tt)))
     expr_ok sc d (t.recover k b s) f = (tt, (whole_ok sc (deeper d) b f, tt))
-    expr_ok sc d (t.assign l r s) f = assign_ok sc d s (expr_of c sc d r) l (left_none (faults_of c sc l) (faults_of c sc r) f) (expr_ok sc d r (right_none (faults_of c sc l) (faults_of c sc r) f))
+    expr_ok sc d (t.assign l r s) f = assign_ok sc d s (expr_of c sc d r) (expr_of c sc d l) l (left_none (faults_of c sc l) (faults_of c sc r) f) (expr_ok sc d r (right_none (faults_of c sc l) (faults_of c sc r) f)) (expr_ok sc d l (left_none (faults_of c sc l) (faults_of c sc r) f))
 
-    assign_ok : (sc : Scope) (d : ℕ) (s : Span) (v : Rose) (l : t.Expr) → faults_of c sc l ≡ [] → Fine v → Fine (assign_of c sc d s v l)
-    assign_ok sc d s v (t.name n) f h = write_name_ok s n d v (resolve c sc n.text) f h
-    assign_ok sc d s v (t.chain e ss whole) f h =
+    assign_ok : (sc : Scope) (d : ℕ) (s : Span) (v left : Rose) (l : t.Expr) → faults_of c sc l ≡ [] → Fine v → Fine left → Fine (assign_of c sc d s v left l)
+    assign_ok sc d s v left (t.name n) f h g = write_name_ok s n d v (resolve c sc n.text) f h
+    assign_ok sc d s v left (t.chain e ss whole) f h g =
         let own = left_none (start_faults (start_of c sc e) (next_of ss) (faults_of c sc e)) (suffixes_faults c sc (start_of c sc e) ss) f in
         let rest = right_none (start_faults (start_of c sc e) (next_of ss) (faults_of c sc e)) (suffixes_faults c sc (start_of c sc e) ss) f in
         chain_ok sc d whole (write s v) (start_of c sc e) (expr_of c sc d e) ss h (start_known sc e) (begun_ok sc d e (next_of ss) (λ g. expr_ok sc d e g) own) rest
-    assign_ok sc d s v (t.number x0 x1) f h = h
-    assign_ok sc d s v (t.truth x0 x1) f h = h
-    assign_ok sc d s v (t.text x0 x1) f h = h
-    assign_ok sc d s v (t.this x0) f h = h
-    assign_ok sc d s v (t.consume x0 x1) f h = h
-    assign_ok sc d s v (t.not_ x0 x1) f h = h
-    assign_ok sc d s v (t.infix_ x0 x1 x2) f h = h
-    assign_ok sc d s v (t.group x0 x1) f h = h
-    assign_ok sc d s v (t.if_ x0 x1 x2) f h = h
-    assign_ok sc d s v (t.while_ x0 x1 x2) f h = h
-    assign_ok sc d s v (t.recover x0 x1 x2) f h = h
-    assign_ok sc d s v (t.assign x0 x1 x2) f h = h
-    assign_ok sc d s v (t.type_name x0) f h = h
+    assign_ok sc d s v left (t.number x0 x1) f h g = value_then_ok s d v left h g
+    assign_ok sc d s v left (t.truth x0 x1) f h g = value_then_ok s d v left h g
+    assign_ok sc d s v left (t.text x0 x1) f h g = value_then_ok s d v left h g
+    assign_ok sc d s v left (t.this x0) f h g = value_then_ok s d v left h g
+    assign_ok sc d s v left (t.consume x0 x1) f h g = value_then_ok s d v left h g
+    assign_ok sc d s v left (t.not_ x0 x1) f h g = value_then_ok s d v left h g
+    assign_ok sc d s v left (t.infix_ x0 x1 x2) f h g = value_then_ok s d v left h g
+    assign_ok sc d s v left (t.group x0 x1) f h g = value_then_ok s d v left h g
+    assign_ok sc d s v left (t.if_ x0 x1 x2) f h g = value_then_ok s d v left h g
+    assign_ok sc d s v left (t.while_ x0 x1 x2) f h g = value_then_ok s d v left h g
+    assign_ok sc d s v left (t.recover x0 x1 x2) f h g = value_then_ok s d v left h g
+    assign_ok sc d s v left (t.assign x0 x1 x2) f h g = value_then_ok s d v left h g
+    assign_ok sc d s v left (t.type_name x0) f h g = value_then_ok s d v left h g
 
     infix_ok : (sc : Scope) (d : ℕ) (o : Op) (s : Span) (es : t.Exprs) → exprs_faults c sc es ≡ [] → Fine (infix_of c sc d o s es)
     infix_ok sc d o s t.no_exprs f = (inl refl, tt)
@@ -343,7 +350,7 @@ module _ (c : Context) (some_text : 0 < length c.texts) where
     operands_ok sc d o s left (t.expr e es) f h = operands_ok sc d o s (rose (operation o) (join s (t.span_of e)) d (two left (expr_of c sc d e))) es (right_none (faults_of c sc e) (exprs_faults c sc es) f) (operation_ok o (join s (t.span_of e)) d left (expr_of c sc d e) h (expr_ok sc d e (left_none (faults_of c sc e) (exprs_faults c sc es) f)))
 
     chain_ok : (sc : Scope) (d : ℕ) (s : Span) (u : Use) (st : Start) (r : Rose) (ss : t.Suffixes) → UseFine u → StartKnown st → Begun st (next_of ss) r → suffixes_faults c sc st ss ≡ [] → Fine (chain_of c sc d s u st r ss)
-    chain_ok sc d s u st r t.no_suffixes h k b f = ended_ok st r b
+    chain_ok sc d s u st r t.no_suffixes h k b f = other_use_ok u d r h (ended_ok st r b)
     chain_ok sc d s u st r (t.suffix (t.dot n) ss) h k b f = named_ok sc d s u st r n ss h k b (left_none (dot_faults st n (next_of ss)) (suffixes_faults c sc with_value ss) f) (right_none (dot_faults st n (next_of ss)) (suffixes_faults c sc with_value ss) f)
     chain_ok sc d s u st r (t.suffix (t.args es sp) ss) h k b f =
         let args = exprs_ok sc d es (left_none (exprs_faults c sc es) (suffixes_faults c sc with_value ss) f) in

@@ -7,9 +7,9 @@ use Rattle.pc_tree.specs.declared.names.Name.{Name}
 use Rattle.pc_tree.specs.Tree as t
 use Rattle.pc_core.specs.declared.nodes.NodeKind.{NodeKind}
 use Rattle.pc_core.specs.declared.nodes.NodeKind.TheVariants as node
-use Rattle.pc_stands.specs.Roses.{Rose, Roses, rose, more, no_roses, and_last, two, three}
+use Rattle.pc_stands.specs.Roses.{Rose, Roses, rose, more, no_roses, one, and_last, two, three}
 use Rattle.pc_stands.specs.Scopes.{Context, Scope, Meaning, local, field, method, nothing, TypeMeaning, primitive, created, no_value, slot_of, resolve, type_meaning, constructor_named, deeper, defined, member, is_among, unless_local}
-use Rattle.pc_stands.specs.Expressions.{join, added_this, operation, read_field, read_name, consumed, write_name, new_object, create_name, read_type, Start, with_method, with_type, with_value, start_of, apply_primitive, apply, call_named, Use, read, write, use_field, if_of, arm_place, sequence, expr_of, assign_of, infix_of, operands_of, chain_of, named_of, exprs_of, arms_of, arm_of, other_of, whole_of, seq_of, items_of}
+use Rattle.pc_stands.specs.Expressions.{value_then, use_other, join, added_this, operation, read_field, read_name, consumed, write_name, new_object, create_name, read_type, Start, with_method, with_type, with_value, start_of, apply_primitive, apply, call_named, Use, read, write, use_field, if_of, arm_place, sequence, expr_of, assign_of, infix_of, operands_of, chain_of, named_of, exprs_of, arms_of, arm_of, other_of, whole_of, seq_of, items_of}
 use Rattle.std.proofs.lemmas.List.{map_push}
 use Rattle.std.proofs.lemmas.Option.{same_Some, none-some}
 use Rattle.std.specs.Str.{bytes_eq}
@@ -147,6 +147,13 @@ abbrev UseScoped : List ℕ → Use → Type 0
 UseScoped vis read = Unit {0}
 UseScoped vis (write s v) = Scoped vis v
 
+value_then_ok : (vis : List ℕ) (s : Span) (d : ℕ) (v r : Rose) → Scoped vis v → Scoped vis r → Scoped vis (value_then s d v r)
+value_then_ok vis s d v r h g = item_alone vis v (one r) h (item_alone vis r no_roses g tt)
+
+other_use_ok : (vis : List ℕ) (u : Use) (d : ℕ) (r : Rose) → UseScoped vis u → Scoped vis r → Scoped vis (use_other u d r)
+other_use_ok vis read d r h g = g
+other_use_ok vis (write whole v) d r h g = value_then_ok vis whole d v r h g
+
 use_ok : (vis : List ℕ) (c : Context) (u : Use) (s : Span) (n : Name) (d : ℕ) (r : Rose) → UseScoped vis u → Scoped vis r → Scoped vis (use_field c u s n d r)
 use_ok vis c read s n d r h g = (g, tt)
 use_ok vis c (write whole v) s n d r h g = (h, (g, tt))
@@ -171,24 +178,24 @@ mutual
   expr_ok c sc d (t.if_ as' o s) = arms_ok c sc d s true as' (other_of c sc d s o) (other_ok c sc d s o)
   expr_ok c sc d (t.while_ cond b s) = (whole_ok c sc d cond, (whole_ok c sc d b, tt))
   expr_ok c sc d (t.recover cap b s) = (whole_ok c sc (deeper d) b, tt)
-  expr_ok c sc d (t.assign l r s) = assign_ok c sc d s (expr_of c sc d r) l (expr_ok c sc d r)
+  expr_ok c sc d (t.assign l r s) = assign_ok c sc d s (expr_of c sc d r) (expr_of c sc d l) l (expr_ok c sc d r) (expr_ok c sc d l)
 
-  assign_ok : (c : Context) (sc : Scope) (d : ℕ) (s : Span) (v : Rose) (l : t.Expr) → Scoped (slots sc) v → Scoped (slots sc) (assign_of c sc d s v l)
-  assign_ok c sc d s v (t.name n) h = write_name_ok (slots sc) c s n d v (resolve c sc n.text) (meant c sc n.text) h
-  assign_ok c sc d s v (t.chain e ss whole) h = chain_ok c sc d whole (write s v) (start_of c sc e) (expr_of c sc d e) ss h (expr_ok c sc d e)
-  assign_ok c sc d s v (t.number n sp) h = h
-  assign_ok c sc d s v (t.truth n sp) h = h
-  assign_ok c sc d s v (t.text n sp) h = h
-  assign_ok c sc d s v (t.type_name n) h = h
-  assign_ok c sc d s v (t.this sp) h = h
-  assign_ok c sc d s v (t.consume n sp) h = h
-  assign_ok c sc d s v (t.not_ e sp) h = h
-  assign_ok c sc d s v (t.infix_ o es sp) h = h
-  assign_ok c sc d s v (t.group b sp) h = h
-  assign_ok c sc d s v (t.if_ as' o sp) h = h
-  assign_ok c sc d s v (t.while_ cond b sp) h = h
-  assign_ok c sc d s v (t.recover cap b sp) h = h
-  assign_ok c sc d s v (t.assign l r sp) h = h
+  assign_ok : (c : Context) (sc : Scope) (d : ℕ) (s : Span) (v left : Rose) (l : t.Expr) → Scoped (slots sc) v → Scoped (slots sc) left → Scoped (slots sc) (assign_of c sc d s v left l)
+  assign_ok c sc d s v left (t.name n) h g = write_name_ok (slots sc) c s n d v (resolve c sc n.text) (meant c sc n.text) h
+  assign_ok c sc d s v left (t.chain e ss whole) h g = chain_ok c sc d whole (write s v) (start_of c sc e) (expr_of c sc d e) ss h (expr_ok c sc d e)
+  assign_ok c sc d s v left (t.number n sp) h g = value_then_ok (slots sc) s d v left h g
+  assign_ok c sc d s v left (t.truth n sp) h g = value_then_ok (slots sc) s d v left h g
+  assign_ok c sc d s v left (t.text n sp) h g = value_then_ok (slots sc) s d v left h g
+  assign_ok c sc d s v left (t.type_name n) h g = value_then_ok (slots sc) s d v left h g
+  assign_ok c sc d s v left (t.this sp) h g = value_then_ok (slots sc) s d v left h g
+  assign_ok c sc d s v left (t.consume n sp) h g = value_then_ok (slots sc) s d v left h g
+  assign_ok c sc d s v left (t.not_ e sp) h g = value_then_ok (slots sc) s d v left h g
+  assign_ok c sc d s v left (t.infix_ o es sp) h g = value_then_ok (slots sc) s d v left h g
+  assign_ok c sc d s v left (t.group b sp) h g = value_then_ok (slots sc) s d v left h g
+  assign_ok c sc d s v left (t.if_ as' o sp) h g = value_then_ok (slots sc) s d v left h g
+  assign_ok c sc d s v left (t.while_ cond b sp) h g = value_then_ok (slots sc) s d v left h g
+  assign_ok c sc d s v left (t.recover cap b sp) h g = value_then_ok (slots sc) s d v left h g
+  assign_ok c sc d s v left (t.assign l r sp) h g = value_then_ok (slots sc) s d v left h g
 
   infix_ok : (c : Context) (sc : Scope) (d : ℕ) (o : Op) (s : Span) (es : t.Exprs) → Scoped (slots sc) (infix_of c sc d o s es)
   infix_ok c sc d o s t.no_exprs = tt
@@ -199,7 +206,7 @@ mutual
   operands_ok c sc d o s left (t.expr e es) h = operands_ok c sc d o s (rose (operation o) (join s (t.span_of e)) d (two left (expr_of c sc d e))) es (operation_ok (slots sc) o (join s (t.span_of e)) d left (expr_of c sc d e) h (expr_ok c sc d e))
 
   chain_ok : (c : Context) (sc : Scope) (d : ℕ) (s : Span) (u : Use) (st : Start) (r : Rose) (ss : t.Suffixes) → UseScoped (slots sc) u → Scoped (slots sc) r → Scoped (slots sc) (chain_of c sc d s u st r ss)
-  chain_ok c sc d s u st r t.no_suffixes h g = g
+  chain_ok c sc d s u st r t.no_suffixes h g = other_use_ok (slots sc) u d r h g
   chain_ok c sc d s u st r (t.suffix (t.dot n) ss) h g = named_ok c sc d s u st r n ss h g
   chain_ok c sc d s u st r (t.suffix (t.args es sp) ss) h g = chain_ok c sc d s u with_value (apply c st (join s sp) d (exprs_of c sc d es) r) ss h (apply_ok (slots sc) c st (join s sp) d (exprs_of c sc d es) r (exprs_ok c sc d es) g)
 

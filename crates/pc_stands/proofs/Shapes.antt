@@ -7,7 +7,7 @@ use Rattle.pc_tree.specs.declared.names.Name.{Name}
 use Rattle.pc_tree.specs.Tree as t
 use Rattle.pc_stands.specs.Roses.{Rose, Roses, rose, more, no_roses, and_last, two, three}
 use Rattle.pc_stands.specs.Scopes.{Context, Scope, Meaning, local, field, method, nothing, TypeMeaning, primitive, created, no_value, slot_of, resolve, type_meaning, constructor_named, scope_after, deeper}
-use Rattle.pc_stands.specs.Expressions.{join, added_this, operation, read_field, call, read_name, consumed, write_name, new_object, create_name, read_type, Start, with_method, with_type, with_value, start_of, apply_name, apply_primitive, apply, call_named, Use, read, write, use_field, if_of, arm_place, sequence, expr_of, assign_of, infix_of, operands_of, chain_of, named_of, exprs_of, arms_of, arm_of, other_of, whole_of, seq_of, items_of, item_of}
+use Rattle.pc_stands.specs.Expressions.{value_then, use_other, join, added_this, operation, read_field, call, read_name, consumed, write_name, new_object, create_name, read_type, Start, with_method, with_type, with_value, start_of, apply_name, apply_primitive, apply, call_named, Use, read, write, use_field, if_of, arm_place, sequence, expr_of, assign_of, infix_of, operands_of, chain_of, named_of, exprs_of, arms_of, arm_of, other_of, whole_of, seq_of, items_of, item_of}
 use Rattle.pc_stands.specs.Shapes.{count, Shaped, AllShaped}
 use Rattle.pc_stands.specs.Laws.{IsShaped}
 
@@ -94,6 +94,10 @@ abbrev UseShaped : ℕ → Use → Type 0
 UseShaped d read = Unit {0}
 UseShaped d (write s v) = Shaped d v
 
+other_use_ok : (u : Use) (d : ℕ) (r : Rose) → UseShaped d u → Shaped d r → Shaped d (use_other u d r)
+other_use_ok read d r h g = g
+other_use_ok (write whole v) d r h g = (refl, omega arith, (h, (g, tt)))
+
 use_ok : (c : Context) (u : Use) (s : Span) (n : Name) (d : ℕ) (r : Rose) → UseShaped d u → Shaped d r → Shaped d (use_field c u s n d r)
 use_ok c read s n d r h g = (refl, refl, (g, tt))
 use_ok c (write whole v) s n d r h g = (refl, refl, (h, (g, tt)))
@@ -118,24 +122,24 @@ mutual
   expr_ok c sc d (t.if_ as' o s) = arms_ok c sc d s true as' (other_of c sc d s o) (other_ok c sc d s o)
   expr_ok c sc d (t.while_ cond b s) = (refl, refl, (whole_ok c sc d cond, (whole_ok c sc d b, tt)))
   expr_ok c sc d (t.recover cap b s) = (refl, refl, (whole_ok c sc (deeper d) b, tt))
-  expr_ok c sc d (t.assign l r s) = assign_ok c sc d s (expr_of c sc d r) l (expr_ok c sc d r)
+  expr_ok c sc d (t.assign l r s) = assign_ok c sc d s (expr_of c sc d r) (expr_of c sc d l) l (expr_ok c sc d r) (expr_ok c sc d l)
 
-  assign_ok : (c : Context) (sc : Scope) (d : ℕ) (s : Span) (v : Rose) (l : t.Expr) → Shaped d v → Shaped d (assign_of c sc d s v l)
-  assign_ok c sc d s v (t.name n) h = write_name_ok c s n d v (resolve c sc n.text) h
-  assign_ok c sc d s v (t.chain e ss whole) h = chain_ok c sc d whole (write s v) (start_of c sc e) (expr_of c sc d e) ss h (expr_ok c sc d e)
-  assign_ok c sc d s v (t.number n sp) h = h
-  assign_ok c sc d s v (t.truth n sp) h = h
-  assign_ok c sc d s v (t.text n sp) h = h
-  assign_ok c sc d s v (t.type_name n) h = h
-  assign_ok c sc d s v (t.this sp) h = h
-  assign_ok c sc d s v (t.consume n sp) h = h
-  assign_ok c sc d s v (t.not_ e sp) h = h
-  assign_ok c sc d s v (t.infix_ o es sp) h = h
-  assign_ok c sc d s v (t.group b sp) h = h
-  assign_ok c sc d s v (t.if_ as' o sp) h = h
-  assign_ok c sc d s v (t.while_ cond b sp) h = h
-  assign_ok c sc d s v (t.recover cap b sp) h = h
-  assign_ok c sc d s v (t.assign l r sp) h = h
+  assign_ok : (c : Context) (sc : Scope) (d : ℕ) (s : Span) (v left : Rose) (l : t.Expr) → Shaped d v → Shaped d left → Shaped d (assign_of c sc d s v left l)
+  assign_ok c sc d s v left (t.name n) h g = write_name_ok c s n d v (resolve c sc n.text) h
+  assign_ok c sc d s v left (t.chain e ss whole) h g = chain_ok c sc d whole (write s v) (start_of c sc e) (expr_of c sc d e) ss h (expr_ok c sc d e)
+  assign_ok c sc d s v left (t.number n sp) h g = (refl, omega arith, (h, (g, tt)))
+  assign_ok c sc d s v left (t.truth n sp) h g = (refl, omega arith, (h, (g, tt)))
+  assign_ok c sc d s v left (t.text n sp) h g = (refl, omega arith, (h, (g, tt)))
+  assign_ok c sc d s v left (t.type_name n) h g = (refl, omega arith, (h, (g, tt)))
+  assign_ok c sc d s v left (t.this sp) h g = (refl, omega arith, (h, (g, tt)))
+  assign_ok c sc d s v left (t.consume n sp) h g = (refl, omega arith, (h, (g, tt)))
+  assign_ok c sc d s v left (t.not_ e sp) h g = (refl, omega arith, (h, (g, tt)))
+  assign_ok c sc d s v left (t.infix_ o es sp) h g = (refl, omega arith, (h, (g, tt)))
+  assign_ok c sc d s v left (t.group b sp) h g = (refl, omega arith, (h, (g, tt)))
+  assign_ok c sc d s v left (t.if_ as' o sp) h g = (refl, omega arith, (h, (g, tt)))
+  assign_ok c sc d s v left (t.while_ cond b sp) h g = (refl, omega arith, (h, (g, tt)))
+  assign_ok c sc d s v left (t.recover cap b sp) h g = (refl, omega arith, (h, (g, tt)))
+  assign_ok c sc d s v left (t.assign l r sp) h g = (refl, omega arith, (h, (g, tt)))
 
   infix_ok : (c : Context) (sc : Scope) (d : ℕ) (o : Op) (s : Span) (es : t.Exprs) → Shaped d (infix_of c sc d o s es)
   infix_ok c sc d o s t.no_exprs = (refl, refl, tt)
@@ -146,7 +150,7 @@ mutual
   operands_ok c sc d o s left (t.expr e es) h = operands_ok c sc d o s (rose (operation o) (join s (t.span_of e)) d (two left (expr_of c sc d e))) es (operation_ok o (join s (t.span_of e)) d left (expr_of c sc d e) h (expr_ok c sc d e))
 
   chain_ok : (c : Context) (sc : Scope) (d : ℕ) (s : Span) (u : Use) (st : Start) (r : Rose) (ss : t.Suffixes) → UseShaped d u → Shaped d r → Shaped d (chain_of c sc d s u st r ss)
-  chain_ok c sc d s u st r t.no_suffixes h g = g
+  chain_ok c sc d s u st r t.no_suffixes h g = other_use_ok u d r h g
   chain_ok c sc d s u st r (t.suffix (t.dot n) ss) h g = named_ok c sc d s u st r n ss h g
   chain_ok c sc d s u st r (t.suffix (t.args es sp) ss) h g = chain_ok c sc d s u with_value (apply c st (join s sp) d (exprs_of c sc d es) r) ss h (apply_ok c st (join s sp) d (exprs_of c sc d es) r (exprs_ok c sc d es) g)
 

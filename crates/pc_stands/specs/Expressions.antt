@@ -125,6 +125,15 @@ abbrev pub use_field : Context → Use → Span → Name → ℕ → Rose → Ro
 use_field c read s n d origin = read_field c s n d origin
 use_field c (write whole value) s n d origin = write_field c whole n d value origin
 
+-- A value that is written to what is neither a name nor a field, which no text spells: it is followed by that.
+abbrev pub value_then : Span → ℕ → Rose → Rose → Rose
+value_then s d value r = rose node.Seq s d (two value r)
+
+-- A chain that ends with no field.
+abbrev pub use_other : Use → ℕ → Rose → Rose
+use_other read d r = r
+use_other (write whole value) d r = value_then whole d value r
+
 -- The first arm is an `if` alone, each `elseif` one in a sequence of its own.
 abbrev pub if_of : Bool → Span → ℕ → Roses → Rose
 if_of true s d parts = rose node.If s d parts
@@ -168,13 +177,13 @@ abbrev mutual
   expr_of c sc d (t.if_ as' o s) = arms_of c sc d s true as' (other_of c sc d s o)
   expr_of c sc d (t.while_ cond b s) = rose node.While s d (two (whole_of c sc d cond) (whole_of c sc d b))
   expr_of c sc d (t.recover cap b s) = rose (node.Recover cap) s d (one (whole_of c sc (deeper d) b))
-  expr_of c sc d (t.assign l r s) = assign_of c sc d s (expr_of c sc d r) l
+  expr_of c sc d (t.assign l r s) = assign_of c sc d s (expr_of c sc d r) (expr_of c sc d l) l
 
-  -- What stands left of `=` gets the value. Only names and fields stand there.
-  pub assign_of : Context → Scope → ℕ → Span → Rose → t.Expr → Rose
-  assign_of c sc d s value (t.name n) = write_name c s n d value (resolve c sc n.text)
-  assign_of c sc d s value (t.chain h ss whole) = chain_of c sc d whole (write s value) (start_of c sc h) (expr_of c sc d h) ss
-  assign_of c sc d s value e = value
+  -- What stands left of `=` gets the value. Only names and fields stand there; `left` is what it would be alone.
+  pub assign_of : Context → Scope → ℕ → Span → Rose → Rose → t.Expr → Rose
+  assign_of c sc d s value left (t.name n) = write_name c s n d value (resolve c sc n.text)
+  assign_of c sc d s value left (t.chain h ss whole) = chain_of c sc d whole (write s value) (start_of c sc h) (expr_of c sc d h) ss
+  assign_of c sc d s value left e = value_then s d value left
 
   -- Chains of operators nest to the left, and each reaches from the start of the chain to its own right side. They have
   -- operands: without one, which no text spells, they give None.
@@ -189,7 +198,7 @@ abbrev mutual
   -- So do chains of suffixes: a name with arguments directly behind it is a call, and a name alone a field. `origin` is
   -- what stands before the suffixes, and s is the place of the whole chain.
   pub chain_of : Context → Scope → ℕ → Span → Use → Start → Rose → t.Suffixes → Rose
-  chain_of c sc d s u st origin t.no_suffixes = origin
+  chain_of c sc d s u st origin t.no_suffixes = use_other u d origin
   chain_of c sc d s u st origin (t.suffix (t.dot n) ss) = named_of c sc d s u st origin n ss
   chain_of c sc d s u st origin (t.suffix (t.args es sp) ss) = chain_of c sc d s u with_value (apply c st (join s sp) d (exprs_of c sc d es) origin) ss
 
