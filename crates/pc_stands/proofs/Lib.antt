@@ -7,4 +7,5 @@ pub mod Bodies
 pub mod BodyScopes
 pub mod Locals
 pub mod Places
+pub mod Counts
 pub mod Examples

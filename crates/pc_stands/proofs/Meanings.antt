@@ -24,7 +24,7 @@ abbrev IsSome : List Fault → Type 0
 IsSome [] = ⊥
 IsSome (x ∷ xs) = Unit {0}
 
-some_fault : {x : Fault} {xs : List Fault} → x ∷ xs ≡ [] → ⊥
+pub some_fault : {x : Fault} {xs : List Fault} → x ∷ xs ≡ [] → ⊥
 some_fault h = subst IsSome h tt
 
 pub left_none : (xs ys : List Fault) → xs ++ ys ≡ [] → xs ≡ []

@@ -13,7 +13,8 @@ use Rattle.pc_stands.specs.Expressions.{expr_of}
 use Rattle.pc_stands.specs.Shapes.{Shaped}
 use Rattle.pc_stands.specs.Visibility.{IsIn, Scoped, slots}
 use Rattle.pc_stands.specs.Bodies.{body_of, added_body}
-use Rattle.pc_stands.specs.Slots.{Local, method_locals, slots_of}
+use Rattle.pc_stands.specs.Slots.{Local, locals_of, method_locals, slots_of}
+use Rattle.pc_stands.specs.Counts.{times, local_times}
 use Rattle.pc_stands.specs.Places.{body_places, fault_start, local_start}
 use Rattle.pc_stands.specs.Faults.{Fault, faults_of, body_faults, initial_faults}
 use Rattle.pc_stands.specs.Meanings.{Every, Names}
@@ -114,3 +115,7 @@ FirstIsLeast = (c : Context) (fs : List t.Field) (x : t.Method) (g : Fault) (res
 -- Where they do, each local has the slot of its place among the locals, which no other one has.
 abbrev pub LocalsHaveSlots : Type 0
 LocalsHaveSlots = (fs : List t.Field) (x : t.Method) → Ascends (body_places fs x) → (i : ℕ) (l : Local) → slice_get (method_locals fs x) i ≡ Some l → slot_at (slots_of fs x) (local_start l) ≡ 1 + length x.params + i
+
+-- Where an expression has no fault, it defines a slot as often as there are locals in it that have the slot.
+abbrev pub IsDefinedAsOften : Type 0
+IsDefinedAsOften = (c : Context) (slot : ℕ) (scope : Scope) (d : ℕ) (e : t.Expr) → faults_of c scope e ≡ [] → times slot (expr_of c scope d e) ≡ local_times c slot (locals_of d e)

@@ -5,6 +5,7 @@ pub mod Bodies
 pub mod Faults
 pub mod Slots
 pub mod Places
+pub mod Counts
 pub mod Shapes
 pub mod Visibility
 pub mod Meanings

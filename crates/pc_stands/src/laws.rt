@@ -1,6 +1,6 @@
 //! What is true of the definitions. Each call does nothing, and its contract is the fact.
 ghost use Rattle.pc_stands.specs.Example.{FirstStands, SecondStands, ThirdStands};
-ghost use Rattle.pc_stands.specs.Laws.{AddedBodiesAreScoped, AddedBodiesStand, BodiesAreScoped, BodiesStand, FirstIsLeast, IsPostOrder, IsScoped, IsShaped, LocalsAreDefined, LocalsHaveSlots, NodesHaveChildren, NothingIsMissing};
+ghost use Rattle.pc_stands.specs.Laws.{AddedBodiesAreScoped, AddedBodiesStand, BodiesAreScoped, BodiesStand, FirstIsLeast, IsDefinedAsOften, IsPostOrder, IsScoped, IsShaped, LocalsAreDefined, LocalsHaveSlots, NodesHaveChildren, NothingIsMissing};
 
 /// However a rose looks, its nodes are put behind those that are there, all of its method and in post-order, and its own
 /// node is the last.
@@ -63,4 +63,9 @@ pub fn locals_are_defined()
 pub fn names_stand_in_order()
     ensures first { FirstIsLeast }
     ensures slots { LocalsHaveSlots }
+{}
+
+/// Where an expression has no fault, what stands for it defines a slot as often as it has locals with that slot.
+pub fn locals_are_defined_as_often()
+    ensures { IsDefinedAsOften }
 {}
