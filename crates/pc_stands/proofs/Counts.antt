@@ -22,18 +22,18 @@ use Rattle.pc_stands.specs.Laws.{IsDefinedAsOften}
 use Rattle.pc_stands.proofs.Meanings.{some_fault, left_none, right_none}
 
 module _ (c : Context) (z : ℕ) where
-  join_n : (xs ys : List Local) → local_times c z (xs ++ ys) ≡ local_times c z xs + local_times c z ys
+  pub join_n : (xs ys : List Local) → local_times c z (xs ++ ys) ≡ local_times c z xs + local_times c z ys
   join_n [] ys = omega arith
   join_n (x ∷ xs) ys = let h = join_n xs ys in omega (arith, h)
 
-  last_n : (rs : Roses) (r : Rose) → times_all z (and_last rs r) ≡ times_all z rs + times z r
+  pub last_n : (rs : Roses) (r : Rose) → times_all z (and_last rs r) ≡ times_all z rs + times z r
   last_n no_roses r = omega arith
   last_n (more x xs) r = let h = last_n xs r in omega (arith, h)
 
   call_n : (s : Span) (n : List ℕ) (d : ℕ) (args : Roses) (r : Rose) → times z (call c s n d args r) ≡ times_all z args + times z r
   call_n s n d args r = let h = last_n args r in omega (arith, h)
 
-  sequence_n : (s : Span) (d : ℕ) (rs : Roses) → times z (sequence s d rs) ≡ times_all z rs
+  pub sequence_n : (s : Span) (d : ℕ) (rs : Roses) → times z (sequence s d rs) ≡ times_all z rs
   sequence_n s d no_roses = refl
   sequence_n s d (more r rs) = omega arith
 
@@ -184,7 +184,7 @@ module _ (c : Context) (z : ℕ) where
   head_n sc d (t.assign l r s) x alone f = alone f
 
   mutual
-    expr_n : (sc : Scope) (d : ℕ) (e : t.Expr) → faults_of c sc e ≡ [] → times z (expr_of c sc d e) ≡ local_times c z (locals_of d e)
+    pub expr_n : (sc : Scope) (d : ℕ) (e : t.Expr) → faults_of c sc e ≡ [] → times z (expr_of c sc d e) ≡ local_times c z (locals_of d e)
     expr_n sc d (t.number n s) f = refl
     expr_n sc d (t.truth b s) f = refl
     expr_n sc d (t.text b s) f = refl

@@ -8,4 +8,5 @@ pub mod BodyScopes
 pub mod Locals
 pub mod Places
 pub mod Counts
+pub mod Once
 pub mod Examples

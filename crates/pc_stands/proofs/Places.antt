@@ -18,7 +18,7 @@ use Rattle.pc_stands.specs.Laws.{FirstIsLeast, LocalsHaveSlots}
 
 -- Things that stand at some of these places, in this order.
 module _ {A : Type 0} (f : A → ℕ) where
-  data Sub : List A → List ℕ → Type 0 where
+  pub data Sub : List A → List ℕ → Type 0 where
     none : Sub [] []
     skip : (gs : List A) (n : ℕ) (ns : List ℕ) → Sub gs ns → Sub gs (n ∷ ns)
     take : (g : A) (gs : List A) (ns : List ℕ) → Sub gs ns → Sub (g ∷ gs) (f g ∷ ns)
@@ -33,7 +33,7 @@ module _ {A : Type 0} (f : A → ℕ) where
   nothing_at (n ∷ ns) = skip [] n ns (nothing_at ns)
 
   -- Each stands before those behind it.
-  abbrev Rising : List A → Type 0
+  abbrev pub Rising : List A → Type 0
   Rising [] = Unit {0}
   Rising (g ∷ gs) = Each (λ i h. f g < f h) gs × Rising gs
 
@@ -52,7 +52,7 @@ module _ {A : Type 0} (f : A → ℕ) where
   head : (n : ℕ) (ns : List ℕ) → Ascends (n ∷ ns) → Each (λ i b. n < b) ns
   head n ns a j b e = let m : 0 < suc j = omega arith in a 0 (suc j) n b m refl e
 
-  rising : (gs : List A) (ns : List ℕ) → Sub gs ns → Ascends ns → Rising gs
+  pub rising : (gs : List A) (ns : List ℕ) → Sub gs ns → Ascends ns → Rising gs
   rising gs ns none a = tt
   rising gs ns (skip gs2 n ns2 s) a = rising gs2 ns2 s (tail n ns2 a)
   rising gs ns (take g gs2 ns2 s) a = (behind (f g) gs2 ns2 s (head (f g) ns2 a), rising gs2 ns2 s (tail (f g) ns2 a))
@@ -258,7 +258,7 @@ value_in : (v : Option t.Expr) → LocalsAt (value_locals v) (value_places v)
 value_in None = none
 value_in (Some e) = expr_in 0 e
 
-initials_in : (fs : List t.Field) → LocalsAt (initial_locals fs) (initial_places fs)
+pub initials_in : (fs : List t.Field) → LocalsAt (initial_locals fs) (initial_places fs)
 initials_in [] = none
 initials_in (x ∷ fs) = pair (value_locals x.value) (initial_locals fs) (value_places x.value) (initial_places fs) (value_in x.value) (initials_in fs)
 
@@ -266,10 +266,10 @@ body_in : (b : Option t.Seq) → LocalsAt (body_locals b) (written_body_places b
 body_in None = none
 body_in (Some b) = seq_in 0 b
 
-method_in : (fs : List t.Field) (x : t.Method) → LocalsAt (method_locals fs x) (body_places fs x)
+pub method_in : (fs : List t.Field) (x : t.Method) → LocalsAt (method_locals fs x) (body_places fs x)
 method_in fs x = pair (initial_locals (initial_fields x.word fs)) (body_locals x.body) (initial_places (initial_fields x.word fs)) (written_body_places x.body) (initials_in (initial_fields x.word fs)) (body_in x.body)
 
-slot_is : (at : ℕ) (ls : List Local) → Rising local_start ls → (i : ℕ) (l : Local) → slice_get ls i ≡ Some l → slot_at (placed_from at ls) (local_start l) ≡ at + i
+pub slot_is : (at : ℕ) (ls : List Local) → Rising local_start ls → (i : ℕ) (l : Local) → slice_get ls i ≡ Some l → slot_at (placed_from at ls) (local_start l) ≡ at + i
 slot_is at [] r i l e = absurd (none-some l e)
 slot_is at (x ∷ xs) r zero l e = subst (λ (z : Local). slot_at (placed_from at (x ∷ xs)) (local_start z) ≡ at + 0) (same_Some x l e) (by (nat_eq (local_start x) (local_start x)) (same_eq (local_start x)))
   where

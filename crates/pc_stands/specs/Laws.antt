@@ -13,9 +13,9 @@ use Rattle.pc_stands.specs.Expressions.{expr_of}
 use Rattle.pc_stands.specs.Shapes.{Shaped}
 use Rattle.pc_stands.specs.Visibility.{IsIn, Scoped, slots}
 use Rattle.pc_stands.specs.Bodies.{body_of, added_body}
-use Rattle.pc_stands.specs.Slots.{Local, locals_of, method_locals, slots_of}
+use Rattle.pc_stands.specs.Slots.{Local, locals_of, initial_locals, method_locals, slots_of, added_slots}
 use Rattle.pc_stands.specs.Counts.{times, local_times}
-use Rattle.pc_stands.specs.Places.{body_places, fault_start, local_start}
+use Rattle.pc_stands.specs.Places.{body_places, initial_places, fault_start, local_start}
 use Rattle.pc_stands.specs.Faults.{Fault, faults_of, body_faults, initial_faults}
 use Rattle.pc_stands.specs.Meanings.{Every, Names}
 
@@ -119,3 +119,23 @@ LocalsHaveSlots = (fs : List t.Field) (x : t.Method) → Ascends (body_places fs
 -- Where an expression has no fault, it defines a slot as often as there are locals in it that have the slot.
 abbrev pub IsDefinedAsOften : Type 0
 IsDefinedAsOften = (c : Context) (slot : ℕ) (scope : Scope) (d : ℕ) (e : t.Expr) → faults_of c scope e ≡ [] → times slot (expr_of c scope d e) ≡ local_times c slot (locals_of d e)
+
+-- Of the nodes that have been put, exactly one defines the slot.
+pub record IsDefinedOnce (slot : ℕ) (before after : List Node) : Type 0 where
+  pub define : ℕ
+  pub definition : Node
+  pub behind : length before ≤ define
+  pub is_definition : slice_get after define ≡ Some definition
+  pub defines : definition.kind ≡ node.Define slot
+  pub only : (k : ℕ) (x : Node) → length before ≤ k → slice_get after k ≡ Some x → x.kind ≡ node.Define slot → k ≡ define
+
+-- In a body without a fault, whose names stand in the order of the text, each local is defined once, with its slot.
+abbrev pub LocalsAreDefinedOnce : Type 0
+LocalsAreDefinedOnce =
+    (c : Context) (fs : List t.Field) (x : t.Method) (r : Rose) (m n : ℕ) (before after : List Node) → c.slots ≡ slots_of fs x → Ascends (body_places fs x) → body_faults c fs x ≡ []
+    → body_of c fs x ≡ Some r → put m r before ≡ Some (n, after) → (i : ℕ) (l : Local) → slice_get (method_locals fs x) i ≡ Some l → IsDefinedOnce (1 + length x.params + i) before after
+
+abbrev pub AddedLocalsAreDefinedOnce : Type 0
+AddedLocalsAreDefinedOnce =
+    (c : Context) (fs : List t.Field) (name : Span) (m n : ℕ) (before after : List Node) → c.slots ≡ added_slots fs → Ascends (initial_places fs) → initial_faults c fs ≡ []
+    → put m (added_body c fs name) before ≡ Some (n, after) → (i : ℕ) (l : Local) → slice_get (initial_locals fs) i ≡ Some l → IsDefinedOnce (1 + i) before after

@@ -1,6 +1,6 @@
 //! What is true of the definitions. Each call does nothing, and its contract is the fact.
 ghost use Rattle.pc_stands.specs.Example.{FirstStands, SecondStands, ThirdStands};
-ghost use Rattle.pc_stands.specs.Laws.{AddedBodiesAreScoped, AddedBodiesStand, BodiesAreScoped, BodiesStand, FirstIsLeast, IsDefinedAsOften, IsPostOrder, IsScoped, IsShaped, LocalsAreDefined, LocalsHaveSlots, NodesHaveChildren, NothingIsMissing};
+ghost use Rattle.pc_stands.specs.Laws.{AddedBodiesAreScoped, AddedBodiesStand, AddedLocalsAreDefinedOnce, BodiesAreScoped, BodiesStand, FirstIsLeast, IsDefinedAsOften, IsPostOrder, IsScoped, IsShaped, LocalsAreDefined, LocalsAreDefinedOnce, LocalsHaveSlots, NodesHaveChildren, NothingIsMissing};
 
 /// However a rose looks, its nodes are put behind those that are there, all of its method and in post-order, and its own
 /// node is the last.
@@ -68,4 +68,11 @@ pub fn names_stand_in_order()
 /// Where an expression has no fault, what stands for it defines a slot as often as it has locals with that slot.
 pub fn locals_are_defined_as_often()
     ensures { IsDefinedAsOften }
+{}
+
+/// In a body without a fault, whose names stand in the order of the text, each local is defined by exactly one node, with the
+/// slot that its place among the locals gives it. So it is in the body of a `create` that is added.
+pub fn locals_are_defined_once()
+    ensures written { LocalsAreDefinedOnce }
+    ensures added { AddedLocalsAreDefinedOnce }
 {}
