@@ -21,7 +21,7 @@ use Rattle.pc_stands.specs.Counts.{one_if, kind_times, times, times_all, local_t
 use Rattle.pc_stands.specs.Laws.{IsDefinedAsOften}
 use Rattle.pc_stands.proofs.Meanings.{some_fault, left_none, right_none}
 
-module _ (c : Context) (z : ℕ) where
+module _ (c : Context) (z : ℕ → ℕ → Bool) where
   pub join_n : (xs ys : List Local) → local_times c z (xs ++ ys) ≡ local_times c z xs + local_times c z ys
   join_n [] ys = omega arith
   join_n (x ∷ xs) ys = let h = join_n xs ys in omega (arith, h)

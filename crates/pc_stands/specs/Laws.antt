@@ -1,5 +1,5 @@
 -- What is true of the definitions.
-use Rattle.std.specs.Prelude.{◌≡◌, ◌⊎◌, ℕ, ◌+◌, ◌<◌, ◌≤◌, List, [], ◌∷◌, ◌++◌, length, Some, slice_get}
+use Rattle.std.specs.Prelude.{◌≡◌, ◌⊎◌, ℕ, Bool, ◌+◌, ◌<◌, ◌≤◌, List, [], ◌∷◌, ◌++◌, length, Some, slice_get}
 use Rattle.pc_core.specs.declared.nodes.Node.{Node}
 use Rattle.pc_core.specs.Words.{Each, Has, Ascends}
 use Rattle.pc_core.specs.Methods.{PostOrder, Uses}
@@ -116,26 +116,28 @@ FirstIsLeast = (c : Context) (fs : List t.Field) (x : t.Method) (g : Fault) (res
 abbrev pub LocalsHaveSlots : Type 0
 LocalsHaveSlots = (fs : List t.Field) (x : t.Method) → Ascends (body_places fs x) → (i : ℕ) (l : Local) → slice_get (method_locals fs x) i ≡ Some l → slot_at (slots_of fs x) (local_start l) ≡ 1 + length x.params + i
 
--- Where an expression has no fault, it defines a slot as often as there are locals in it that have the slot.
+-- Where an expression has no fault, it has as many definitions as locals, also of those that pass a test on their slot and
+-- depth.
 abbrev pub IsDefinedAsOften : Type 0
-IsDefinedAsOften = (c : Context) (slot : ℕ) (scope : Scope) (d : ℕ) (e : t.Expr) → faults_of c scope e ≡ [] → times slot (expr_of c scope d e) ≡ local_times c slot (locals_of d e)
+IsDefinedAsOften = (c : Context) (test : ℕ → ℕ → Bool) (scope : Scope) (d : ℕ) (e : t.Expr) → faults_of c scope e ≡ [] → times test (expr_of c scope d e) ≡ local_times c test (locals_of d e)
 
--- Of the nodes that have been put, exactly one defines the slot.
-pub record IsDefinedOnce (slot : ℕ) (before after : List Node) : Type 0 where
+-- Of the nodes that have been put, exactly one defines the slot, at this depth.
+pub record IsDefinedOnce (slot depth : ℕ) (before after : List Node) : Type 0 where
   pub define : ℕ
   pub definition : Node
   pub behind : length before ≤ define
   pub is_definition : slice_get after define ≡ Some definition
   pub defines : definition.kind ≡ node.Define slot
+  pub deep : definition.depth ≡ depth
   pub only : (k : ℕ) (x : Node) → length before ≤ k → slice_get after k ≡ Some x → x.kind ≡ node.Define slot → k ≡ define
 
--- In a body without a fault, whose names stand in the order of the text, each local is defined once, with its slot.
+-- In a body without a fault, whose names stand in the order of the text, each local is defined once, with its slot and at its depth.
 abbrev pub LocalsAreDefinedOnce : Type 0
 LocalsAreDefinedOnce =
     (c : Context) (fs : List t.Field) (x : t.Method) (r : Rose) (m n : ℕ) (before after : List Node) → c.slots ≡ slots_of fs x → Ascends (body_places fs x) → body_faults c fs x ≡ []
-    → body_of c fs x ≡ Some r → put m r before ≡ Some (n, after) → (i : ℕ) (l : Local) → slice_get (method_locals fs x) i ≡ Some l → IsDefinedOnce (1 + length x.params + i) before after
+    → body_of c fs x ≡ Some r → put m r before ≡ Some (n, after) → (i : ℕ) (l : Local) → slice_get (method_locals fs x) i ≡ Some l → IsDefinedOnce (1 + length x.params + i) l.depth before after
 
 abbrev pub AddedLocalsAreDefinedOnce : Type 0
 AddedLocalsAreDefinedOnce =
     (c : Context) (fs : List t.Field) (name : Span) (m n : ℕ) (before after : List Node) → c.slots ≡ added_slots fs → Ascends (initial_places fs) → initial_faults c fs ≡ []
-    → put m (added_body c fs name) before ≡ Some (n, after) → (i : ℕ) (l : Local) → slice_get (initial_locals fs) i ≡ Some l → IsDefinedOnce (1 + i) before after
+    → put m (added_body c fs name) before ≡ Some (n, after) → (i : ℕ) (l : Local) → slice_get (initial_locals fs) i ≡ Some l → IsDefinedOnce (1 + i) l.depth before after

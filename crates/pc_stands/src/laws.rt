@@ -65,13 +65,14 @@ pub fn names_stand_in_order()
     ensures slots { LocalsHaveSlots }
 {}
 
-/// Where an expression has no fault, what stands for it defines a slot as often as it has locals with that slot.
+/// Where an expression has no fault, what stands for it has as many definitions as it has locals, also of those that pass a
+/// test on their slot and depth.
 pub fn locals_are_defined_as_often()
     ensures { IsDefinedAsOften }
 {}
 
 /// In a body without a fault, whose names stand in the order of the text, each local is defined by exactly one node, with the
-/// slot that its place among the locals gives it. So it is in the body of a `create` that is added.
+/// slot that its place among the locals gives it, at its depth. So it is in the body of a `create` that is added.
 pub fn locals_are_defined_once()
     ensures written { LocalsAreDefinedOnce }
     ensures added { AddedLocalsAreDefinedOnce }
