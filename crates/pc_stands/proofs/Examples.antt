@@ -5,7 +5,7 @@ use Rattle.pc_stands.specs.Example.{FirstStands, SecondStands, ThirdStands}
 
 pub first_stands : FirstStands
 unfolding push
-first_stands = (refl, refl, refl)
+first_stands = (refl, refl, refl, refl)
 
 pub second_stands : SecondStands
 unfolding push
@@ -13,4 +13,4 @@ second_stands = (refl, refl, refl)
 
 pub third_stands : ThirdStands
 unfolding push
-third_stands = (refl, refl, refl)
+third_stands = (refl, refl, refl, refl)

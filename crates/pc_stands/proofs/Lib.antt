@@ -9,4 +9,5 @@ pub mod Locals
 pub mod Places
 pub mod Counts
 pub mod Once
+pub mod Types
 pub mod Examples

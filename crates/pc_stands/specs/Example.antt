@@ -1,5 +1,5 @@
 -- Three small bodies with all their nodes, written out by hand.
-use Rattle.std.specs.Prelude.{◌≡◌, ℕ, List, [], ◌∷◌, true, false, Some, None, codes}
+use Rattle.std.specs.Prelude.{map, ◌≡◌, ℕ, List, [], ◌∷◌, true, false, Some, None, codes}
 use Rattle.pc_caps.specs.declared.span.Span.{Span}
 use Rattle.pc_caps.specs.declared.capability.Cap.TheVariants as cap
 use Rattle.pc_tree.specs.declared.kinds.EntityKind.TheVariants as kind
@@ -8,13 +8,14 @@ use Rattle.pc_tree.specs.declared.kinds.Op.TheVariants as op
 use Rattle.pc_tree.specs.declared.names.Name.{Name}
 use Rattle.pc_tree.specs.declared.names.TypeRef.{TypeRef}
 use Rattle.pc_tree.specs.Tree as t
+use Rattle.pc_core.specs.declared.nodes.SlotKind.TheVariants as slot
 use Rattle.pc_core.specs.declared.nodes.Node.{Node}
 use Rattle.pc_core.specs.declared.nodes.NodeKind.TheVariants as node
 use Rattle.pc_stands.specs.Roses.{put, node_of}
 use Rattle.pc_stands.specs.Scopes.{Context, Known, Constructor, Placed}
 use Rattle.pc_stands.specs.Bodies.{body_with}
 use Rattle.pc_stands.specs.Faults.{body_faults}
-use Rattle.pc_stands.specs.Slots.{slots_of}
+use Rattle.pc_stands.specs.Slots.{slots_of, method_locals, local_slot}
 
 abbrev at : ℕ → ℕ → Span
 at a b = record { start = a; end = b }
@@ -26,7 +27,7 @@ abbrev sort : List ℕ → Span → TypeRef
 sort text s = record { name = name text s; cap = None; hat = false }
 
 abbrev known : List ℕ → Known
-known text = record { name = text; kind = kind.Primitive; constructors = [] }
+known text = record { name = text; kind = kind.Primitive; cap = cap.Val; constructors = [] }
 
 abbrev constructor : ℕ → Constructor
 constructor m = record { name = codes "create"; method = m }
@@ -34,10 +35,10 @@ constructor m = record { name = codes "create"; method = m }
 -- The entities of the language, and then `class C` and `actor Main`, whose constructors are methods 1 and 2.
 abbrev entities : List Known
 entities = known (codes "None") ∷ known (codes "U64") ∷ known (codes "Bool") ∷ known (codes "String")
-    ∷ record { name = codes "Env"; kind = kind.Class; constructors = [] }
-    ∷ record { name = codes "OutStream"; kind = kind.Actor; constructors = [] }
-    ∷ record { name = codes "C"; kind = kind.Class; constructors = constructor 1 ∷ [] }
-    ∷ record { name = codes "Main"; kind = kind.Actor; constructors = constructor 2 ∷ [] } ∷ []
+    ∷ record { name = codes "Env"; kind = kind.Class; cap = cap.Val; constructors = [] }
+    ∷ record { name = codes "OutStream"; kind = kind.Actor; cap = cap.Tag; constructors = [] }
+    ∷ record { name = codes "C"; kind = kind.Class; cap = cap.Ref; constructors = constructor 1 ∷ [] }
+    ∷ record { name = codes "Main"; kind = kind.Actor; cap = cap.Tag; constructors = constructor 2 ∷ [] } ∷ []
 
 abbrev texts : List (List ℕ)
 texts = codes "out" ∷ codes "print" ∷ codes "create" ∷ codes "f" ∷ codes "g" ∷ codes "m" ∷ codes "go" ∷ codes "make" ∷ codes "apply" ∷ []
@@ -54,7 +55,7 @@ placed start slot = record { start = start; slot = slot }
 --       new create(env: Env) =>
 --         let a: C iso = C
 abbrev pub first_body : t.Seq
-first_body = t.seq (t.item (t.local true (name (codes "a") (at 53 54)) (Some (sort (codes "C") (at 56 57))) (t.type_name (name (codes "C") (at 64 65))) (at 49 65)) t.no_items) (at 49 65)
+first_body = t.seq (t.item (t.local true (name (codes "a") (at 53 54)) (Some (record { name = name (codes "C") (at 56 57); cap = Some cap.Iso; hat = false })) (t.type_name (name (codes "C") (at 64 65))) (at 49 65)) t.no_items) (at 49 65)
 
 abbrev pub first : t.Method
 first = record { word = word.New; cap = None; name = (name (codes "create") (at 25 31)); params = record { name = (name (codes "env") (at 32 35)); ty = (sort (codes "Env") (at 37 40)) } ∷ []; result = None; body = Some first_body }
@@ -75,6 +76,7 @@ FirstStands =
     (put 2 (body_with (context first_slots) [] first first_body) [] ≡ Some (3, first_nodes))
     × (body_faults (context first_slots) [] first ≡ [])
     × (slots_of [] first ≡ first_slots)
+    × (map (local_slot (context first_slots) 2) (method_locals [] first) ≡ record { method = 2; kind = slot.Let; depth = 0; written = Some (6, cap.Iso) } ∷ [])
 
 -- The body of this method, of an entity with a field f and a method m: a call on `this`, an `elseif`, a field that is written,
 -- a missing `else`, and a missing result:
@@ -126,7 +128,7 @@ abbrev pub third_body : t.Seq
 third_body = t.seq (t.item (t.plain (t.recover (Some cap.Iso) (t.seq (t.item (t.local true (name (codes "y") (at 39 40)) None (t.infix_ op.Add (t.expr (t.number 1 (at 43 44)) (t.expr (t.number 2 (at 47 48)) (t.expr (t.number 3 (at 51 52)) t.no_exprs))) (at 43 52)) (at 35 52)) (t.item (t.plain (t.consume (name (codes "y") (at 62 63)) (at 54 63))) t.no_items)) (at 35 63)) (at 23 67))) t.no_items) (at 23 67)
 
 abbrev pub third : t.Method
-third = record { word = word.Fun; cap = None; name = (name (codes "make") (at 10 14)); params = []; result = (Some (sort (codes "C") (at 18 19))); body = Some third_body }
+third = record { word = word.Fun; cap = Some cap.Ref; name = (name (codes "make") (at 10 14)); params = []; result = (Some (sort (codes "C") (at 18 19))); body = Some third_body }
 
 abbrev pub third_slots : List Placed
 third_slots = placed 39 1 ∷ []
@@ -151,3 +153,4 @@ ThirdStands =
     (put 4 (body_with (context third_slots) [] third third_body) [] ≡ Some (10, third_nodes))
     × (body_faults (context third_slots) [] third ≡ [])
     × (slots_of [] third ≡ third_slots)
+    × (map (local_slot (context third_slots) 4) (method_locals [] third) ≡ record { method = 4; kind = slot.Let; depth = 1; written = None } ∷ [])

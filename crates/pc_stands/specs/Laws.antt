@@ -6,6 +6,8 @@ use Rattle.pc_core.specs.Methods.{PostOrder, Uses}
 use Rattle.pc_core.specs.declared.nodes.NodeKind.TheVariants as node
 use Rattle.pc_caps.specs.declared.span.Span.{Span}
 use Rattle.pc_core.specs.Nodes.{HasArity, inner_depth}
+use Rattle.pc_caps.specs.declared.capability.Cap.{Cap}
+use Rattle.pc_tree.specs.declared.names.TypeRef.{TypeRef}
 use Rattle.pc_tree.specs.Tree as t
 use Rattle.pc_stands.specs.Roses.{Rose, put, node_limit}
 use Rattle.pc_stands.specs.Scopes.{Context, Scope, params_scope, slot_at}
@@ -13,10 +15,10 @@ use Rattle.pc_stands.specs.Expressions.{expr_of}
 use Rattle.pc_stands.specs.Shapes.{Shaped}
 use Rattle.pc_stands.specs.Visibility.{IsIn, Scoped, slots}
 use Rattle.pc_stands.specs.Bodies.{body_of, added_body}
-use Rattle.pc_stands.specs.Slots.{Local, locals_of, initial_locals, method_locals, slots_of, added_slots}
+use Rattle.pc_stands.specs.Slots.{Local, locals_of, initial_locals, method_locals, slots_of, added_slots, written_of}
 use Rattle.pc_stands.specs.Counts.{times, local_times}
 use Rattle.pc_stands.specs.Places.{body_places, initial_places, fault_start, local_start}
-use Rattle.pc_stands.specs.Faults.{Fault, faults_of, body_faults, initial_faults}
+use Rattle.pc_stands.specs.Faults.{Fault, faults_of, written_faults, body_faults, initial_faults}
 use Rattle.pc_stands.specs.Meanings.{Every, Names}
 
 -- What is there when a rose of method m has been put behind some nodes: `own` are its nodes, and n is the last of them.
@@ -141,3 +143,7 @@ abbrev pub AddedLocalsAreDefinedOnce : Type 0
 AddedLocalsAreDefinedOnce =
     (c : Context) (fs : List t.Field) (name : Span) (m n : ℕ) (before after : List Node) → c.slots ≡ added_slots fs → Ascends (initial_places fs) → initial_faults c fs ≡ []
     → put m (added_body c fs name) before ≡ Some (n, after) → (i : ℕ) (l : Local) → slice_get (initial_locals fs) i ≡ Some l → IsDefinedOnce (1 + i) l.depth before after
+
+-- A type that is written for a local is that of an entity, where it is no fault.
+abbrev pub WrittenTypesAreThere : Type 0
+WrittenTypesAreThere = (c : Context) (ty : TypeRef) → written_faults c (Some ty) ≡ [] → (p : ℕ × Cap) × (written_of c (Some ty) ≡ Some p) × (p.0 < length c.entities)

@@ -1,6 +1,7 @@
 -- What the names in a body mean.
 use Rattle.std.specs.Prelude.{ℕ, suc, ◌+◌, ◌-◌, ◌^◌, min, Bool, true, false, List, [], ◌∷◌, ◌++◌, Option, Some, None, if◌then◌else◌, nat_eq, nat_lt}
 use Rattle.std.specs.Str.{bytes_eq}
+use Rattle.pc_caps.specs.declared.capability.Cap.{Cap}
 use Rattle.pc_tree.specs.declared.kinds.EntityKind.{EntityKind}
 use Rattle.pc_tree.specs.declared.kinds.EntityKind.TheVariants as kind
 use Rattle.pc_tree.specs.declared.names.Name.{Name}
@@ -17,6 +18,8 @@ pub record Constructor : Type 0 where
 pub record Known : Type 0 where
   pub name : List ℕ
   pub kind : EntityKind
+  -- the capability of its type where none is written
+  pub cap : Cap
   pub constructors : List Constructor
 
 -- The slot of a local, found by the place at which its name stands where it is defined.

@@ -1,9 +1,14 @@
 -- The locals of a body, in the order in which their names stand in the text, and their slots.
-use Rattle.std.specs.Prelude.{ℕ, suc, ◌+◌, Bool, List, [], ◌∷◌, ◌++◌, length, Option, Some, None}
+use Rattle.std.specs.Prelude.{ℕ, suc, ◌+◌, Bool, true, false, List, [], ◌∷◌, ◌++◌, length, Option, Some, None, if◌then◌else◌}
+use Rattle.std.specs.Str.{bytes_eq}
+use Rattle.pc_caps.specs.declared.capability.Cap.{Cap}
 use Rattle.pc_tree.specs.declared.names.Name.{Name}
 use Rattle.pc_tree.specs.declared.names.TypeRef.{TypeRef}
 use Rattle.pc_tree.specs.Tree as t
-use Rattle.pc_stands.specs.Scopes.{Placed, deeper}
+use Rattle.pc_core.specs.declared.nodes.Slot.{Slot}
+use Rattle.pc_core.specs.declared.nodes.SlotKind.{SlotKind}
+use Rattle.pc_core.specs.declared.nodes.SlotKind.TheVariants as slot
+use Rattle.pc_stands.specs.Scopes.{Context, Known, Placed, deeper}
 use Rattle.pc_stands.specs.Bodies.{initial_fields}
 
 -- A local where it is defined.
@@ -98,3 +103,25 @@ slots_of fs m = placed_from (1 + length m.params) (method_locals fs m)
 -- In an added `create` there are those of the initial values alone, after the slot of `this`.
 abbrev pub added_slots : List t.Field → List Placed
 added_slots fs = placed_from 1 (initial_locals fs)
+
+-- The capability that is written, or else that of the entity.
+abbrev pub cap_or : Option Cap → Cap → Cap
+cap_or (Some k) own = k
+cap_or None own = own
+
+-- The type of this name among entities, whose numbers begin with this one.
+abbrev pub type_of : ℕ → List Known → TypeRef → Option (ℕ × Cap)
+type_of at [] ty = None
+type_of at (x ∷ xs) ty = if bytes_eq x.name ty.name.text then Some (at, cap_or ty.cap x.cap) else type_of (suc at) xs ty
+
+abbrev pub written_of : Context → Option TypeRef → Option (ℕ × Cap)
+written_of c None = None
+written_of c (Some ty) = type_of 0 c.entities ty
+
+abbrev pub local_kind : Bool → SlotKind
+local_kind true = slot.Let
+local_kind false = slot.Var
+
+-- The slot of a local of method m.
+abbrev pub local_slot : Context → ℕ → Local → Slot
+local_slot c m l = record { method = m; kind = local_kind l.fixed; depth = l.depth; written = written_of c l.ty }

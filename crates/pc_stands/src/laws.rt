@@ -1,6 +1,6 @@
 //! What is true of the definitions. Each call does nothing, and its contract is the fact.
 ghost use Rattle.pc_stands.specs.Example.{FirstStands, SecondStands, ThirdStands};
-ghost use Rattle.pc_stands.specs.Laws.{AddedBodiesAreScoped, AddedBodiesStand, AddedLocalsAreDefinedOnce, BodiesAreScoped, BodiesStand, FirstIsLeast, IsDefinedAsOften, IsPostOrder, IsScoped, IsShaped, LocalsAreDefined, LocalsAreDefinedOnce, LocalsHaveSlots, NodesHaveChildren, NothingIsMissing};
+ghost use Rattle.pc_stands.specs.Laws.{AddedBodiesAreScoped, AddedBodiesStand, AddedLocalsAreDefinedOnce, BodiesAreScoped, BodiesStand, FirstIsLeast, IsDefinedAsOften, IsPostOrder, IsScoped, IsShaped, LocalsAreDefined, LocalsAreDefinedOnce, LocalsHaveSlots, NodesHaveChildren, NothingIsMissing, WrittenTypesAreThere};
 
 /// However a rose looks, its nodes are put behind those that are there, all of its method and in post-order, and its own
 /// node is the last.
@@ -76,4 +76,9 @@ pub fn locals_are_defined_as_often()
 pub fn locals_are_defined_once()
     ensures written { LocalsAreDefinedOnce }
     ensures added { AddedLocalsAreDefinedOnce }
+{}
+
+/// A type that is written for a local, where it is no fault, is that of an entity of the program.
+pub fn written_types_are_there()
+    ensures { WrittenTypesAreThere }
 {}
