@@ -1,23 +1,16 @@
 -- Each local is defined once.
-use Rattle.std.proofs.Common.{◌≡◌, ℕ, zero, suc, ◌+◌, ◌-◌, ◌<◌, ◌≤◌, length, List, [], ◌∷◌, ◌++◌, Option, Some, None, Bool, true, false, refl, sym, ap, ◌∙◌, subst, inl, inr, arith, if◌then◌else◌}
-use Rattle.std.specs.Prelude.{slice_get, nat_eq, ◌⊎◌}
-use Rattle.std.proofs.lemmas.Option.{same_Some, none-some}
-use Rattle.std.proofs.lemmas.Bool.Decides.{eqb_tells}
-use Rattle.std.proofs.lemmas.List.{length-append}
+use Rattle.std.proofs.Common.{◌≡◌, ℕ, ◌+◌, List, [], ◌∷◌, ◌++◌, Option, Some, None, Bool, true, false, refl, ◌∙◌, arith}
 use Rattle.pc_caps.specs.declared.span.Span.{Span}
 use Rattle.pc_tree.specs.declared.kinds.Op.{Op}
 use Rattle.pc_tree.specs.declared.kinds.Op.TheVariants as op
 use Rattle.pc_tree.specs.declared.names.Name.{Name}
 use Rattle.pc_tree.specs.Tree as t
-use Rattle.pc_core.specs.declared.nodes.Node.{Node}
-use Rattle.pc_core.specs.declared.nodes.NodeKind.{NodeKind}
-use Rattle.pc_core.specs.declared.nodes.NodeKind.TheVariants as node
-use Rattle.pc_stands.specs.Roses.{Rose, Roses, rose, leaf, more, no_roses, and_last, one, two, three}
-use Rattle.pc_stands.specs.Scopes.{Context, Scope, Constructor, Meaning, local, field, method, nothing, TypeMeaning, primitive, created, no_value, slot_of, slot_at, resolve, type_meaning, constructor_named, scope_after, deeper}
-use Rattle.pc_stands.specs.Expressions.{join, added_this, operation, read_field, call, read_name, consumed, write_name, new_object, create_name, read_type, Start, with_method, with_type, with_value, start_of, start_with_name, apply_name, apply_primitive, apply, call_named, Use, read, write, use_field, use_other, value_then, if_of, arm_place, sequence, expr_of, assign_of, infix_of, operands_of, chain_of, named_of, exprs_of, arms_of, arm_of, other_of, whole_of, seq_of, items_of, item_of}
-use Rattle.pc_stands.specs.Faults.{Fault, unknown, double, unless_some, when, is_taken, name_faults, type_faults, written_faults, Next, arguments, name, end, next_of, start_faults, dot_faults, faults_of, exprs_faults, suffixes_faults, arms_faults, arm_faults, other_faults, seq_faults, items_faults, item_faults}
-use Rattle.pc_stands.specs.Slots.{Local, locals_of, exprs_locals, suffix_locals, suffixes_locals, arm_locals, arms_locals, other_locals, seq_locals, items_locals, item_locals}
-use Rattle.pc_stands.specs.Counts.{one_if, kind_times, times, times_all, local_times}
+use Rattle.pc_stands.specs.Roses.{Rose, Roses, rose, more, no_roses, and_last, two, three}
+use Rattle.pc_stands.specs.Scopes.{Context, Scope, Meaning, local, field, method, nothing, TypeMeaning, primitive, created, no_value, slot_of, resolve, type_meaning, constructor_named, scope_after, deeper}
+use Rattle.pc_stands.specs.Expressions.{join, added_this, operation, read_field, call, read_name, consumed, write_name, new_object, create_name, read_type, Start, with_method, with_type, with_value, start_of, start_with_name, apply_name, apply_primitive, apply, call_named, Use, read, write, use_field, use_other, if_of, arm_place, sequence, expr_of, assign_of, infix_of, operands_of, chain_of, named_of, exprs_of, arms_of, arm_of, other_of, whole_of, seq_of, items_of, item_of}
+use Rattle.pc_stands.specs.Faults.{unknown, double, unless_some, when, is_taken, name_faults, type_faults, written_faults, Next, arguments, name, end, next_of, start_faults, dot_faults, faults_of, exprs_faults, suffixes_faults, arms_faults, arm_faults, other_faults, seq_faults, items_faults, item_faults}
+use Rattle.pc_stands.specs.Slots.{Local, locals_of, exprs_locals, suffixes_locals, arm_locals, arms_locals, other_locals, seq_locals, items_locals, item_locals}
+use Rattle.pc_stands.specs.Counts.{times, times_all, local_times}
 use Rattle.pc_stands.specs.Laws.{IsDefinedAsOften}
 use Rattle.pc_stands.proofs.Meanings.{some_fault, left_none, right_none}
 

@@ -10,14 +10,13 @@ use Rattle.pc_tree.specs.Tree as t
 use Rattle.pc_core.specs.declared.nodes.Node.{Node}
 use Rattle.pc_core.specs.declared.nodes.NodeKind.{NodeKind}
 use Rattle.pc_core.specs.declared.nodes.NodeKind.TheVariants as node
-use Rattle.pc_core.specs.Words.{Ascends}
 use Rattle.pc_core.specs.Growing.{append_get, get_append}
 use Rattle.pc_stands.specs.Roses.{Rose, Roses, rose, more, no_roses, one, and_last, and_then, put, puts, push, node_of}
-use Rattle.pc_stands.specs.Scopes.{Context, Placed, slot_at, params_scope}
-use Rattle.pc_stands.specs.Expressions.{expr_of, items_of, added_none}
-use Rattle.pc_stands.specs.Bodies.{initial_of, initials_then, initial_fields, gives_none, none_last, body_with, maybe_body, body_of, added_body}
-use Rattle.pc_stands.specs.Faults.{Fault, value_faults, initial_faults, written_body_faults, body_faults}
-use Rattle.pc_stands.specs.Slots.{Local, value_locals, initial_locals, body_locals, method_locals, placed_from, slots_of, added_slots}
+use Rattle.pc_stands.specs.Scopes.{Context, slot_at, params_scope}
+use Rattle.pc_stands.specs.Expressions.{items_of, added_none}
+use Rattle.pc_stands.specs.Bodies.{initial_of, initials_then, initial_fields, gives_none, none_last, body_with, maybe_body, added_body}
+use Rattle.pc_stands.specs.Faults.{value_faults, initial_faults, written_body_faults}
+use Rattle.pc_stands.specs.Slots.{Local, value_locals, initial_locals, body_locals, method_locals, placed_from}
 use Rattle.pc_stands.specs.Places.{body_places, initial_places, local_start}
 use Rattle.pc_stands.specs.Counts.{one_if, kind_times, times, times_all, local_times, has_slot, has_place}
 use Rattle.pc_stands.specs.Laws.{IsDefinedOnce, LocalsAreDefinedOnce, AddedLocalsAreDefinedOnce, Stands}
@@ -211,9 +210,9 @@ Says z e k d = ((k ≡ node.Define z) × (d ≡ e)) ⊎ (kind_times (has_place z
 says : (z e : ℕ) (k : NodeKind) (d : ℕ) → Says z e k d
 says z e (node.Define n) d = elim (eqb_tells n z) [
   | inl p ↦ elim (eqb_tells d e) [
-      | inl q ↦ inl (ap node.Define p.1, q.1)
-      | inr q ↦ inr (ap one_if (and_false (nat_eq n z) (nat_eq d e) q.0))
-    ]
+    | inl q ↦ inl (ap node.Define p.1, q.1)
+    | inr q ↦ inr (ap one_if (and_false (nat_eq n z) (nat_eq d e) q.0))
+  ]
   | inr p ↦ inr (ap one_if (false_and (nat_eq n z) (nat_eq d e) p.0))
 ]
 says z e (node.Number n) d = inr refl

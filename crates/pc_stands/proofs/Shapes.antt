@@ -7,7 +7,7 @@ use Rattle.pc_tree.specs.declared.names.Name.{Name}
 use Rattle.pc_tree.specs.Tree as t
 use Rattle.pc_stands.specs.Roses.{Rose, Roses, rose, more, no_roses, and_last, two, three}
 use Rattle.pc_stands.specs.Scopes.{Context, Scope, Meaning, local, field, method, nothing, TypeMeaning, primitive, created, no_value, slot_of, resolve, type_meaning, constructor_named, scope_after, deeper}
-use Rattle.pc_stands.specs.Expressions.{value_then, use_other, join, added_this, operation, read_field, call, read_name, consumed, write_name, new_object, create_name, read_type, Start, with_method, with_type, with_value, start_of, apply_name, apply_primitive, apply, call_named, Use, read, write, use_field, if_of, arm_place, sequence, expr_of, assign_of, infix_of, operands_of, chain_of, named_of, exprs_of, arms_of, arm_of, other_of, whole_of, seq_of, items_of, item_of}
+use Rattle.pc_stands.specs.Expressions.{use_other, join, added_this, operation, read_field, call, read_name, consumed, write_name, new_object, create_name, read_type, Start, with_method, with_type, with_value, start_of, apply_name, apply_primitive, apply, call_named, Use, read, write, use_field, if_of, arm_place, sequence, expr_of, assign_of, infix_of, operands_of, chain_of, named_of, exprs_of, arms_of, arm_of, other_of, whole_of, seq_of, items_of, item_of}
 use Rattle.pc_stands.specs.Shapes.{count, Shaped, AllShaped}
 use Rattle.pc_stands.specs.Laws.{IsShaped}
 

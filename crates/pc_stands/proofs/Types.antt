@@ -1,10 +1,10 @@
 -- The types that are written for locals.
-use Rattle.std.proofs.Common.{◌≡◌, ℕ, zero, suc, ◌+◌, ◌<◌, length, List, [], ◌∷◌, Option, Some, None, Bool, true, false, refl, subst, arith, if◌then◌else◌}
+use Rattle.std.proofs.Common.{◌≡◌, ℕ, suc, ◌+◌, ◌<◌, length, List, [], ◌∷◌, Some, Bool, true, false, refl, subst, arith, if◌then◌else◌}
 use Rattle.std.specs.Str.{bytes_eq}
 use Rattle.pc_caps.specs.declared.capability.Cap.{Cap}
 use Rattle.pc_tree.specs.declared.names.TypeRef.{TypeRef}
-use Rattle.pc_stands.specs.Scopes.{Context, Known}
-use Rattle.pc_stands.specs.Faults.{Fault, unknown, is_entity}
+use Rattle.pc_stands.specs.Scopes.{Known}
+use Rattle.pc_stands.specs.Faults.{unknown, is_entity}
 use Rattle.pc_stands.specs.Slots.{cap_or, type_of}
 use Rattle.pc_stands.specs.Laws.{WrittenTypesAreThere}
 use Rattle.pc_stands.proofs.Meanings.{some_fault}
@@ -19,6 +19,7 @@ there at [] ty h = absurd (true_false h)
     IsNo : Bool → Type 0
     IsNo true = ⊥
     IsNo false = Unit {0}
+
     true_false : false ≡ true → ⊥
     true_false g = subst IsNo g tt
 there at (x ∷ xs) ty h = by (bytes_eq x.name ty.name.text) h (λ g. there (suc at) xs ty g)
