@@ -10,4 +10,5 @@ pub mod Places
 pub mod Counts
 pub mod Once
 pub mod Types
+pub mod Methods
 pub mod Examples

@@ -1,5 +1,5 @@
 -- What is true of the definitions.
-use Rattle.std.specs.Prelude.{◌≡◌, ◌⊎◌, ℕ, Bool, ◌+◌, ◌<◌, ◌≤◌, List, [], ◌∷◌, ◌++◌, length, Some, slice_get}
+use Rattle.std.specs.Prelude.{◌≡◌, ◌⊎◌, ℕ, Bool, ◌+◌, ◌<◌, ◌≤◌, List, [], ◌∷◌, ◌++◌, length, Some, None, Ok, slice_get}
 use Rattle.pc_core.specs.declared.nodes.Node.{Node}
 use Rattle.pc_core.specs.Words.{Each, Has, Ascends}
 use Rattle.pc_core.specs.Methods.{PostOrder, Uses}
@@ -15,6 +15,7 @@ use Rattle.pc_stands.specs.Expressions.{expr_of}
 use Rattle.pc_stands.specs.Shapes.{Shaped}
 use Rattle.pc_stands.specs.Visibility.{IsIn, Scoped, slots}
 use Rattle.pc_stands.specs.Bodies.{body_of, added_body}
+use Rattle.pc_stands.specs.Methods.{slot_names, local_names, method_of, added_of}
 use Rattle.pc_stands.specs.Slots.{Local, locals_of, initial_locals, method_locals, slots_of, added_slots, written_of}
 use Rattle.pc_stands.specs.Counts.{times, local_times}
 use Rattle.pc_stands.specs.Places.{body_places, initial_places, fault_start, local_start}
@@ -147,3 +148,14 @@ AddedLocalsAreDefinedOnce =
 -- A type that is written for a local is that of an entity, where it is no fault.
 abbrev pub WrittenTypesAreThere : Type 0
 WrittenTypesAreThere = (c : Context) (ty : TypeRef) → written_faults c (Some ty) ≡ [] → (p : ℕ × Cap) × (written_of c (Some ty) ≡ Some p) × (p.0 < length c.entities)
+
+-- A method that has no fault has at most 64 slots with that of `this`, and its body stands.
+abbrev pub MethodsStand : Type 0
+MethodsStand =
+    (c : Context) (m : ℕ) (fs : List t.Field) (x : t.Method) (n : ℕ) (before after : List Node) → 0 < length c.texts → method_of c m fs x before ≡ Ok (Some n, after)
+    → (1 + length (slot_names fs x) ≤ 64) × BodyStands c m n before after
+
+abbrev pub AddedMethodsStand : Type 0
+AddedMethodsStand =
+    (c : Context) (m : ℕ) (fs : List t.Field) (name : Span) (n : ℕ) (before after : List Node) → 0 < length c.texts → added_of c m fs name before ≡ Ok (Some n, after)
+    → (1 + length (local_names (initial_locals fs)) ≤ 64) × BodyStands c m n before after

@@ -4,6 +4,7 @@ pub mod Expressions
 pub mod Bodies
 pub mod Faults
 pub mod Slots
+pub mod Methods
 pub mod Places
 pub mod Counts
 pub mod Shapes

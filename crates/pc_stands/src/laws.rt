@@ -1,6 +1,6 @@
 //! What is true of the definitions. Each call does nothing, and its contract is the fact.
 ghost use Rattle.pc_stands.specs.Example.{FirstStands, SecondStands, ThirdStands};
-ghost use Rattle.pc_stands.specs.Laws.{AddedBodiesAreScoped, AddedBodiesStand, AddedLocalsAreDefinedOnce, BodiesAreScoped, BodiesStand, FirstIsLeast, IsDefinedAsOften, IsPostOrder, IsScoped, IsShaped, LocalsAreDefined, LocalsAreDefinedOnce, LocalsHaveSlots, NodesHaveChildren, NothingIsMissing, WrittenTypesAreThere};
+ghost use Rattle.pc_stands.specs.Laws.{AddedBodiesAreScoped, AddedBodiesStand, AddedLocalsAreDefinedOnce, AddedMethodsStand, BodiesAreScoped, BodiesStand, FirstIsLeast, IsDefinedAsOften, IsPostOrder, IsScoped, IsShaped, LocalsAreDefined, LocalsAreDefinedOnce, LocalsHaveSlots, MethodsStand, NodesHaveChildren, NothingIsMissing, WrittenTypesAreThere};
 
 /// However a rose looks, its nodes are put behind those that are there, all of its method and in post-order, and its own
 /// node is the last.
@@ -81,4 +81,11 @@ pub fn locals_are_defined_once()
 /// A type that is written for a local, where it is no fault, is that of an entity of the program.
 pub fn written_types_are_there()
     ensures { WrittenTypesAreThere }
+{}
+
+/// A method that has no fault has at most 64 slots, and its body stands behind the nodes of the methods before it. So it is
+/// with a `create` that is added.
+pub fn methods_stand()
+    ensures written { MethodsStand }
+    ensures added { AddedMethodsStand }
 {}
