@@ -1,0 +1,14 @@
+pub mod PostOrders
+pub mod Shapes
+pub mod Scopes
+pub mod Meanings
+pub mod Nodes
+pub mod Bodies
+pub mod BodyScopes
+pub mod Locals
+pub mod Places
+pub mod Counts
+pub mod Once
+pub mod Types
+pub mod Methods
+pub mod Examples

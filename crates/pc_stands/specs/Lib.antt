@@ -1,0 +1,14 @@
+pub mod Roses
+pub mod Scopes
+pub mod Expressions
+pub mod Bodies
+pub mod Faults
+pub mod Slots
+pub mod Methods
+pub mod Places
+pub mod Counts
+pub mod Shapes
+pub mod Visibility
+pub mod Meanings
+pub mod Laws
+pub mod Example
