@@ -1,20 +1,18 @@
 -- Methods without a fault.
-use Rattle.std.proofs.Common.{◌≡◌, ℕ, ◌+◌, ◌<◌, ◌≤◌, length, List, [], ◌∷◌, Option, Some, None, refl, sym, ap, ◌∙◌, subst, arith, inl, inr}
-use Rattle.std.specs.Prelude.{slice_get, Result, Ok, Err}
+use Rattle.std.proofs.Common.{◌≡◌, ℕ, ◌+◌, ◌≤◌, length, List, [], ◌∷◌, Option, Some, None, refl, sym, ap, ◌∙◌, subst, arith, inl, inr}
+use Rattle.std.specs.Prelude.{slice_get, Ok, Err}
 use Rattle.std.proofs.lemmas.Bool.{cases_lt}
 use Rattle.std.proofs.lemmas.Option.{same_Some, none-some}
 use Rattle.pc_caps.specs.declared.span.Span.{Span}
 use Rattle.pc_caps.specs.Gets.{get_within}
 use Rattle.pc_tree.specs.declared.names.Name.{Name}
-use Rattle.pc_tree.specs.Tree as t
 use Rattle.pc_core.specs.declared.nodes.Node.{Node}
 use Rattle.pc_stands.specs.Roses.{Rose, Numbered, put}
-use Rattle.pc_stands.specs.Scopes.{Context}
 use Rattle.pc_stands.specs.Bodies.{body_of, added_body}
 use Rattle.pc_stands.specs.Faults.{Fault, body_faults, initial_faults}
 use Rattle.pc_stands.specs.Slots.{initial_locals}
-use Rattle.pc_stands.specs.Methods.{MethodFault, in_body, slots_full, nodes_full, Outcome, slot_names, local_names, unless_fault, unless_name, unless_full, numbered, put_body, method_of, added_of}
-use Rattle.pc_stands.specs.Laws.{BodyStands, MethodsStand, AddedMethodsStand}
+use Rattle.pc_stands.specs.Methods.{Outcome, slot_names, local_names, unless_fault, unless_name, unless_full, numbered, put_body}
+use Rattle.pc_stands.specs.Laws.{MethodsStand, AddedMethodsStand}
 use Rattle.pc_stands.proofs.Bodies.{bodies_stand, added_bodies_stand}
 
 abbrev IsOk : Outcome → Type 0

@@ -15,8 +15,8 @@ pub fn children_are_shaped()
 {}
 
 /// What stands for an expression names no local but those that are visible, and what stands for a body none but its
-/// parameters and what it defines. A definition stands nowhere but as an item of a
-/// sequence, and what it defines is visible to the later items of that sequence alone.
+/// parameters and what it defines. A definition stands nowhere but as an item of a sequence, and what it defines is visible to
+/// the later items of that sequence alone.
 pub fn locals_are_visible()
     ensures expressions { IsScoped }
     ensures bodies { BodiesAreScoped }
