@@ -771,3 +771,27 @@ fn long_names(rt: HostRuntime) -> Result<(), Fail> {
     assert!(rt; collect(rt.alloc(), &file).err() == Some(NameFault::Double(span(0, 200_000))));
     Ok(())
 }
+
+/// `Main`, and a chain of traits so long, each with the same ten methods.
+fn with_same_methods(alloc: Global, count: u32) -> Result<File, AllocError> {
+    let mut entities = List::new(alloc);
+    entities.push(entity_of(alloc, &MAIN)?)?;
+    for number in 0..count {
+        let mut link = entity_of(alloc, &(EntityKind::Trait, (b"T", 0), &[], &[], &[]))?;
+        link.name = numbered(alloc, b'T', number)?;
+        link.methods = numbered_methods(alloc, 10)?;
+        if number.saturating_add(1) < count {
+            link.provides
+                .push(numbered(alloc, b'T', number.saturating_add(1))?)?;
+        }
+        entities.push(link)?;
+    }
+    Ok(File { entities })
+}
+
+#[test]
+fn methods_along_a_chain(rt: HostRuntime) -> Result<(), Fail> {
+    let file = with_same_methods(rt.alloc(), 200)?;
+    assert!(rt; collect(rt.alloc(), &file).is_ok());
+    Ok(())
+}
