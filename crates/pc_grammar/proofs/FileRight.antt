@@ -1,43 +1,38 @@
 -- What reading a file answers is right.
-use Rattle.std.proofs.Common.{◌≡◌, ℕ, suc, max, true, List, [], ◌∷◌, ◌++◌, length, Ok, Err, refl, sym, ap, ◌∙◌, subst, arith, inl, inr, append_assoc, append-nil}
+use Rattle.std.proofs.Common.{◌≡◌, ℕ, suc, ◌≤◌, max, true, false, List, [], ◌∷◌, ◌++◌, length, Ok, Err, sym, ap, ◌∙◌, subst, arith, inl, inr, append_assoc, append-nil}
 use Rattle.pc_tree.specs.Tree as t
 use Rattle.pc_tree.specs.Measures.{file_depth}
 use Rattle.pc_token.specs.declared.kinds.Token.{Token}
 use Rattle.pc_grammar.specs.SpellsFile.{SpellsFile}
 use Rattle.pc_grammar.specs.Begins.{Begins, SpellsNone, IsOne, IsRead, IsRefused}
-use Rattle.pc_grammar.specs.Reading.{Fault, unexpected, too_deep, Outcome}
+use Rattle.pc_grammar.specs.Laws.{FileDeepRight}
+use Rattle.pc_grammar.specs.Reading.{unexpected, too_deep, Outcome}
 use Rattle.pc_grammar.specs.ReadingFile.{file}
-use Rattle.pc_grammar.proofs.Local.{rest_of, with_rest}
+use Rattle.pc_grammar.proofs.Local.{rest_of}
 use Rattle.pc_grammar.proofs.LocalFile.{local_file}
 use Rattle.pc_grammar.proofs.AgreeFile.{file_agrees}
 use Rattle.pc_grammar.proofs.Explained.{Explained}
 use Rattle.pc_grammar.proofs.ExplainedFiles.{FileIn, explained_file}
 use Rattle.pc_grammar.proofs.CompleteFiles.{file_reads}
+use Rattle.pc_grammar.proofs.Right.{rest_with, ok_apart, fault_apart, deep_by}
 
-rest_with : {A : Type 0} (ts : List Token) (o : Outcome A) → rest_of (with_rest ts o) ≡ ts
-rest_with ts (Ok r) = refl
-rest_with ts (Err e) = refl
+-- a token at which the reading stops goes on with no file within the levels
+not_within : (n : ℕ) (pre : List Token) (x : Token) (more others : List Token) (f : t.File) → rest_of (file n (pre ++ x ∷ more)) ≡ x ∷ more → SpellsFile f (pre ++ x ∷ others) → file_depth f ≤ suc n → ⊥
+not_within n pre x more others f ends spelled fits =
+    let list = pre ++ x ∷ others in
+    let whole : file n list ≡ Ok (f, []) = ap (file n) (sym (append-nil list)) ∙ file_reads n f list [] spelled fits in
+    let here = (local_file n).local pre x more others ends in
+    let left : [] ≡ x ∷ others = ap rest_of (sym whole ∙ here) ∙ rest_with (x ∷ others) (file n (pre ++ x ∷ more)) in
+    omega (arith, ap length left)
 
-ok_apart : {A : Type 0} (b : A) (rest r : List Token) → ◌≡◌ {A = Outcome A} (Ok (b, rest)) (Err (too_deep, r)) → ⊥
-ok_apart b rest r e = cc
-
-fault_apart : {A : Type 0} (rest r : List Token) → ◌≡◌ {A = Outcome A} (Err (unexpected, rest)) (Err (too_deep, r)) → ⊥
-fault_apart rest r e = let f : ◌≡◌ {A = Fault × List Token} (unexpected, rest) (too_deep, r) = cc in let g : unexpected ≡ too_deep = ap (λ p. p.0) f in cc
-
--- with the token at which the reading stops, and no level too many, no file begins
+-- and with none of any depth, where no level was too many
 nothing_begins : (n : ℕ) (pre : List Token) (x : Token) (more : List Token) → rest_of (file n (pre ++ x ∷ more)) ≡ x ∷ more → ((r : List Token) → file n (pre ++ x ∷ more) ≡ Err (too_deep, r) → ⊥) → Begins SpellsFile (pre ++ x ∷ []) → ⊥
 nothing_begins n pre x more ends apart begins =
-    let others = begins.0 in
     let f = begins.1 in
     let m = max n (file_depth f) in
-    let list = (pre ++ x ∷ []) ++ others in
-    let same : pre ++ x ∷ others ≡ list ++ [] = sym (append_assoc pre (x ∷ []) others) ∙ sym (append-nil list) in
-    let whole : file m (pre ++ x ∷ others) ≡ Ok (f, []) = ap (file m) same ∙ file_reads m f list [] begins.2 (omega arith) in
+    let spelled : SpellsFile f (pre ++ x ∷ begins.0) = subst (λ l. SpellsFile f l) (append_assoc pre (x ∷ []) begins.0) begins.2 in
     elim (file_agrees n m (omega arith) (pre ++ x ∷ more)) [
-      | inl e ↦
-          let here = (local_file m).local pre x more others (ap rest_of (sym e) ∙ ends) in
-          let left : [] ≡ x ∷ others = ap rest_of (sym whole ∙ here) ∙ rest_with (x ∷ others) (file m (pre ++ x ∷ more)) in
-          absurd (omega (arith, ap length left))
+      | inl e ↦ not_within m pre x more begins.0 f (ap rest_of (sym e) ∙ ends) spelled (omega arith)
       | inr g ↦ apart g.0 g.1
     ]
 
@@ -77,6 +72,12 @@ file_is_refused n ts x rest e =
           let there : file n (h.0 ++ y ∷ more) ≡ Err (unexpected, x ∷ rest) = ap (file n) (ap (λ l. h.0 ++ l) (sym eq) ∙ sym h.3) ∙ e in
           nothing_begins n h.0 y more (ap rest_of there ∙ eq) (λ r g. fault_apart (x ∷ rest) r (sym there ∙ g)) begins,
     )
+
+-- Where a token opens a level too many, those before begin a file within the levels, and with it only deeper ones begin.
+pub file_is_too_deep : FileDeepRight
+file_is_too_deep n ts rest e =
+    deep_by SpellsFile file_depth (suc n) ts rest (subst (λ o. Explained true (FileIn true n) ts o) e (explained_file true n ts)) (subst (λ o. Explained false (FileIn false n) ts o) e (explained_file false n ts))
+    (λ pre x more others f cuts ends spelled fits. not_within n pre x more others f (ap rest_of (ap (file n) (sym cuts) ∙ e) ∙ ends) spelled fits)
 
 -- A list of tokens spells at most one file.
 pub file_is_one : IsOne SpellsFile

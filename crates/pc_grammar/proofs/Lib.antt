@@ -31,3 +31,4 @@ pub mod CompleteFields
 pub mod CompleteMethods
 pub mod CompleteFiles
 pub mod FileRight
+pub mod FileAnswers

@@ -34,7 +34,7 @@ module _ {A : Type 0} (spells : A → List Token → Type 0) (depth_of : A → �
       let P : List Token → Type 0 = λ ts. spells h.1 ts in
       (m ++ h.0, h.1, subst P (append_assoc l (x ∷ m) h.0 ∙ sym (append_assoc l (x ∷ []) (m ++ h.0))) h.2, h.3)
 
-  abbrev Front : List Token → List Token → List Token → Type 0
+  abbrev pub Front : List Token → List Token → List Token → Type 0
   Front ts pre rest = (ts ≡ pre ++ rest) × Within pre × StopsAt Within pre rest
 
   of_read : (ts : List Token) (b : A) (rest : List Token) (h : IsRead spells depth_of n ts b rest) → Front ts h.0 rest
@@ -45,13 +45,13 @@ module _ {A : Type 0} (spells : A → List Token → Type 0) (depth_of : A → �
   of_refused : (ts rest : List Token) (h : IsRefused spells depth_of n ts rest) → Front ts h.0 rest
   of_refused ts rest h = (h.1, h.2, λ x more e w. h.4 x more e (w.0, w.1, w.2))
 
-  of_deep : (ts rest : List Token) (h : IsTooDeep spells depth_of n ts rest) → Front ts h.0 rest
+  pub of_deep : (ts rest : List Token) (h : IsTooDeep spells depth_of n ts rest) → Front ts h.0 rest
   of_deep ts rest h =
       let P : Token → Type 0 = λ v. Within (h.0 ++ v ∷ []) in
       (h.4, h.5, λ x more e w. let same : x ≡ h.2 = cc (sym e ∙ h.3) in h.7 (subst P same w))
 
   -- two fronts are one, and so is what stands behind them
-  meet : (ts p q r s : List Token) → Front ts p r → Front ts q s → (p ≡ q) × (r ≡ s)
+  pub meet : (ts p q r s : List Token) → Front ts p r → Front ts q s → (p ≡ q) × (r ≡ s)
   meet ts p q r s h k =
       let same = same_front Within shorter p q r s (sym h.0 ∙ k.0) h.1 k.1 h.2 k.2 in
       (same, append_cancel_left p r s (sym h.0 ∙ k.0 ∙ ap (λ l. l ++ s) (sym same)))
@@ -62,7 +62,7 @@ module _ {A : Type 0} (spells : A → List Token → Type 0) (depth_of : A → �
       let P : List Token → Type 0 = λ l. spells b l in
       k.3 b (subst P same.0 h.2)
 
-  stopped_deep : (ts p r s : List Token) → Front ts p r → IsStopped spells p r → IsTooDeep spells depth_of n ts s → ⊥
+  pub stopped_deep : (ts p r s : List Token) → Front ts p r → IsStopped spells p r → IsTooDeep spells depth_of n ts s → ⊥
   stopped_deep ts p r s f stop k =
       let same = meet ts p k.0 r s f (of_deep ts s k) in
       let P : List Token → Type 0 = λ l. Begins spells (l ++ k.2 ∷ []) in

@@ -20,22 +20,35 @@ use Rattle.pc_grammar.proofs.ExplainedParts.{InfixIn}
 use Rattle.pc_grammar.proofs.ExplainedExprs.{explained_expr, explained_infix}
 use Rattle.pc_grammar.proofs.ExplainedSeqs.{explained_inner, explained_seq}
 
-rest_with : {A : Type 0} (ts : List Token) (o : Outcome A) → rest_of (with_rest ts o) ≡ ts
+pub rest_with : {A : Type 0} (ts : List Token) (o : Outcome A) → rest_of (with_rest ts o) ≡ ts
 rest_with ts (Ok r) = refl
 rest_with ts (Err e) = refl
 
-ok_apart : {A : Type 0} (b : A) (rest r : List Token) → ◌≡◌ {A = Outcome A} (Ok (b, rest)) (Err (too_deep, r)) → ⊥
+pub ok_apart : {A : Type 0} (b : A) (rest r : List Token) → ◌≡◌ {A = Outcome A} (Ok (b, rest)) (Err (too_deep, r)) → ⊥
 ok_apart b rest r e = cc
 
-fault_apart : {A : Type 0} (rest r : List Token) → ◌≡◌ {A = Outcome A} (Err (unexpected, rest)) (Err (too_deep, r)) → ⊥
+pub fault_apart : {A : Type 0} (rest r : List Token) → ◌≡◌ {A = Outcome A} (Err (unexpected, rest)) (Err (too_deep, r)) → ⊥
 fault_apart rest r e = let f : ◌≡◌ {A = Fault × List Token} (unexpected, rest) (too_deep, r) = cc in let g : unexpected ≡ too_deep = ap (λ p. p.0) f in cc
 
-module _ {A : Type 0} (spells : A → List Token → Type 0) (depth_of : A → ℕ) (reading : ℕ → Parser A) where
+module _ {A : Type 0} (spells : A → List Token → Type 0) (depth_of : A → ℕ) where
   abbrev pub In : Bool → ℕ → A → List Token → Type 0
   In u n tree ts = spells tree ts × Fits u n (depth_of tree)
 
+  -- a level too many, where no tree within the levels goes on with its token
+  pub deep_by : (n : ℕ) (ts rest : List Token) → Explained true (In true n) ts (Err (too_deep, rest)) → Explained false (In false n) ts (Err (too_deep, rest))
+      → ((pre : List Token) (x : Token) (more others : List Token) (b : A) → ts ≡ pre ++ x ∷ more → rest ≡ x ∷ more → spells b (pre ++ x ∷ others) → depth_of b ≤ n → ⊥) → IsTooDeep spells depth_of n ts rest
+  deep_by n ts [] h g none = absurd h.5
+  deep_by n ts (x ∷ more) h g none =
+      let same : g.0 ≡ h.0 = cut g.0 h.0 (x ∷ more) (sym g.3 ∙ h.3) in
+      let P : List Token → Type 0 = λ l. spells g.2 (l ++ x ∷ g.1) in
+      let spelled : spells g.2 (h.0 ++ x ∷ g.1) = subst P same g.4.0 in
+      let Q : List Token → Type 0 = λ l. spells g.2 l in
+      let begun : spells g.2 ((h.0 ++ x ∷ []) ++ g.1) = subst Q (sym (append_assoc h.0 (x ∷ []) g.1)) spelled in
+      (h.0, more, x, refl, h.3, (h.1, h.2, h.4.0, h.4.1), (g.1, g.2, begun), λ b. let R : List Token → Type 0 = λ l. spells b.1 l in none h.0 x more b.0 b.1 h.3 refl (subst R (append_assoc h.0 (x ∷ []) b.0) b.2) b.3)
+
+module _ {A : Type 0} (spells : A → List Token → Type 0) (depth_of : A → ℕ) (reading : ℕ → Parser A) where
   module _ (whole : (tree : A) (n : ℕ) (ts : List Token) → spells tree ts → depth_of tree ≤ n → reading n (ts ++ the_end ∷ []) ≡ Ok (tree, the_end ∷ []))
-      (ahead : (n : ℕ) → Local (reading n)) (steadies : (n : ℕ) → Steady (reading n)) (agrees : (n m : ℕ) → n ≤ m → Agrees (reading n) (reading m)) (explained : (u : Bool) (n : ℕ) (ts : List Token) → Explained u (In u n) ts (reading n ts)) where
+      (ahead : (n : ℕ) → Local (reading n)) (steadies : (n : ℕ) → Steady (reading n)) (agrees : (n m : ℕ) → n ≤ m → Agrees (reading n) (reading m)) (explained : (u : Bool) (n : ℕ) (ts : List Token) → Explained u (In spells depth_of u n) ts (reading n ts)) where
     not_within : (n : ℕ) (pre : List Token) (x : Token) (more others : List Token) (b : A) → rest_of (reading n (pre ++ x ∷ more)) ≡ x ∷ more → spells b (pre ++ x ∷ others) → depth_of b ≤ n → ⊥
     not_within n pre x more others b ends spelled fits =
         let tail = others ++ the_end ∷ [] in
@@ -56,7 +69,7 @@ module _ {A : Type 0} (spells : A → List Token → Type 0) (depth_of : A → �
 
     pub reads_right : ReadsRight spells depth_of reading
     reads_right n ts rest tree e =
-        let h = subst (λ o. Explained true (In true n) ts o) e (explained true n ts) in
+        let h = subst (λ o. Explained true (In spells depth_of true n) ts o) e (explained true n ts) in
         (h.0, h.1, h.2.0, h.2.1, λ x more eq begins. nothing_begins n h.0 x more _ (ap (reading n) (ap (λ l. h.0 ++ l) (sym eq) ∙ sym h.1) ∙ e) (ok_apart tree rest) eq begins)
 
     -- what is refused at a token would be refused at the end as well
@@ -78,23 +91,14 @@ module _ {A : Type 0} (spells : A → List Token → Type 0) (depth_of : A → �
 
     pub refuses_right : RefusesRight spells depth_of reading
     refuses_right n ts x rest e =
-        let h = subst (λ o. Explained true (In true n) ts o) e (explained true n ts) in
+        let h = subst (λ o. Explained true (In spells depth_of true n) ts o) e (explained true n ts) in
         let read : reading n (h.0 ++ x ∷ rest) ≡ Err (unexpected, x ∷ rest) = ap (reading n) (sym h.3) ∙ e in
         (h.0, h.3, (h.1, h.2, h.4.0, h.4.1), is_none n h.0 x rest read, λ y more eq begins. nothing_begins n h.0 y more _ (ap (reading n) (ap (λ l. h.0 ++ l) (sym eq) ∙ sym h.3) ∙ e) (fault_apart (x ∷ rest)) eq begins)
 
-    deep_by : (n : ℕ) (ts rest : List Token) → reading n ts ≡ Err (too_deep, rest) → Explained true (In true n) ts (Err (too_deep, rest)) → Explained false (In false n) ts (Err (too_deep, rest)) → IsTooDeep spells depth_of n ts rest
-    deep_by n ts [] e h g = absurd h.5
-    deep_by n ts (x ∷ more) e h g =
-        let same : g.0 ≡ h.0 = cut g.0 h.0 (x ∷ more) (sym g.3 ∙ h.3) in
-        let P : List Token → Type 0 = λ l. spells g.2 (l ++ x ∷ g.1) in
-        let spelled : spells g.2 (h.0 ++ x ∷ g.1) = subst P same g.4.0 in
-        let Q : List Token → Type 0 = λ l. spells g.2 l in
-        let begun : spells g.2 ((h.0 ++ x ∷ []) ++ g.1) = subst Q (sym (append_assoc h.0 (x ∷ []) g.1)) spelled in
-        let ends : rest_of (reading n (h.0 ++ x ∷ more)) ≡ x ∷ more = ap rest_of (ap (reading n) (sym h.3) ∙ e) in
-        (h.0, more, x, refl, h.3, (h.1, h.2, h.4.0, h.4.1), (g.1, g.2, begun), λ b. let R : List Token → Type 0 = λ l. spells b.1 l in not_within n h.0 x more b.0 b.1 ends (subst R (append_assoc h.0 (x ∷ []) b.0) b.2) b.3)
-
     pub deep_right : DeepRight spells depth_of reading
-    deep_right n ts rest e = deep_by n ts rest e (subst (λ o. Explained true (In true n) ts o) e (explained true n ts)) (subst (λ o. Explained false (In false n) ts o) e (explained false n ts))
+    deep_right n ts rest e =
+        deep_by spells depth_of n ts rest (subst (λ o. Explained true (In spells depth_of true n) ts o) e (explained true n ts)) (subst (λ o. Explained false (In spells depth_of false n) ts o) e (explained false n ts))
+        (λ pre x more others b cuts ends spelled fits. not_within n pre x more others b (ap rest_of (ap (reading n) (sym cuts) ∙ e) ∙ ends) spelled fits)
 
     pub is_one : IsOne spells
     is_one ts b c one two =
@@ -141,14 +145,14 @@ exprs_agree n m le = expr_agrees n m le (inner n) (inner m) (inner_agrees n m le
 infixes_agree : (n m : ℕ) → n ≤ m → Agrees (infix_ n) (infix_ m)
 infixes_agree n m le = infix_agrees n m le (inner n) (inner m) (inner_agrees n m le)
 
-seqs_explained : (u : Bool) (n : ℕ) (ts : List Token) → Explained u (In SpellsSeq seq_depth seq u n) ts (seq n ts)
+seqs_explained : (u : Bool) (n : ℕ) (ts : List Token) → Explained u (In SpellsSeq seq_depth u n) ts (seq n ts)
 seqs_explained u n ts = explained_seq u n (inner n) (explained_inner u n) ts
 
-exprs_explained : (u : Bool) (n : ℕ) (ts : List Token) → Explained u (In Spells depth expr u n) ts (expr n ts)
+exprs_explained : (u : Bool) (n : ℕ) (ts : List Token) → Explained u (In Spells depth u n) ts (expr n ts)
 exprs_explained u n ts = explained_expr u n (inner n) (explained_inner u n) ts
 
-infixes_explained : (u : Bool) (n : ℕ) (ts : List Token) → Explained u (In SpellsInfix depth infix_ u n) ts (infix_ n ts)
-infixes_explained u n ts = explained_weaker u (InfixIn u n) (In SpellsInfix depth infix_ u n) ts (infix_ n ts) (λ e a h. ((h.0, h.1), h.2)) (explained_infix u n (inner n) (explained_inner u n) ts)
+infixes_explained : (u : Bool) (n : ℕ) (ts : List Token) → Explained u (In SpellsInfix depth u n) ts (infix_ n ts)
+infixes_explained u n ts = explained_weaker u (InfixIn u n) (In SpellsInfix depth u n) ts (infix_ n ts) (λ e a h. ((h.0, h.1), h.2)) (explained_infix u n (inner n) (explained_inner u n) ts)
 
 pub seq_reads : SeqReadsRight
 seq_reads = reads_right SpellsSeq seq_depth seq seq_whole seq_ahead seq_steady seqs_agree seqs_explained

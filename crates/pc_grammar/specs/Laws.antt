@@ -1,5 +1,5 @@
 -- What the reading says of the tokens, and that nothing is spelled in two ways.
-use Rattle.std.specs.Prelude.{◌≡◌, ℕ, suc, List, ◌∷◌, Ok, Err}
+use Rattle.std.specs.Prelude.{◌≡◌, ℕ, suc, List, [], ◌∷◌, Ok, Err}
 use Rattle.pc_tree.specs.Measures.{depth, seq_depth, file_depth}
 use Rattle.pc_tree.specs.Tree as t
 use Rattle.pc_token.specs.declared.kinds.Token.{Token}
@@ -7,7 +7,9 @@ use Rattle.pc_grammar.specs.Spells.{Spells, SpellsInfix, SpellsSeq}
 use Rattle.pc_grammar.specs.SpellsFile.{SpellsFile}
 use Rattle.pc_grammar.specs.ReadingFile.{file}
 use Rattle.pc_grammar.specs.Begins.{IsOne, IsOneAnswer, IsRead, IsRefused, IsTooDeep}
-use Rattle.pc_grammar.specs.Reading.{Parser, unexpected, too_deep, seq, expr, infix_}
+use Rattle.pc_grammar.specs.FileAnswers as answer
+use Rattle.pc_grammar.specs.FileAnswers.{IsFileAnswer}
+use Rattle.pc_grammar.specs.Reading.{Outcome, Parser, unexpected, too_deep, seq, expr, infix_}
 
 module _ {A : Type 0} (spells : A → List Token → Type 0) (depth_of : A → ℕ) (reading : ℕ → Parser A) where
   -- What is read is spelled, within the levels, and goes no further.
@@ -71,5 +73,20 @@ FileReadsRight = (n : ℕ) (ts rest : List Token) (f : t.File) → file n ts ≡
 abbrev pub FileRefusesRight : Type 0
 FileRefusesRight = (n : ℕ) (ts : List Token) (x : Token) (rest : List Token) → file n ts ≡ Err (unexpected, x ∷ rest) → IsRefused SpellsFile file_depth (suc n) ts (x ∷ rest)
 
+abbrev pub FileDeepRight : Type 0
+FileDeepRight = (n : ℕ) (ts rest : List Token) → file n ts ≡ Err (too_deep, rest) → IsTooDeep SpellsFile file_depth (suc n) ts rest
+
 abbrev pub FileIsOne : Type 0
 FileIsOne = IsOne SpellsFile
+
+-- What reading says of the whole list. Where the list ends before its file does, no token is at fault, and nothing is said.
+abbrev pub AnswersFor : List Token → Outcome t.File → Type 0
+AnswersFor ts (Ok (f, [])) = IsFileAnswer ts (answer.spelled f)
+AnswersFor ts (Ok (f, x ∷ rest)) = IsFileAnswer ts (answer.unexpected (x ∷ rest))
+AnswersFor ts (Err (unexpected, [])) = Unit {0}
+AnswersFor ts (Err (unexpected, x ∷ rest)) = IsFileAnswer ts (answer.unexpected (x ∷ rest))
+AnswersFor ts (Err (too_deep, rest)) = IsFileAnswer ts (answer.too_deep rest)
+
+-- A body and a value stand at level 1 of 200, so 199 are left inside.
+abbrev pub FileIsAnswered : Type 0
+FileIsAnswered = (ts : List Token) → AnswersFor ts (file 199 ts)

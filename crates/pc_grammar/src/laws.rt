@@ -1,4 +1,5 @@
-ghost use Rattle.pc_grammar.specs.Laws.{SeqIsOne, SeqOneAnswer, SeqReadsRight, SeqRefusesRight, SeqDeepRight, ExprIsOne, ExprOneAnswer, ExprReadsRight, ExprRefusesRight, ExprDeepRight, InfixOneAnswer, InfixReadsRight, InfixRefusesRight, InfixDeepRight, FileReadsRight, FileRefusesRight, FileIsOne};
+ghost use Rattle.pc_grammar.specs.FileAnswers.{OneFileAnswer};
+ghost use Rattle.pc_grammar.specs.Laws.{SeqIsOne, SeqOneAnswer, SeqReadsRight, SeqRefusesRight, SeqDeepRight, ExprIsOne, ExprOneAnswer, ExprReadsRight, ExprRefusesRight, ExprDeepRight, InfixOneAnswer, InfixReadsRight, InfixRefusesRight, InfixDeepRight, FileReadsRight, FileRefusesRight, FileDeepRight, FileIsOne, FileIsAnswered};
 
 /// Reading a sequence with one token ahead is right. What is read is spelled by the tokens that are gone, within the levels,
 /// and the next token does not go on with it. Where a token is unexpected, those before it begin a sequence within the
@@ -30,11 +31,16 @@ pub fn infixes_are_read()
     ensures answer { InfixOneAnswer }
 {}
 
-/// Reading a file with one token ahead is right, where no level is too many: what is read is spelled, within the levels, and
-/// goes no further; where a token is unexpected, those before it begin a file within the levels and are none, and with it
-/// none begins. And a list of tokens spells at most one file.
+/// The same of a file. With n levels in a body or a value a file has n + 1, since these stand at level 1.
+///
+/// Of a whole list of tokens, within 200 levels, reading says what holds: the file that it spells, or the tokens from the
+/// first on with which no file begins, or which opens a level too many. A token behind a file's `End` is one of the former.
+/// At most one of these holds of any list. Of a list that ends before its file does, reading says none of them.
 pub fn files_are_read()
     ensures reads { FileReadsRight }
     ensures refuses { FileRefusesRight }
+    ensures deep { FileDeepRight }
     ensures one { FileIsOne }
+    ensures answered { FileIsAnswered }
+    ensures answer { OneFileAnswer }
 {}
