@@ -15,11 +15,11 @@ use Rattle.pc_expr.specs.declared.stop.Stop.{Stop}
 use Rattle.pc_expr.specs.declared.stop.Stop.TheVariants as stop
 
 -- the same is read where the same is read in front and, whatever that is, behind it
-same_behind : {A B : Type 0} (o : Outcome A) (f g : A → Parser B) → ((x : A) (rest : List Token) → f x rest ≡ g x rest) → and_then o f ≡ and_then o g
+pub same_behind : {A B : Type 0} (o : Outcome A) (f g : A → Parser B) → ((x : A) (rest : List Token) → f x rest ≡ g x rest) → and_then o f ≡ and_then o g
 same_behind (Ok r) f g same = same r.0 r.1
 same_behind (Err e) f g same = refl
 
-grouped : {A B C : Type 0} (o : Outcome A) (f : A → Parser B) (g : B → Parser C) → and_then o (λ x rest. and_then (f x rest) g) ≡ and_then (and_then o f) g
+pub grouped : {A B C : Type 0} (o : Outcome A) (f : A → Parser B) (g : B → Parser C) → and_then o (λ x rest. and_then (f x rest) g) ≡ and_then (and_then o f) g
 grouped (Ok r) f g = refl
 grouped (Err e) f g = refl
 
@@ -33,7 +33,7 @@ made_after xs f (Ok r) = refl
 made_after xs f (Err e) = refl
 
 -- first what is read onto a list, then what is made of it
-onto_first : {A B : Type 0} (next : List Token → Option (List Token)) (p : Parser A) (xs : List A) (f : List A → Parser B) (ts : List Token)
+pub onto_first : {A B : Type 0} (next : List Token → Option (List Token)) (p : Parser A) (xs : List A) (f : List A → Parser B) (ts : List Token)
     → and_then (all next p ts) (λ more. f (xs ++ more)) ≡ and_then (onto next p xs ts) f
 unfolding onto
 onto_first next p xs f ts = made_after xs f (all next p ts)

@@ -5,6 +5,7 @@
 mod asking;
 mod fault;
 mod names;
+pub mod parsers;
 mod parsing;
 mod rules;
 mod spans;

@@ -63,9 +63,9 @@ pub fn maybe_cap(tokens: &[Token], at: usize) -> (Option<Cap>, usize)
     }
 }
 
-/// A type, as a local has it: without a `^`.
+/// A type, as locals, fields and parameters have it: without a `^`.
 #[tactic(auto, unfolding(pc_grammar::specs::Reading::written_type))]
-fn written_type(alloc: Global, tokens: &[Token], at: usize) -> Result<(TypeRef, usize), Stop>
+pub fn written_type(alloc: Global, tokens: &[Token], at: usize) -> Result<(TypeRef, usize), Stop>
     requires { At tokens.now at }
     ensures gives { Gives (λ m. m) tokens.now result (reading.written_type (drop at tokens.now)) }
     ensures moves { IfOk result (λ r. Moves tokens.now at r.1) }

@@ -25,7 +25,7 @@ fn begin(tokens: &[Token], at: usize) -> u32
 }
 
 /// The fault of a stop, by the offset of its token.
-fn fault(tokens: &[Token], stop: Stop) -> ParseFault
+pub fn fault(tokens: &[Token], stop: Stop) -> ParseFault
     requires { Stands tokens.now stop }
     ensures { Names tokens.now stop result }
 {

@@ -20,7 +20,7 @@ use pc_token::{Sign, Token, TokenKind, Word, is_sign, is_word};
 use pc_tree::{Arm, Expr, Item, Op, Seq, Suffix};
 use std::alloc::Global;
 
-/// Item {Next Item}
+/// Item {Next Item}, where so many levels may still be opened.
 #[cycle(rules)]
 #[tactic(auto, using(pc_tree::proofs::Views::view_seq, crate::proofs::Parts::seq_by_parts), unfolding(crate::specs::Onto::seq_parts, pc_grammar::specs::Reading::seq_of))]
 pub fn seq(alloc: Global, tokens: &[Token], at: usize, left: u16) -> Result<(Seq, usize), Stop>
@@ -151,7 +151,7 @@ fn becomes(
     Ok((Expr::Assign { left, right, span }, to))
 }
 
-/// Term {Op Term}
+/// Term {Op Term}, where so many levels may still be opened.
 #[cycle(rules)]
 #[tactic(auto, using(crate::proofs::Parts::infix_by_parts), unfolding(crate::specs::Onto::infix_parts, pc_grammar::specs::Reading::peek))]
 pub fn infix(alloc: Global, tokens: &[Token], at: usize, left: u16) -> Result<(Expr, usize), Stop>

@@ -6,8 +6,11 @@ use std::alloc::{AllocError, AllocFailed};
 /// Why a rule gives nothing, with the place of a token among the tokens.
 #[derive(Clone, Copy, Debug, PartialEq, Eq)]
 pub enum Stop {
+    /// With the token at this place nothing begins any more.
     Unexpected(usize),
+    /// The token at this place opens a level too many.
     TooDeep(usize),
+    /// There was no more memory.
     Memory,
 }
 

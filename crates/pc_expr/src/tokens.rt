@@ -13,6 +13,7 @@ use pc_grammar::{begins_item, op_of};
 use pc_token::{Sign, Token, Word, is_sign, is_word};
 use pc_tree::Op;
 
+/// The token at a place.
 pub fn look(tokens: &[Token], at: usize) -> &Token
     requires { At tokens.now at }
     ensures here { drop at tokens.now ≡ result.now ∷ drop (at + 1) tokens.now }
