@@ -6,6 +6,7 @@ use crate::rows::{Row, of_expr, of_seq};
 use pc_caps::List;
 use pc_expr::{ParseFault, expr, infix, seq};
 use pc_lex::{LexFault, Token, lex};
+use pc_order::tokens_are_in_order;
 use std::alloc::{AllocError, Global};
 
 /// What is read: how far, in tokens, and the tree's rows.
@@ -24,13 +25,13 @@ pub enum Part {
 }
 
 /// The tokens of a text.
-#[tactic(auto, using(crate::proofs::Ends::ok_ends))]
 pub fn tokens_of(alloc: Global, text: &[u8]) -> Result<List<Token>, LexFault>
     ensures { IfOk result EndsWithEnd }
 {
     if text.len() > 1_048_576 {
         return Err(LexFault::Memory);
     }
+    tokens_are_in_order();
     lex(alloc, text)
 }
 

@@ -1,0 +1,5 @@
+pub mod Tokens
+pub mod Among
+pub mod Files
+pub mod Bodies
+pub mod Declarations
