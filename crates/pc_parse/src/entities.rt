@@ -1,0 +1,119 @@
+//! Entities.
+ghost use Rattle.std.specs.Prelude.{◌≡◌, ◌≤◌, drop, map, IfOk, Ok};
+ghost use Rattle.pc_tree.specs.View.{entity_view};
+ghost use Rattle.pc_grammar.specs.ReadingFile as rules;
+ghost use Rattle.pc_expr.specs.Gives.{At, Moves, Gives};
+ghost use Rattle.pc_parse.specs.Parts as parts;
+
+use crate::fields::fields;
+use crate::methods::methods;
+use crate::provides::provides;
+use crate::tokens::{after_doc, at_entity, entity_word};
+use pc_caps::{Cap, List};
+use pc_expr::parsers::{Stop, look, maybe_cap, take_word, type_name};
+use pc_token::{Token, Word, is_word};
+use pc_tree::{Entity, EntityKind};
+use std::alloc::Global;
+
+/// [Cap], where such an entity may have one.
+fn entity_cap(tokens: &[Token], at: usize, kind: EntityKind) -> (Option<Cap>, usize)
+    requires { At tokens.now at }
+    ensures gives { rules.entity_cap kind (drop at tokens.now) ≡ Ok (result.0, drop result.1 tokens.now) }
+    ensures moves { (at ≤ result.1) × At tokens.now result.1 }
+{
+    match kind {
+        EntityKind::Class | EntityKind::Trait => maybe_cap(tokens, at),
+        EntityKind::Actor | EntityKind::Primitive => (None, at),
+    }
+}
+
+/// An entity of the kind that is given.
+#[tactic(auto, unfolding(pc_grammar::specs::ReadingFile::entity_of))]
+fn entity_of(
+    alloc: Global,
+    tokens: &[Token],
+    at: usize,
+    kind: EntityKind,
+) -> Result<(Entity, usize), Stop>
+    requires { At tokens.now at }
+    ensures gives { Gives entity_view tokens.now result (rules.entity_of 199 kind (drop at tokens.now)) }
+    ensures moves { IfOk result (λ r. Moves tokens.now at r.1) }
+{
+    let (_, begin) = take_word(tokens, at, entity_word(kind))?;
+    let (cap, begin) = entity_cap(tokens, begin, kind);
+    let (name, to) = type_name(alloc, tokens, begin)?;
+    let (provides, to) = provides(alloc, tokens, to)?;
+    let to = after_doc(tokens, to);
+    let (fields, to) = fields(alloc, tokens, to, kind)?;
+    let (methods, to) = methods(alloc, tokens, to, kind)?;
+    Ok((
+        Entity {
+            kind,
+            cap,
+            name,
+            provides,
+            fields,
+            methods,
+        },
+        to,
+    ))
+}
+
+/// ("class" [Cap] | "trait" [Cap] | "actor" | "primitive") TypeName, and what stands behind it.
+#[tactic(auto, unfolding(pc_grammar::specs::ReadingFile::entity, pc_grammar::specs::Reading::peek))]
+fn entity(alloc: Global, tokens: &[Token], at: usize) -> Result<(Entity, usize), Stop>
+    requires { At tokens.now at }
+    ensures gives { Gives entity_view tokens.now result (rules.entity 199 (drop at tokens.now)) }
+    ensures moves { IfOk result (λ r. Moves tokens.now at r.1) }
+{
+    let token = look(tokens, at);
+    if is_word(token, Word::ClassWord) {
+        entity_of(alloc, tokens, at, EntityKind::Class)
+    } else if is_word(token, Word::ActorWord) {
+        entity_of(alloc, tokens, at, EntityKind::Actor)
+    } else if is_word(token, Word::PrimitiveWord) {
+        entity_of(alloc, tokens, at, EntityKind::Primitive)
+    } else if is_word(token, Word::TraitWord) {
+        entity_of(alloc, tokens, at, EntityKind::Trait)
+    } else {
+        Err(Stop::Unexpected(at))
+    }
+}
+
+/// {Entity}, behind some entities.
+fn more_entities(
+    alloc: Global,
+    tokens: &[Token],
+    at: usize,
+    so_far: List<Entity>,
+) -> Result<(List<Entity>, usize), Stop>
+    requires { At tokens.now at }
+    ensures gives { Gives (map entity_view) tokens.now result (parts.more_entities (map entity_view so_far) (drop at tokens.now)) }
+    ensures moves { IfOk result (λ r. (at ≤ r.1) × At tokens.now r.1) }
+{
+    let mut entities = so_far;
+    let mut to = at;
+    'more: while let Some(next) = at_entity(tokens, to) {
+        let (one, after) = entity(alloc, tokens, next)?;
+        entities.push(one)?;
+        to = after;
+    }
+    Ok((entities, to))
+}
+
+/// Entity {Entity}
+#[tactic(auto, unfolding(crate::specs::Parts::some_entities))]
+pub fn some_entities(
+    alloc: Global,
+    tokens: &[Token],
+    at: usize,
+) -> Result<(List<Entity>, usize), Stop>
+    requires { At tokens.now at }
+    ensures gives { Gives (map entity_view) tokens.now result (parts.some_entities (drop at tokens.now)) }
+    ensures moves { IfOk result (λ r. Moves tokens.now at r.1) }
+{
+    let (first, to) = entity(alloc, tokens, at)?;
+    let mut entities = List::new(alloc);
+    entities.push(first)?;
+    more_entities(alloc, tokens, to, entities)
+}

@@ -1,0 +1,97 @@
+//! Fields.
+ghost use Rattle.std.specs.Prelude.{◌≡◌, ◌≤◌, drop, map, IfOk};
+ghost use Rattle.pc_tree.specs.View.{maybe_expr, field_view};
+ghost use Rattle.pc_grammar.specs.ReadingFile as rules;
+ghost use Rattle.pc_expr.specs.Gives.{At, Moves, Gives};
+ghost use Rattle.pc_parse.specs.Parts as parts;
+
+use crate::levels::LEVELS;
+use crate::tokens::{after_doc, at_field};
+use pc_caps::List;
+use pc_expr::parsers::{Stop, infix, local_word, look, name, take_sign, take_word, written_type};
+use pc_token::{Sign, Token, Word, is_sign, is_word};
+use pc_tree::{EntityKind, Expr, FieldDef};
+use std::alloc::Global;
+
+/// ["=" Infix]
+#[tactic(auto, unfolding(pc_grammar::specs::ReadingFile::value, pc_grammar::specs::Reading::peek))]
+fn value(alloc: Global, tokens: &[Token], at: usize) -> Result<(Option<Expr>, usize), Stop>
+    requires { At tokens.now at }
+    ensures gives { Gives maybe_expr tokens.now result (rules.value 199 (drop at tokens.now)) }
+    ensures moves { IfOk result (λ r. (at ≤ r.1) × At tokens.now r.1) }
+{
+    if !is_sign(look(tokens, at), Sign::Assign) {
+        return Ok((None, at));
+    }
+    let (_, begin) = take_sign(tokens, at, Sign::Assign)?;
+    let (e, to) = infix(alloc, tokens, begin, LEVELS)?;
+    Ok((Some(e), to))
+}
+
+/// ("var" | "let") Name ":" Type ["=" Infix] [doc], with the word that is given.
+#[tactic(auto, unfolding(pc_grammar::specs::ReadingFile::field))]
+fn field(alloc: Global, tokens: &[Token], at: usize, fixed: bool) -> Result<(FieldDef, usize), Stop>
+    requires { At tokens.now at }
+    ensures gives { Gives field_view tokens.now result (rules.field 199 fixed (drop at tokens.now)) }
+    ensures moves { IfOk result (λ r. Moves tokens.now at r.1) }
+{
+    let (_, begin) = take_word(tokens, at, local_word(fixed))?;
+    let (name, to) = name(alloc, tokens, begin)?;
+    let (_, begin) = take_sign(tokens, to, Sign::Colon)?;
+    let (ty, to) = written_type(alloc, tokens, begin)?;
+    let (value, to) = value(alloc, tokens, to)?;
+    let to = after_doc(tokens, to);
+    Ok((
+        FieldDef {
+            fixed,
+            name,
+            ty,
+            value,
+        },
+        to,
+    ))
+}
+
+/// ("var" | "let") Name ":" Type ["=" Infix] [doc]
+#[tactic(auto, unfolding(pc_grammar::specs::ReadingFile::some_field, pc_grammar::specs::Reading::peek))]
+fn some_field(alloc: Global, tokens: &[Token], at: usize) -> Result<(FieldDef, usize), Stop>
+    requires { At tokens.now at }
+    ensures gives { Gives field_view tokens.now result (rules.some_field 199 (drop at tokens.now)) }
+    ensures moves { IfOk result (λ r. Moves tokens.now at r.1) }
+{
+    let fixed = is_word(look(tokens, at), Word::LetWord);
+    field(alloc, tokens, at, fixed)
+}
+
+/// {Field}
+fn all_fields(alloc: Global, tokens: &[Token], at: usize) -> Result<(List<FieldDef>, usize), Stop>
+    requires { At tokens.now at }
+    ensures gives { Gives (map field_view) tokens.now result (parts.all_fields (drop at tokens.now)) }
+    ensures moves { IfOk result (λ r. (at ≤ r.1) × At tokens.now r.1) }
+{
+    let mut fields = List::new(alloc);
+    let mut to = at;
+    'more: while let Some(next) = at_field(tokens, to) {
+        let (one, after) = some_field(alloc, tokens, next)?;
+        fields.push(one)?;
+        to = after;
+    }
+    Ok((fields, to))
+}
+
+/// {Field}, where fields may stand.
+pub fn fields(
+    alloc: Global,
+    tokens: &[Token],
+    at: usize,
+    kind: EntityKind,
+) -> Result<(List<FieldDef>, usize), Stop>
+    requires { At tokens.now at }
+    ensures gives { Gives (map field_view) tokens.now result (rules.fields 199 kind (drop at tokens.now)) }
+    ensures moves { IfOk result (λ r. (at ≤ r.1) × At tokens.now r.1) }
+{
+    match kind {
+        EntityKind::Class | EntityKind::Actor => all_fields(alloc, tokens, at),
+        EntityKind::Primitive | EntityKind::Trait => Ok((List::new(alloc), at)),
+    }
+}

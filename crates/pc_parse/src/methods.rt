@@ -1,0 +1,142 @@
+//! Methods.
+ghost use Rattle.std.specs.Prelude.{◌≡◌, ◌≤◌, drop, map, IfOk, Ok};
+ghost use Rattle.pc_tree.specs.View.{maybe_seq, method_view};
+ghost use Rattle.pc_grammar.specs.ReadingFile as rules;
+ghost use Rattle.pc_expr.specs.Gives.{At, Moves, Gives};
+ghost use Rattle.pc_parse.specs.Parts as parts;
+
+use crate::levels::LEVELS;
+use crate::parameters::params;
+use crate::tokens::{after_doc, at_method, begins, method_word};
+use crate::types::method_result;
+use pc_caps::{Cap, List};
+use pc_expr::parsers::{Stop, look, maybe_cap, name, seq, take_sign, take_word};
+use pc_token::{Sign, Token};
+use pc_tree::{EntityKind, MethodDef, MethodWord, Seq};
+use std::alloc::Global;
+
+/// [Cap], where such a method of such an entity may have one.
+fn method_cap(
+    tokens: &[Token],
+    at: usize,
+    kind: EntityKind,
+    word: MethodWord,
+) -> (Option<Cap>, usize)
+    requires { At tokens.now at }
+    ensures gives { rules.method_cap kind word (drop at tokens.now) ≡ Ok (result.0, drop result.1 tokens.now) }
+    ensures moves { (at ≤ result.1) × At tokens.now result.1 }
+{
+    match (word, kind) {
+        (MethodWord::Fun, _) | (MethodWord::New, EntityKind::Class) => maybe_cap(tokens, at),
+        _ => (None, at),
+    }
+}
+
+/// "=>" [doc] Seq
+#[tactic(auto, unfolding(crate::specs::Parts::whole_body))]
+fn whole_body(alloc: Global, tokens: &[Token], at: usize) -> Result<(Option<Seq>, usize), Stop>
+    requires { At tokens.now at }
+    ensures gives { Gives maybe_seq tokens.now result (parts.whole_body (drop at tokens.now)) }
+    ensures moves { IfOk result (λ r. (at ≤ r.1) × At tokens.now r.1) }
+{
+    let (_, begin) = take_sign(tokens, at, Sign::Arrow)?;
+    let begin = after_doc(tokens, begin);
+    let (body, to) = seq(alloc, tokens, begin, LEVELS)?;
+    Ok((Some(body), to))
+}
+
+/// "=>" [doc] Seq, or nothing in a trait.
+#[tactic(auto, unfolding(crate::specs::Parts::whole_body))]
+fn body(
+    alloc: Global,
+    tokens: &[Token],
+    at: usize,
+    kind: EntityKind,
+) -> Result<(Option<Seq>, usize), Stop>
+    requires { At tokens.now at }
+    ensures gives { Gives maybe_seq tokens.now result (rules.body 199 kind (drop at tokens.now)) }
+    ensures moves { IfOk result (λ r. (at ≤ r.1) × At tokens.now r.1) }
+{
+    match kind {
+        EntityKind::Trait => Ok((None, at)),
+        EntityKind::Class | EntityKind::Actor | EntityKind::Primitive => {
+            whole_body(alloc, tokens, at)
+        }
+    }
+}
+
+/// "fun" [Cap] Name Params [":" Result] [doc] [Body], or one of the other two.
+#[tactic(auto, unfolding(pc_grammar::specs::ReadingFile::method_of))]
+fn method_of(
+    alloc: Global,
+    tokens: &[Token],
+    at: usize,
+    kind: EntityKind,
+    word: MethodWord,
+) -> Result<(MethodDef, usize), Stop>
+    requires { At tokens.now at }
+    ensures gives { Gives method_view tokens.now result (rules.method_of 199 kind word (drop at tokens.now)) }
+    ensures moves { IfOk result (λ r. Moves tokens.now at r.1) }
+{
+    let (_, begin) = take_word(tokens, at, method_word(word))?;
+    let (cap, begin) = method_cap(tokens, begin, kind, word);
+    let (name, to) = name(alloc, tokens, begin)?;
+    let (params, to) = params(alloc, tokens, to)?;
+    let (result, to) = method_result(alloc, tokens, to, word)?;
+    let to = after_doc(tokens, to);
+    let (body, to) = body(alloc, tokens, to, kind)?;
+    Ok((
+        MethodDef {
+            word,
+            cap,
+            name,
+            params,
+            result,
+            body,
+        },
+        to,
+    ))
+}
+
+/// A method of such an entity, by its word.
+#[tactic(auto, unfolding(pc_grammar::specs::ReadingFile::some_method, pc_grammar::specs::Reading::peek))]
+fn some_method(
+    alloc: Global,
+    tokens: &[Token],
+    at: usize,
+    kind: EntityKind,
+) -> Result<(MethodDef, usize), Stop>
+    requires { At tokens.now at }
+    ensures gives { Gives method_view tokens.now result (rules.some_method 199 kind (drop at tokens.now)) }
+    ensures moves { IfOk result (λ r. Moves tokens.now at r.1) }
+{
+    let token = look(tokens, at);
+    if begins(kind, MethodWord::Fun, token) {
+        method_of(alloc, tokens, at, kind, MethodWord::Fun)
+    } else if begins(kind, MethodWord::Be, token) {
+        method_of(alloc, tokens, at, kind, MethodWord::Be)
+    } else {
+        method_of(alloc, tokens, at, kind, MethodWord::New)
+    }
+}
+
+/// {Method}
+pub fn methods(
+    alloc: Global,
+    tokens: &[Token],
+    at: usize,
+    kind: EntityKind,
+) -> Result<(List<MethodDef>, usize), Stop>
+    requires { At tokens.now at }
+    ensures gives { Gives (map method_view) tokens.now result (parts.all_methods kind (drop at tokens.now)) }
+    ensures moves { IfOk result (λ r. (at ≤ r.1) × At tokens.now r.1) }
+{
+    let mut methods = List::new(alloc);
+    let mut to = at;
+    'more: while let Some(next) = at_method(tokens, to, kind) {
+        let (one, after) = some_method(alloc, tokens, next, kind)?;
+        methods.push(one)?;
+        to = after;
+    }
+    Ok((methods, to))
+}

@@ -1,0 +1,63 @@
+//! Whole files.
+ghost use Rattle.std.specs.Prelude.{◌<◌, ◌≤◌, ◌+◌, length, IfOk, IfErr};
+ghost use Rattle.pc_tree.specs.View.{file_view};
+ghost use Rattle.pc_grammar.specs.ReadingFile as rules;
+ghost use Rattle.pc_grammar.specs.FileAnswers.{IsFileAnswer, spelled};
+ghost use Rattle.pc_expr.specs.Gives.{EndsWithEnd, At, Gives};
+ghost use Rattle.pc_parse.specs.Answers.{StopsRight, Refuses, IsOnly};
+
+use crate::entities::some_entities;
+use crate::tokens::{after_doc, is_end};
+use pc_expr::ParseFault;
+use pc_expr::parsers::{Stop, fault, look};
+use pc_token::Token;
+use pc_tree::File;
+use std::alloc::Global;
+
+/// [doc] Entity {Entity} End, with the place behind it.
+#[tactic(auto, using(crate::proofs::Parts::file_by_parts), unfolding(crate::specs::Parts::file_parts, pc_grammar::specs::Reading::take_if))]
+fn front(alloc: Global, tokens: &[Token]) -> Result<(File, usize), Stop>
+    requires { At tokens.now 0 }
+    ensures gives { Gives file_view tokens.now result (rules.file 199 tokens.now) }
+    ensures within { IfOk result (λ r. r.1 ≤ length tokens.now) }
+{
+    let begin = after_doc(tokens, 0);
+    let (entities, end) = some_entities(alloc, tokens, begin)?;
+    if !is_end(look(tokens, end)) {
+        return Err(Stop::Unexpected(end));
+    }
+    Ok((File { entities }, end + 1))
+}
+
+/// [doc] Entity {Entity} End, and nothing behind it.
+fn whole(alloc: Global, tokens: &[Token]) -> Result<File, Stop>
+    requires { At tokens.now 0 }
+    ensures read { IfOk result (λ f. IsFileAnswer tokens.now (spelled (file_view f))) }
+    ensures refused { IfErr result (StopsRight tokens.now) }
+{
+    let (file, to) = front(alloc, tokens)?;
+    if to < tokens.len() {
+        return Err(Stop::Unexpected(to));
+    }
+    Ok(file)
+}
+
+/// The file that the tokens spell.
+///
+/// The grammar is that of `docs/grammar.md`. `Unexpected` names the first token with which no file begins any more, of any
+/// depth; where the tokens spell a file and go on behind its `End`, that is the first token behind it. `TooDeep` names the
+/// first token that opens level 201 of a body or a field's value.
+pub fn file(alloc: Global, tokens: &[Token]) -> Result<File, ParseFault>
+    requires ends { EndsWithEnd tokens.now }
+    // The tree that the tokens spell, all of them, within 200 levels.
+    ensures read { IfOk result (λ f. IsFileAnswer tokens.now (spelled (file_view f))) }
+    // Why there is none, by the first byte of the token that is named; or memory ran out.
+    ensures refused { IfErr result (Refuses tokens.now) }
+    // Whatever answer holds of the tokens is the result, unless memory ran out.
+    ensures exact { IsOnly tokens.now result }
+{
+    match whole(alloc, tokens) {
+        Ok(file) => Ok(file),
+        Err(stop) => Err(fault(tokens, stop)),
+    }
+}

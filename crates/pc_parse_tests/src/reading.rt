@@ -1,0 +1,52 @@
+//! Texts, read.
+ghost use Rattle.std.specs.Prelude.{IfOk};
+ghost use Rattle.pc_expr.specs.Gives.{EndsWithEnd};
+
+use pc_caps::{List, Span};
+use pc_lex::{LexFault, Token, TokenKind, lex};
+use pc_order::tokens_are_in_order;
+pub use pc_parse::ParseFault;
+use pc_parse::file;
+pub use pc_tree::File;
+use std::alloc::Global;
+
+/// The tokens of a text.
+fn tokens_of(alloc: Global, text: &[u8]) -> Result<List<Token>, LexFault>
+    ensures { IfOk result EndsWithEnd }
+{
+    if text.len() > 1_048_576 {
+        return Err(LexFault::Memory);
+    }
+    tokens_are_in_order();
+    lex(alloc, text)
+}
+
+/// The file of a text that has tokens.
+pub fn file_of(alloc: Global, text: &[u8]) -> Result<File, ParseFault> {
+    match tokens_of(alloc, text) {
+        Ok(tokens) => file(alloc, tokens.as_slice()),
+        Err(_) => Err(ParseFault::Memory),
+    }
+}
+
+/// The tokens of a text, and one end more, which begins at a byte.
+#[tactic(auto, using(crate::proofs::Ends::ends_with_last))]
+fn with_end(alloc: Global, text: &[u8], start: u32) -> Result<List<Token>, LexFault>
+    ensures { IfOk result EndsWithEnd }
+{
+    let mut tokens = tokens_of(alloc, text)?;
+    tokens.push(Token {
+        kind: TokenKind::End,
+        first: false,
+        span: Span { start, end: start },
+    })?;
+    Ok(tokens)
+}
+
+/// The file of a text with two ends, of which the second begins at a byte.
+pub fn file_with_end(alloc: Global, text: &[u8], start: u32) -> Result<File, ParseFault> {
+    match with_end(alloc, text, start) {
+        Ok(tokens) => file(alloc, tokens.as_slice()),
+        Err(_) => Err(ParseFault::Memory),
+    }
+}
