@@ -22,7 +22,7 @@ NamedIn names ns b = (n : Name) × Has ns n × (position (bytes_eq n.text) names
 named_on : (names : List Text) (m : Name) (ns : List Name) (b : ℕ) → NamedIn names ns b → NamedIn names (m ∷ ns) b
 named_on names m ns b x = (x.0, (suc x.1.0, x.1.1), x.2)
 
-numbers_only : (names : List Text) (ns : List Name) (b : ℕ) → IsIn b (numbers_of names ns) → NamedIn names ns b
+pub numbers_only : (names : List Text) (ns : List Name) (b : ℕ) → IsIn b (numbers_of names ns) → NamedIn names ns b
 numbers_only names [] b h = absurd h
 numbers_only names (n ∷ ns) b h = by (λ i. named_on names n ns b (numbers_only names ns b i)) (position (bytes_eq n.text) names) refl h
   where
@@ -30,7 +30,7 @@ numbers_only names (n ∷ ns) b h = by (λ i. named_on names n ns b (numbers_onl
     by rec None e i = rec i
     by rec (Some x) e i = ⊎_elim (λ s. (n, (0, refl), e ∙ ap (λ y. Some y) (sym s))) rec i
 
-numbers_all : (names : List Text) (ns : List Name) (n : Name) (b i : ℕ) → slice_get ns i ≡ Some n → position (bytes_eq n.text) names ≡ Some b → IsIn b (numbers_of names ns)
+pub numbers_all : (names : List Text) (ns : List Name) (n : Name) (b i : ℕ) → slice_get ns i ≡ Some n → position (bytes_eq n.text) names ≡ Some b → IsIn b (numbers_of names ns)
 numbers_all names [] n b i h e = absurd (none-some n h)
 numbers_all names (m ∷ ns) n b zero h e = subst (λ o. IsIn b (option_to_list o ++ numbers_of names ns)) (sym (ap (λ (k : Name). position (bytes_eq k.text) names) (same_Some _ _ h) ∙ e)) (inl refl)
 numbers_all names (m ∷ ns) n b (suc i) h e = by (numbers_all names ns n b i h e) (position (bytes_eq m.text) names)

@@ -11,10 +11,10 @@ use Rattle.pc_names.specs.Faults.{field_texts, method_texts}
 use Rattle.pc_names.specs.Tables.{with_name, with_names}
 use Rattle.pc_names.specs.Texts.{with_members, other_texts, built_in_texts}
 
-same_text : (x : Text) → bytes_eq x x ≡ true
+pub same_text : (x : Text) → bytes_eq x x ≡ true
 same_text x = nat_list_eq_equiv.refl x
 
-among_at : (x : Text) (xs : List Text) (i : ℕ) → slice_get xs i ≡ Some x → is_among x xs ≡ true
+pub among_at : (x : Text) (xs : List Text) (i : ℕ) → slice_get xs i ≡ Some x → is_among x xs ≡ true
 among_at x [] i h = absurd (none-some x h)
 among_at x (y ∷ xs) zero h = ap (λ (z : Text). bytes_eq x z || is_among x xs) (same_Some _ _ h) ∙ ap (λ b. b || is_among x xs) (same_text x)
 among_at x (y ∷ xs) (suc i) h = ap (λ b. bytes_eq x y || b) (among_at x xs i h) ∙ or_true (bytes_eq x y)
@@ -30,10 +30,10 @@ push_places x y [] (suc i) h = absurd (none-some y h)
 push_places x y (z ∷ xs) zero h = inl h
 push_places x y (z ∷ xs) (suc i) h = ⊎_elim (λ l. inl l) (λ r. inr (ap suc r.0, r.1)) (push_places x y xs i h)
 
-true_false : true ≡ false → ⊥
+pub true_false : true ≡ false → ⊥
 true_false e = cc
 
-differ_push : (x : Text) (xs : List Text) → Differ xs → is_among x xs ≡ false → Differ (xs ++ x ∷ [])
+pub differ_push : (x : Text) (xs : List Text) → Differ xs → is_among x xs ≡ false → Differ (xs ++ x ∷ [])
 differ_push x xs d new i j y hi hj =
     let fresh : (k : ℕ) → slice_get xs k ≡ Some x → ⊥ = λ k h. true_false (sym (among_at x xs k h) ∙ new) in
     ⊎_elim
@@ -52,11 +52,11 @@ pub names_differ : (xs names : List Text) → Differ names → Differ (with_name
 names_differ [] names d = d
 names_differ (x ∷ xs) names d = names_differ xs (with_name names x) (name_differs names x d)
 
-members_differ : (es : List t.Entity) (names : List Text) → Differ names → Differ (with_members names es)
+pub members_differ : (es : List t.Entity) (names : List Text) → Differ names → Differ (with_members names es)
 members_differ [] names d = d
 members_differ (e ∷ es) names d = members_differ es (with_names names (field_texts e.fields ++ method_texts e.methods)) (names_differ (field_texts e.fields ++ method_texts e.methods) names d)
 
-no_names : Differ {T = Text} []
+pub no_names : Differ {T = Text} []
 no_names i j x hi hj = absurd (none-some x hi)
 
 pub other_texts_differ : (es : List t.Entity) → Differ (other_texts es)

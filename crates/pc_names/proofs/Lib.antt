@@ -1,12 +1,12 @@
-mod Views
-mod Firsts
-mod Stops
-mod Reaches
-mod Tables
-mod Reached
-mod Closings
-mod Differences
-mod Passes
-mod Ones
-mod Leasts
-mod CycleFirsts
+pub mod Views
+pub mod Firsts
+pub mod Stops
+pub mod Reaches
+pub mod Tables
+pub mod Reached
+pub mod Closings
+pub mod Differences
+pub mod Passes
+pub mod Ones
+pub mod Leasts
+pub mod CycleFirsts

@@ -1,7 +1,7 @@
 -- A list of keys, and the list of what they show.
-use Rattle.std.proofs.Common.{◌≡◌, ℕ, ◌+◌, List, [], ◌∷◌, ◌++◌, Bool, true, false, not, cond, map, ◌||◌, Vec, Global, refl, ap}
+use Rattle.std.proofs.Common.{◌≡◌, ℕ, zero, suc, ◌∙◌, ◌+◌, List, [], ◌∷◌, ◌++◌, Bool, true, false, not, cond, map, ◌||◌, Vec, Global, refl, ap}
 use Rattle.std.specs.List.{list_any, position, position_or_len, prefix_len}
-use Rattle.std.specs.Prelude.{Some, None, nat_lt}
+use Rattle.std.specs.Prelude.{Option, Some, None, nat_lt, slice_get}
 use Rattle.std.specs.Str.{bytes_eq}
 use Rattle.pc_names.specs.Tables.{with_name}
 use Rattle.std.proofs.lemmas.List.{map-append, length-map}
@@ -34,3 +34,16 @@ pub added : (keys new : List (Vec ℕ Global)) (owned : Vec ℕ Global) (name : 
 added keys new owned name same e =
     let f : Vec ℕ Global → List ℕ = λ v. v.items in
     rw (e, push_new_shown f (bytes_eq name) keys owned (list_any (λ v. bytes_eq owned.items v.items) keys), same, list_any_shown f (bytes_eq name) keys) refl
+
+-- The name at a place.
+abbrev pub shown : Option (Vec ℕ Global) → Option (List ℕ)
+shown None = None
+shown (Some v) = Some v.items
+
+pub get_shown : (keys : List (Vec ℕ Global)) (i : ℕ) (o : Option (Vec ℕ Global)) → slice_get keys i ≡ o → slice_get (map (λ (v : Vec ℕ Global). v.items) keys) i ≡ shown o
+get_shown keys i o e = all keys i ∙ ap shown e
+  where
+    all : (ks : List (Vec ℕ Global)) (j : ℕ) → slice_get (map (λ (v : Vec ℕ Global). v.items) ks) j ≡ shown (slice_get ks j)
+    all [] j = refl
+    all (k ∷ ks) zero = refl
+    all (k ∷ ks) (suc j) = all ks j

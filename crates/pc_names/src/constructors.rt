@@ -34,7 +34,7 @@ fn may_be_created(kind: EntityKind) -> bool
 }
 
 /// Whether the constructor `create` is added to the entity: it is a class or an actor and has no constructor.
-pub(crate) fn has_added(entity: &Entity) -> bool
+pub fn has_added(entity: &Entity) -> bool
     ensures { result ≡ spec.has_added (entity_view entity.now) }
 {
     if has_constructor(entity.methods.as_slice()) {

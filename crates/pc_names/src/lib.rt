@@ -19,6 +19,9 @@ mod tests;
 mod texts;
 
 pub use collecting::collect;
+pub use constructors::has_added;
 pub use fault::{NameFault, Which};
 pub use laws::{cycles_are_chains, first_is_least, names_are_one};
 pub use names::Names;
+pub use table::NameTable;
+pub use texts::add_member_texts;

@@ -1,5 +1,6 @@
 //! Names in the order of their first appearance, with their numbers.
-ghost use Rattle.std.specs.Prelude.{◌≡◌, ◌<◌, ◌+◌, ◌^◌, [], length, OnOk, OnErr, IsTrue, is_some};
+ghost use Rattle.std.specs.Prelude.{◌≡◌, ◌<◌, ◌+◌, ◌^◌, [], length, OnOk, OnErr, IsTrue, is_some, slice_get};
+ghost use Rattle.std.specs.Option.{option_copied};
 ghost use Rattle.pc_names.specs.Tables.{find_name, with_name};
 ghost use Rattle.pc_names.specs.Words.{is_among};
 
@@ -50,6 +51,17 @@ impl NameTable {
         ensures { result ≡ find_name self.now name.now }
     {
         self.names.get_index_of(name).map(|number| number as u32)
+    }
+
+    /// The name of this number. `None` exactly where there is none. It takes no memory.
+    #[tactic(auto, using(crate::proofs::Views::get_shown))]
+    pub fn get(&self, number: u32) -> Option<&[u8]>
+        ensures { option_copied result ≡ slice_get self.now number }
+    {
+        match self.names.get_index(number as usize) {
+            Some(name) => Some(name.as_slice()),
+            None => None,
+        }
     }
 
     /// Whether the name is there. It takes no memory.

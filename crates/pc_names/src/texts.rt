@@ -49,8 +49,9 @@ fn add_members(table: &mut NameTable, entity: &Entity) -> Result<(), AllocError>
     add_methods(table, entity.methods.as_slice())
 }
 
-// The names of the fields and methods of these entities go behind the others, each once.
-fn add_all(table: &mut NameTable, entities: &[Entity]) -> Result<(), AllocError>
+/// The names of the fields and methods of these entities go behind the others, each once. After an `Err` some of them are
+/// there.
+pub fn add_member_texts(table: &mut NameTable, entities: &[Entity]) -> Result<(), AllocError>
     ensures { OnOk result (table.new ≡ spec.with_members table.old (map entity_view entities.now)) }
 {
     for entity in entities {
@@ -64,6 +65,6 @@ pub(crate) fn table_texts(alloc: Global, file: &File) -> Result<NameTable, Alloc
     ensures { IfOk result (λ t. t ≡ spec.other_texts (file_view file.now).entities) }
 {
     let mut table = table_built_in(alloc)?;
-    add_all(&mut table, file.entities.as_slice())?;
+    add_member_texts(&mut table, file.entities.as_slice())?;
     Ok(table)
 }

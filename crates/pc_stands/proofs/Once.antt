@@ -56,11 +56,11 @@ module _ (c : Context) (z : ℕ → ℕ → Bool) where
       let sum = join_n c z (initial_locals (initial_fields x.word fs)) (body_locals (Some (t.seq is s))) in
       omega (arith, all, first, none, items, sum)
 
-  maybe_n : (fs : List t.Field) (x : t.Method) (o : Option t.Seq) (r : Rose) → initial_faults c (initial_fields x.word fs) ≡ [] → written_body_faults c (params_scope x.params) o ≡ [] → maybe_body c fs x o ≡ Some r → times z r ≡ local_times c z (initial_locals (initial_fields x.word fs) ++ body_locals o)
+  pub maybe_n : (fs : List t.Field) (x : t.Method) (o : Option t.Seq) (r : Rose) → initial_faults c (initial_fields x.word fs) ≡ [] → written_body_faults c (params_scope x.params) o ≡ [] → maybe_body c fs x o ≡ Some r → times z r ≡ local_times c z (initial_locals (initial_fields x.word fs) ++ body_locals o)
   maybe_n fs x None r f g e = absurd (none-some r e)
   maybe_n fs x (Some b) r f g e = ap (times z) (sym (same_Some _ _ e)) ∙ body_n fs x b f g
 
-  added_n : (fs : List t.Field) (s : Span) → initial_faults c fs ≡ [] → times z (added_body c fs s) ≡ local_times c z (initial_locals fs)
+  pub added_n : (fs : List t.Field) (s : Span) → initial_faults c fs ≡ [] → times z (added_body c fs s) ≡ local_times c z (initial_locals fs)
   added_n fs s f =
       let all = sequence_n c z s 0 (initials_then c fs (one (added_none s 0))) in
       let first : times_all z (initials_then c fs (one (added_none s 0))) ≡ local_times c z (initial_locals fs) + 0 = initials_n fs (one (added_none s 0)) f in
@@ -68,16 +68,16 @@ module _ (c : Context) (z : ℕ → ℕ → Bool) where
 
 -- ---- how often nodes define it
 
-abbrev node_times : (ℕ → ℕ → Bool) → List Node → ℕ
+abbrev pub node_times : (ℕ → ℕ → Bool) → List Node → ℕ
 node_times z [] = 0
 node_times z (x ∷ xs) = kind_times z x.kind x.depth + node_times z xs
 
-node_join : (z : ℕ → ℕ → Bool) (xs ys : List Node) → node_times z (xs ++ ys) ≡ node_times z xs + node_times z ys
+pub node_join : (z : ℕ → ℕ → Bool) (xs ys : List Node) → node_times z (xs ++ ys) ≡ node_times z xs + node_times z ys
 node_join z [] ys = omega arith
 node_join z (x ∷ xs) ys = let h = node_join z xs ys in omega (arith, h)
 
 mutual
-  put_n : (z : ℕ → ℕ → Bool) (m : ℕ) (r : Rose) (n : ℕ) (before after : List Node) → put m r before ≡ Some (n, after) → node_times z after ≡ node_times z before + times z r
+  pub put_n : (z : ℕ → ℕ → Bool) (m : ℕ) (r : Rose) (n : ℕ) (before after : List Node) → put m r before ≡ Some (n, after) → node_times z after ≡ node_times z before + times z r
   put_n z m (rose k s d rs) n before after h =
       let p : Parts (puts m rs before) (push m k s d) (n, after) = parts (puts m rs before) (push m k s d) (n, after) h in
       let q : Pushed m k s d p.fst p.mid n after = pushed m k s d p.fst p.mid n after p.second in
@@ -258,10 +258,10 @@ other_is : (a b : ℕ) → (a ≡ b → ⊥) → one_if (nat_eq a b) ≡ 0
 other_is a b n = elim (eqb_tells a b) [ inl p ↦ absurd (n p.1) | inr p ↦ ap one_if p.0 ]
 
 -- The locals have the slots from this one on.
-abbrev SlotsFrom : Context → ℕ → List Local → Type 0
+abbrev pub SlotsFrom : Context → ℕ → List Local → Type 0
 SlotsFrom c at ls = (j : ℕ) (l : Local) → slice_get ls j ≡ Some l → slot_at c.slots (local_start l) ≡ at + j
 
-next_slots : (c : Context) (at : ℕ) (x : Local) (xs : List Local) → SlotsFrom c at (x ∷ xs) → SlotsFrom c (suc at) xs
+pub next_slots : (c : Context) (at : ℕ) (x : Local) (xs : List Local) → SlotsFrom c at (x ∷ xs) → SlotsFrom c (suc at) xs
 next_slots c at x xs f j l e = let h : slot_at c.slots (local_start l) ≡ at + suc j = f (suc j) l e in omega (arith, h)
 
 none_has : (c : Context) (z at : ℕ) (ls : List Local) → z < at → SlotsFrom c at ls → local_times c (has_slot z) ls ≡ 0
@@ -300,7 +300,7 @@ some_has c at (x ∷ xs) f (suc i) l e =
     let rest : 1 ≤ local_times c (has_place (at + suc i) l.depth) xs = subst (λ k. 1 ≤ local_times c (has_place k l.depth) xs) same (some_has c (suc at) xs (next_slots c at x xs f) i l e) in
     omega (arith, rest)
 
-slots_from : (c : Context) (at : ℕ) (ls : List Local) → c.slots ≡ placed_from at ls → Rising local_start ls → SlotsFrom c at ls
+pub slots_from : (c : Context) (at : ℕ) (ls : List Local) → c.slots ≡ placed_from at ls → Rising local_start ls → SlotsFrom c at ls
 slots_from c at ls same r j l e = ap (λ ps. slot_at ps (local_start l)) same ∙ slot_is at ls r j l e
 
 -- ---- together

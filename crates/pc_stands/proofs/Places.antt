@@ -23,12 +23,12 @@ module _ {A : Type 0} (f : A → ℕ) where
     skip : (gs : List A) (n : ℕ) (ns : List ℕ) → Sub gs ns → Sub gs (n ∷ ns)
     take : (g : A) (gs : List A) (ns : List ℕ) → Sub gs ns → Sub (g ∷ gs) (f g ∷ ns)
 
-  sub_join : (gs hs : List A) (ns ms : List ℕ) → Sub gs ns → Sub hs ms → Sub (gs ++ hs) (ns ++ ms)
+  pub sub_join : (gs hs : List A) (ns ms : List ℕ) → Sub gs ns → Sub hs ms → Sub (gs ++ hs) (ns ++ ms)
   sub_join gs hs ns ms none k = k
   sub_join gs hs ns ms (skip gs2 n ns2 s) k = skip (gs2 ++ hs) n (ns2 ++ ms) (sub_join gs2 hs ns2 ms s k)
   sub_join gs hs ns ms (take g gs2 ns2 s) k = take g (gs2 ++ hs) (ns2 ++ ms) (sub_join gs2 hs ns2 ms s k)
 
-  nothing_at : (ns : List ℕ) → Sub [] ns
+  pub nothing_at : (ns : List ℕ) → Sub [] ns
   nothing_at [] = none
   nothing_at (n ∷ ns) = skip [] n ns (nothing_at ns)
 
