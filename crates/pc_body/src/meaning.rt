@@ -1,0 +1,29 @@
+//! What a name may mean.
+
+use crate::context::Constructor;
+
+/// What a bare name means.
+#[derive(Clone, Copy, Debug, PartialEq, Eq)]
+pub(crate) enum Meaning {
+    /// A visible local or parameter, by the index of its slot.
+    Local(u32),
+    /// A field of the entity.
+    Field,
+    /// A method of the entity.
+    Method,
+    Nothing,
+}
+
+/// What a type name means as an expression.
+#[derive(Drop)]
+pub(crate) enum TypeMeaning<'a> {
+    /// The value of a primitive, by the entity's number.
+    Primitive(u32),
+    /// A class or an actor, which has these constructors.
+    Created {
+        actor: bool,
+        constructors: &'a [Constructor],
+    },
+    /// Nothing that has a value.
+    NoValue,
+}

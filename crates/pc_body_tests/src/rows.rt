@@ -1,0 +1,57 @@
+//! Nodes as rows that are written by hand.
+use pc_core::{Node, NodeKind};
+
+/// A node: its kind, the number in it, its children, its depth, its first byte and the byte behind its last.
+pub type Row = (&'static str, u64, &'static [u32], u32, (u32, u32));
+
+fn shown(kind: &NodeKind) -> (&'static str, u64) {
+    match kind {
+        NodeKind::Number(value) => ("number", *value),
+        NodeKind::Truth(value) => ("truth", u64::from(*value)),
+        NodeKind::Text(bytes) => ("text", bytes.len() as u64),
+        NodeKind::Prim(entity) => ("prim", u64::from(*entity)),
+        NodeKind::This => ("this", 0),
+        NodeKind::Local(slot) => ("local", u64::from(*slot)),
+        NodeKind::Consume(slot) => ("consume", u64::from(*slot)),
+        NodeKind::Field(name) => ("field", u64::from(*name)),
+        NodeKind::SetField(name) => ("set field", u64::from(*name)),
+        NodeKind::Define(slot) => ("define", u64::from(*slot)),
+        NodeKind::Assign(slot) => ("assign", u64::from(*slot)),
+        NodeKind::New(method) => ("new", u64::from(*method)),
+        NodeKind::Spawn(method) => ("spawn", u64::from(*method)),
+        NodeKind::Call(name) => ("call", u64::from(*name)),
+        NodeKind::Binary(_) => ("binary", 0),
+        NodeKind::Not => ("not", 0),
+        NodeKind::And => ("and", 0),
+        NodeKind::Or => ("or", 0),
+        NodeKind::Same(value) => ("same", u64::from(*value)),
+        NodeKind::Seq => ("seq", 0),
+        NodeKind::If => ("if", 0),
+        NodeKind::While => ("while", 0),
+        NodeKind::Recover(_) => ("recover", 0),
+        NodeKind::Body => ("body", 0),
+    }
+}
+
+fn is_row(node: &Node, method: u32, row: &Row) -> bool {
+    shown(&node.kind) == (row.0, row.1)
+        && node.children.as_slice() == row.2
+        && node.depth == row.3
+        && node.method == method
+        && (node.span.start, node.span.end) == row.4
+}
+
+/// The first place at which the nodes are not these of this method, or how many there are.
+pub fn place_of_difference(nodes: &[Node], method: u32, rows: &[Row]) -> usize {
+    for place in 0..rows.len() {
+        match nodes.get(place) {
+            Some(node) => {
+                if !is_row(node, method, &rows[place]) {
+                    return place;
+                }
+            }
+            None => return place,
+        }
+    }
+    nodes.len()
+}
