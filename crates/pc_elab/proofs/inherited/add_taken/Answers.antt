@@ -1,0 +1,9 @@
+use Rattle.std.proofs.Common.{◌+◌, drop, arith}
+use Rattle.pc_elab.specs.Views.{members_view, table_view}
+use Rattle.pc_elab.proofs.Firsts.{item_first, taken_turn}
+use Rattle.pc_elab.proofs.inherited.add_taken.Goals as goal
+
+pub loop-name-preserved : goal.loop-name-preserved
+loop-name-preserved c =
+    taken_turn c.args.names.now.entities c.loop-name.known c.add_named.new.known (table_view c.args.table.now) (drop c.loop-name.name-index c.args.provides.now) (drop (c.loop-name.name-index + 1) c.args.provides.now) c.name-item.result _ (members_view c.loop-name.list) (members_view c.add_named.new.list)
+    (item_first c.args.provides.now c.loop-name.name-index c.name-item.result (omega (arith, c.loop-name-test.true)) c.name-item.is) c.loop-name.invariant c.in_ok-add_named.ensures.list c.in_ok-add_named.ensures.known

@@ -1,0 +1,35 @@
+-- The core of a file, as the code tells it.
+use Rattle.std.specs.Prelude.{◌≡◌, ◌≤◌, List, length, Result, Ok, Err}
+use Rattle.pc_tree.specs.Tree as t
+use Rattle.pc_token.specs.declared.kinds.Token.{Token}
+use Rattle.pc_grammar.specs.SpellsFile.{SpellsFile}
+use Rattle.pc_order.specs.Laws.{starts}
+use Rattle.pc_core.specs.CoreData.{CoreData}
+use Rattle.pc_core.specs.Formed.{Formed}
+use Rattle.pc_core.specs.Words.{Ascends}
+use Rattle.pc_names.specs.declared.fault.NameFault.{NameFault}
+use Rattle.pc_names.specs.declared.fault.NameFault.TheVariants as fault
+use Rattle.pc_program.specs.Cores.{Stands, IsElabFault}
+use Rattle.pc_elab.specs.declared.elaborating.Made.{Made}
+
+-- Some tokens in the order of a text spell the file.
+abbrev pub Spelled : t.File → Type 0
+Spelled f = (ts : List Token) × SpellsFile f ts × Ascends (starts ts)
+
+-- The core of a file that tokens spell fits together, and has at most so many slots and nodes.
+abbrev pub CoresAreFormed : Type 0
+CoresAreFormed = (file : t.File) (core : CoreData) → Spelled file → Stands file core → Formed core × (length core.slots ≤ 640000) × (length core.nodes ≤ 200000)
+
+-- The first fault of the file's members. Memory may run out at any time.
+abbrev pub IsFirstFault : t.File → NameFault → Type 0
+IsFirstFault file fault.Memory = Unit {0}
+IsFirstFault file f = IsElabFault file f
+
+abbrev pub made_view : Made → CoreData
+made_view m = record { entities = m.entities; methods = m.parts.methods; slots = m.parts.slots; nodes = m.parts.nodes; names = m.names }
+
+-- What is wanted was made, or its fault is told.
+abbrev pub Makes : Result Made NameFault → Result CoreData NameFault → Type 0
+Makes (Ok m) want = want ≡ Ok (made_view m)
+Makes (Err fault.Memory) want = Unit {0}
+Makes (Err f) want = want ≡ Err f

@@ -1,0 +1,6 @@
+pub mod Rounds
+pub mod Views
+pub mod Rows
+pub mod Slots
+pub mod Outcomes
+pub mod Cores

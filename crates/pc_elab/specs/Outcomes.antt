@@ -1,0 +1,108 @@
+-- What becomes of the members of a file, as the code tells it.
+use Rattle.std.specs.Prelude.{◌≡◌, ℕ, suc, List, [], ◌∷◌, ◌++◌, map, length, Option, Some, None, Result, Ok, Err, slice_get}
+use Rattle.pc_caps.specs.declared.span.Span.{Span}
+use Rattle.pc_tree.specs.declared.names.Name.{Name}
+use Rattle.pc_tree.specs.Tree as t
+use Rattle.pc_core.specs.declared.nodes.Node.{Node}
+use Rattle.pc_names.specs.declared.fault.NameFault.{NameFault}
+use Rattle.pc_names.specs.declared.fault.NameFault.TheVariants as fault
+use Rattle.pc_names.specs.declared.fault.Which.TheVariants as which
+use Rattle.pc_body.specs.declared.fault.BodyFault.{BodyFault}
+use Rattle.pc_body.specs.declared.fault.BodyFault.TheVariants as body
+use Rattle.pc_names.specs.Faults.{field_texts}
+use Rattle.pc_stands.specs.Roses.{Rose}
+use Rattle.pc_stands.specs.Scopes.{Context, Placed}
+use Rattle.pc_stands.specs.Bodies.{body_of, added_body}
+use Rattle.pc_stands.specs.Faults.{Fault, body_faults, initial_faults}
+use Rattle.pc_stands.specs.Slots.{Local}
+use Rattle.pc_stands.specs.Methods.{MethodFault, Outcome, param_names, local_names, unless_fault, unless_full, put_body}
+use Rattle.pc_program.specs.Members.{Member, written, added, Owned, owned, member_span, member_text}
+use Rattle.pc_program.specs.Signatures.{placed_of, slots_from, declared}
+use Rattle.pc_program.specs.Parts.{Parts, name_fault, if_ok, and_member}
+
+-- What the fault of a body is among those of a file's names.
+abbrev pub as_name_fault : BodyFault → NameFault
+as_name_fault (body.Unknown s) = fault.Unknown s
+as_name_fault (body.Double s) = fault.Double s
+as_name_fault (body.LongText s) = fault.TooMany which.Text s
+as_name_fault body.Memory = fault.Memory
+
+-- A value and nodes are what is wanted, or a fault is the one that is wanted. Memory may run out at any time.
+abbrev pub Becomes : Result (Option ℕ) NameFault → List Node → Outcome → Type 0
+Becomes (Ok b) nodes want = want ≡ Ok (b, nodes)
+Becomes (Err fault.Memory) nodes want = Unit {0}
+Becomes (Err f) nodes want = (g : MethodFault) × (f ≡ name_fault g) × (want ≡ Err g)
+
+-- The same of the parts of a program.
+abbrev pub Grows : {A : Type 0} → Result A NameFault → Parts → Result Parts NameFault → Type 0
+Grows (Ok x) p want = want ≡ Ok p
+Grows (Err fault.Memory) p want = Unit {0}
+Grows (Err f) p want = want ≡ Err f
+
+-- ---- a member
+
+abbrev pub member_faults : Context → t.Entity → Member → List Fault
+member_faults c e (written m) = body_faults c e.fields m
+member_faults c e added = initial_faults c e.fields
+
+abbrev pub member_params : Member → List Name
+member_params (written m) = param_names m.params
+member_params added = []
+
+abbrev pub member_rose : Context → t.Entity → Member → Option Rose
+member_rose c e (written m) = body_of c e.fields m
+member_rose c e added = Some (added_body c e.fields e.name.span)
+
+abbrev pub span_of : Option Name → Option Span
+span_of None = None
+span_of (Some n) = Some n.span
+
+-- The place of the 65th slot's name.
+abbrev pub extra_slot : Member → List Local → Option Span
+extra_slot x locals = span_of (slice_get (member_params x ++ local_names locals) 63)
+
+-- What becomes of a member that has these locals, where this becomes of its nodes.
+abbrev pub before_nodes : Context → t.Entity → Member → List Local → Outcome → Outcome
+before_nodes c e x locals rest = unless_fault (member_faults c e x) (unless_full (member_params x ++ local_names locals) rest)
+
+abbrev pub outcome_with : Context → ℕ → t.Entity → Member → List Local → List Node → Outcome
+outcome_with c m e x locals before = before_nodes c e x locals (put_body m (member_span e.name.span x) (member_rose c e x) before)
+
+-- Nothing comes before the nodes, or this fault, whatever becomes of them.
+abbrev pub Passes : Result (Unit {0}) NameFault → (Outcome → Outcome) → Type 0
+Passes (Ok x) step = (rest : Outcome) → step rest ≡ rest
+Passes (Err fault.Memory) step = Unit {0}
+Passes (Err f) step = (g : MethodFault) × (f ≡ name_fault g) × ((rest : Outcome) → step rest ≡ Err g)
+
+-- Behind these parts, whose nodes are those of the member already, come its method and its slots.
+abbrev pub joined_with : Context → Parts → Owned → ℕ → Option ℕ → Parts
+joined_with c p o first_node b = record {
+  methods = p.methods ++ declared c o (length p.slots) (length (slots_from c (length p.methods) o)) first_node b ∷ [];
+  slots = p.slots ++ slots_from c (length p.methods) o;
+  nodes = p.nodes;
+}
+
+-- ---- the members of an entity
+
+abbrev pub with_slots : Context → List Placed → Context
+with_slots c slots = record { fields = c.fields; methods = c.methods; entities = c.entities; texts = c.texts; slots = slots }
+
+-- A member in this context, but for the slots of its own locals.
+abbrev pub own_member : Context → Parts → Owned → Result Parts NameFault
+own_member c p o = and_member (with_slots c (placed_of o.owner o.member)) p o
+
+abbrev pub own_members : Context → Parts → List Owned → Result Parts NameFault
+own_members c p [] = Ok p
+own_members c p (o ∷ os) = if_ok (own_member c p o) (λ q. own_members c q os)
+
+-- ---- the members of several entities
+
+abbrev pub with_members : Context → t.Entity → List Member → Context
+with_members c e ms = record { fields = field_texts e.fields; methods = map member_text ms; entities = c.entities; texts = c.texts; slots = [] }
+
+abbrev pub entity_members : Context → Parts → ℕ → t.Entity → List Member → Result Parts NameFault
+entity_members c p n e ms = own_members (with_members c e ms) p (map (owned n e) ms)
+
+abbrev pub row_members : Context → Parts → ℕ → List t.Entity → List (List Member) → Result Parts NameFault
+row_members c p n (e ∷ es) (ms ∷ table) = if_ok (entity_members c p n e ms) (λ q. row_members c q (suc n) es table)
+row_members c p n es table = Ok p

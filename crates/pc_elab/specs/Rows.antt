@@ -1,0 +1,37 @@
+-- Lists that go along the entities of a file and along the table of their members.
+use Rattle.std.specs.Prelude.{ℕ, suc, ◌+◌, List, [], ◌∷◌, map, length, slice_get}
+use Rattle.pc_tree.specs.Tree as t
+use Rattle.pc_core.specs.declared.declarations.EntityDef.{EntityDef}
+use Rattle.pc_names.specs.Names.{NamesData}
+use Rattle.pc_names.specs.Chains.{numbers_of}
+use Rattle.pc_names.specs.Reach.{or_nil}
+use Rattle.pc_stands.specs.Scopes.{Known, Context}
+use Rattle.pc_program.specs.Members.{Member}
+use Rattle.pc_program.specs.Known.{default_cap, constructors_from}
+use Rattle.pc_program.specs.Cores.{field_of}
+
+-- What bodies see of an entity with these members, of which the first has this number among the methods.
+abbrev pub known_with : ℕ → t.Entity → List Member → Known
+known_with at e ms = record { name = e.name.text; kind = e.kind; cap = default_cap e.kind e.cap; constructors = constructors_from at ms }
+
+abbrev pub known_rows : ℕ → List t.Entity → List (List Member) → List Known
+known_rows at (e ∷ es) (ms ∷ table) = known_with at e ms ∷ known_rows (at + length ms) es table
+known_rows at es table = []
+
+-- An entity of the core.
+abbrev pub entity_with : Context → NamesData → ℕ → ℕ → t.Entity → ℕ → EntityDef
+entity_with c names n first_method e methods = record {
+  kind = e.kind;
+  cap = default_cap e.kind e.cap;
+  name = e.name.text;
+  span = e.name.span;
+  provides = numbers_of names.entities e.provides;
+  above = or_nil (slice_get names.above n);
+  fields = map (field_of c.texts c.entities) e.fields;
+  first_method = first_method;
+  methods = methods;
+}
+
+abbrev pub entity_rows : Context → NamesData → ℕ → ℕ → List t.Entity → List (List Member) → List EntityDef
+entity_rows c names n at (e ∷ es) (ms ∷ table) = entity_with c names n at e (length ms) ∷ entity_rows c names (suc n) (at + length ms) es table
+entity_rows c names n at es table = []

@@ -1,0 +1,22 @@
+-- The slots of a member, of its parameters and its locals.
+use Rattle.std.specs.Prelude.{ℕ, ◌+◌, List, ◌∷◌, ◌++◌, map, length, Some}
+use Rattle.pc_core.specs.declared.declarations.ParamInfo.{ParamInfo}
+use Rattle.pc_core.specs.declared.nodes.Slot.{Slot}
+use Rattle.pc_core.specs.declared.nodes.SlotKind.TheVariants as slot
+use Rattle.pc_core.specs.Methods.{param_slot}
+use Rattle.pc_stands.specs.Scopes.{Context}
+use Rattle.pc_stands.specs.Slots.{Local, local_slot}
+use Rattle.pc_program.specs.Members.{Member, written, added}
+use Rattle.pc_program.specs.Signatures.{receiver_of}
+
+-- The index of the slot of the first local.
+abbrev pub first_local : Member → ℕ
+first_local (written m) = 1 + length m.params
+first_local added = 1
+
+-- `this` in method m, a member of the entity of this number.
+abbrev pub this_of : ℕ → ℕ → Member → Slot
+this_of m number x = record { method = m; kind = slot.This; depth = 0; written = Some (number, receiver_of x) }
+
+abbrev pub slots_with : Context → ℕ → ℕ → Member → List ParamInfo → List Local → List Slot
+slots_with c m number x params locals = this_of m number x ∷ map (param_slot m) params ++ map (local_slot c m) locals

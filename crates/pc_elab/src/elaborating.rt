@@ -1,0 +1,102 @@
+//! The core of a file.
+ghost use Rattle.std.specs.Prelude.{◌≡◌, ◌<◌, ◌^◌, map, length, IfOk, IfErr};
+ghost use Rattle.pc_tree.specs.View.{file_view};
+ghost use Rattle.pc_names.specs.Names.{Collected};
+ghost use Rattle.pc_program.specs.Cores.{Stands, core_of};
+ghost use Rattle.pc_program.specs.Known.{known_of, texts_of};
+ghost use Rattle.pc_program.specs.Members.{members};
+ghost use Rattle.pc_elab.specs.Cores as spec;
+ghost use Rattle.pc_elab.specs.Views.{table_view};
+
+use crate::entities::list_entities;
+use crate::inherited::list_members;
+use crate::known::list_known;
+use crate::member::Member;
+use crate::members::add_entities;
+use crate::parts::{Parts, built_in_parts};
+use crate::texts::{list_texts, table_texts};
+use pc_body::Context;
+use pc_caps::List;
+use pc_core::{Core, EntityDef};
+use pc_names::{NameFault, Names};
+use pc_order::names_are_in_order;
+use pc_program::cores_are_formed;
+use pc_tree::File;
+use std::alloc::{AllocError, Global};
+
+/// What a core is made of.
+#[derive(Drop)]
+pub(crate) struct Made {
+    pub(crate) entities: List<EntityDef>,
+    pub(crate) parts: Parts,
+    pub(crate) names: List<List<u8>>,
+}
+
+// What the bodies of a file see of it: its entities and texts. The table has the members of its entities.
+fn make_context(
+    alloc: Global,
+    file: &File,
+    names: &Names,
+    table: &[List<Member>],
+) -> Result<Context, AllocError>
+    requires collected { Collected (file_view file.now) names.now }
+    requires members { table_view table.now ≡ map (members (file_view file.now).entities) (file_view file.now).entities }
+    ensures entities { IfOk result (λ c. c.entities ≡ known_of (file_view file.now)) }
+    ensures texts { IfOk result (λ c. c.texts ≡ texts_of (file_view file.now)) }
+{
+    let entities = list_known(alloc, file.entities.as_slice(), table)?;
+    let texts = table_texts(alloc, file)?;
+    Ok(Context::new(
+        List::new(alloc),
+        List::new(alloc),
+        entities,
+        texts,
+        List::new(alloc),
+    ))
+}
+
+/// What the core of a file is made of, or the first fault of its members.
+#[tactic(auto, using(crate::proofs::Wholes::few_own, crate::proofs::Wholes::as_many))]
+pub(crate) fn make(alloc: Global, file: &File, names: &Names) -> Result<Made, NameFault>
+    requires { Collected (file_view file.now) names.now }
+    ensures core { spec.Makes result (core_of names.now.above (file_view file.now)) }
+    ensures few { IfOk result (λ m. length m.names < 2 ^ 32) }
+{
+    let table = list_members(alloc, file, names)?;
+    let mut context = make_context(alloc, file, names, table.as_slice())?;
+    let mut parts = built_in_parts(alloc)?;
+    let own = file.entities.as_slice();
+    add_entities(alloc, &mut context, &mut parts, own, table.as_slice())?;
+    let entities = list_entities(alloc, &context, names, own, table.as_slice())?;
+    let names = list_texts(alloc, context.texts())?;
+    Ok(Made {
+        entities,
+        parts,
+        names,
+    })
+}
+
+/// The core of a file whose names were collected. It is `Err` exactly where a member of the file has a fault, and then it
+/// names the first fault of the first such member: the first fault of its body in the order of the text, else its 65th
+/// slot, at the name of the parameter or local that would have it, else, at the member's own name, that the nodes of all
+/// members so far are more than 200,000. Memory may run out at any time.
+pub fn elaborate(alloc: Global, file: &File, names: &Names) -> Result<Core, NameFault>
+    requires spelled { spec.Spelled (file_view file.now) }
+    requires collected { Collected (file_view file.now) names.now }
+    ensures core { IfOk result (λ c. Stands (file_view file.now) c) }
+    ensures fault { IfErr result (spec.IsFirstFault (file_view file.now)) }
+{
+    cores_are_formed();
+    names_are_in_order();
+    let Made {
+        entities,
+        parts,
+        names,
+    } = make(alloc, file, names)?;
+    let Parts {
+        methods,
+        slots,
+        nodes,
+    } = parts;
+    Ok(Core::from_parts(entities, methods, slots, nodes, names))
+}

@@ -1,0 +1,122 @@
+//! The entities of a core.
+ghost use Rattle.std.specs.Prelude.{◌≡◌, ◌++◌, ◌+◌, ◌<◌, ◌^◌, map, length, slice_get, IfOk};
+ghost use Rattle.pc_tree.specs.View.{entity_view, field_view};
+ghost use Rattle.pc_names.specs.Chains.{first_own, numbers_of};
+ghost use Rattle.pc_names.specs.Reach.{or_nil};
+ghost use Rattle.pc_program.specs.Cores as spec;
+ghost use Rattle.pc_elab.specs.Rows as rows;
+ghost use Rattle.pc_elab.specs.Views.{members_view, table_view};
+
+use crate::known::{default_cap, number_after};
+use crate::language::list_built_ins;
+use crate::member::Member;
+use crate::signature::type_in;
+use pc_body::Context;
+use pc_caps::List;
+use pc_core::{EntityDef, FieldInfo};
+use pc_names::Names;
+use pc_tree::{Entity, FieldDef, Name};
+use std::alloc::{AllocError, Global};
+
+/// How many entities are built in.
+const FIRST_OWN: usize = 6;
+
+fn field_of(context: &Context, field: &FieldDef) -> FieldInfo
+    ensures { result ≡ spec.field_of context.now.texts context.now.entities (field_view field.now) }
+{
+    let (entity, cap) = type_in(context, &field.ty);
+    FieldInfo {
+        name: context.text_of(field.name.text.as_slice()),
+        fixed: field.fixed,
+        entity,
+        cap,
+    }
+}
+
+fn list_fields(
+    alloc: Global,
+    context: &Context,
+    fields: &[FieldDef],
+) -> Result<List<FieldInfo>, AllocError>
+    ensures { IfOk result (λ l. l ≡ map (spec.field_of context.now.texts context.now.entities) (map field_view fields.now)) }
+{
+    let mut list = List::new(alloc);
+    for field in fields {
+        list.push(field_of(context, field))?;
+    }
+    Ok(list)
+}
+
+// The numbers of those names that are entities.
+fn number_names(alloc: Global, names: &Names, provides: &[Name]) -> Result<List<u32>, AllocError>
+    ensures { IfOk result (λ l. l ≡ numbers_of names.now.entities provides.now) }
+{
+    let mut numbers = List::new(alloc);
+    for name in provides {
+        match names.entity(name.text.as_slice()) {
+            Some(number) => numbers.push(number)?,
+            None => {}
+        }
+    }
+    Ok(numbers)
+}
+
+// The entities above that of this number.
+fn list_above(alloc: Global, names: &Names, number: u32) -> Result<List<u32>, AllocError>
+    ensures { IfOk result (λ l. l ≡ or_nil (slice_get names.now.above number)) }
+{
+    match names.above(number) {
+        Some(above) => List::from_slice(alloc, above),
+        None => Ok(List::new(alloc)),
+    }
+}
+
+// The entity of this number, with so many methods from this one on.
+fn make_entity(
+    alloc: Global,
+    context: &Context,
+    names: &Names,
+    number: u32,
+    first_method: u32,
+    entity: &Entity,
+    methods: u32,
+) -> Result<EntityDef, AllocError>
+    ensures { IfOk result (λ x. x ≡ rows.entity_with context.now names.now number first_method (entity_view entity.now) methods) }
+{
+    Ok(EntityDef {
+        kind: entity.kind,
+        cap: default_cap(entity.kind, entity.cap),
+        name: List::from_slice(alloc, entity.name.text.as_slice())?,
+        span: entity.name.span,
+        provides: number_names(alloc, names, entity.provides.as_slice())?,
+        above: list_above(alloc, names, number)?,
+        fields: list_fields(alloc, context, entity.fields.as_slice())?,
+        first_method,
+        methods,
+    })
+}
+
+/// The entities of a program: those of the language, and then those of the file, with the table of their members.
+pub(crate) fn list_entities(
+    alloc: Global,
+    context: &Context,
+    names: &Names,
+    entities: &[Entity],
+    table: &[List<Member>],
+) -> Result<List<EntityDef>, AllocError>
+    requires rows { length table.now ≡ length entities.now }
+    requires numbers { first_own + length entities.now < 2 ^ 32 }
+    ensures { IfOk result (λ l. l ≡ spec.built_ins ++ rows.entity_rows context.now names.now first_own 1 (map entity_view entities.now) (table_view table.now)) }
+{
+    let mut list = list_built_ins(alloc)?;
+    let mut first = 1;
+    for at in 0..entities.len() {
+        let after = number_after(first, table[at].as_slice())?;
+        let number = (FIRST_OWN + at) as u32;
+        let entity = &entities[at];
+        let made = make_entity(alloc, context, names, number, first, entity, after - first)?;
+        list.push(made)?;
+        first = after;
+    }
+    Ok(list)
+}

@@ -1,0 +1,131 @@
+//! What the bodies of a file see of its entities.
+ghost use Rattle.std.specs.Prelude.{◌≡◌, ◌++◌, ◌∷◌, [], ◌+◌, ◌<◌, ◌^◌, map, length, IfOk, codes};
+ghost use Rattle.pc_tree.specs.View.{entity_view};
+ghost use Rattle.pc_program.specs.Known as spec;
+ghost use Rattle.pc_stands.specs.Slots.{cap_or as either_cap};
+ghost use Rattle.pc_elab.specs.Rows as rows;
+ghost use Rattle.pc_elab.specs.Views.{members_view, table_view};
+
+use crate::member::Member;
+use pc_body::{Constructor, Known};
+use pc_caps::{Cap, List};
+use pc_tree::{Entity, EntityKind};
+use std::alloc::{AllocError, Global};
+
+/// How many methods a program may have at most. No memory holds so many.
+const MOST_METHODS: u32 = 4_294_967_295;
+
+/// The capability that is written, or else another.
+pub(crate) fn cap_or(written: Option<Cap>, other: Cap) -> Cap
+    ensures { result ≡ either_cap written other }
+{
+    match written {
+        Some(cap) => cap,
+        None => other,
+    }
+}
+
+/// The capability of an entity's type where none is written: that of its declaration, for classes and traits.
+pub(crate) fn default_cap(kind: EntityKind, written: Option<Cap>) -> Cap
+    ensures { result ≡ spec.default_cap kind written }
+{
+    match kind {
+        EntityKind::Class | EntityKind::Trait => cap_or(written, Cap::Ref),
+        EntityKind::Actor => Cap::Tag,
+        EntityKind::Primitive => Cap::Val,
+    }
+}
+
+/// The number behind those of so many methods, of which the first has this number.
+pub(crate) fn number_after(first: u32, members: &[Member]) -> Result<u32, AllocError>
+    ensures { IfOk result (λ n. n ≡ first + length (members_view members.now)) }
+{
+    if members.len() > (MOST_METHODS - first) as usize {
+        return Err(AllocError);
+    }
+    Ok(first + members.len() as u32)
+}
+
+// The constructors among these members, of which the first has this number among the methods.
+fn list_constructors(
+    alloc: Global,
+    first: u32,
+    members: &[Member],
+) -> Result<List<Constructor>, AllocError>
+    requires { first + length (members_view members.now) < 2 ^ 32 }
+    ensures { IfOk result (λ l. l ≡ spec.constructors_from first (members_view members.now)) }
+{
+    let mut constructors = List::new(alloc);
+    let mut number = first;
+    for member in members {
+        if member.is_constructor() {
+            let name = List::from_slice(alloc, member.text())?;
+            constructors.push(Constructor::new(name, number))?;
+        }
+        number += 1;
+    }
+    Ok(constructors)
+}
+
+// What bodies see of an entity with these members, of which the first has this number among the methods.
+fn make_known(
+    alloc: Global,
+    first: u32,
+    entity: &Entity,
+    members: &[Member],
+) -> Result<Known, AllocError>
+    requires { first + length (members_view members.now) < 2 ^ 32 }
+    ensures { IfOk result (λ k. k ≡ rows.known_with first (entity_view entity.now) (members_view members.now)) }
+{
+    let name = List::from_slice(alloc, entity.name.text.as_slice())?;
+    let cap = default_cap(entity.kind, entity.cap);
+    let constructors = list_constructors(alloc, first, members)?;
+    Ok(Known::new(name, entity.kind, cap, constructors))
+}
+
+// An entity of the language that has no constructor.
+fn make_built_in(
+    alloc: Global,
+    name: &[u8],
+    kind: EntityKind,
+    cap: Cap,
+) -> Result<Known, AllocError>
+    ensures { IfOk result (λ k. k ≡ record { name = name.now; kind = kind; cap = cap; constructors = [] }) }
+{
+    let name = List::from_slice(alloc, name)?;
+    Ok(Known::new(name, kind, cap, List::new(alloc)))
+}
+
+// The entities of the language.
+fn list_built_in(alloc: Global) -> Result<List<Known>, AllocError>
+    ensures { IfOk result (λ l. l ≡ spec.built_in_known) }
+{
+    let mut known = List::new(alloc);
+    known.push(make_built_in(alloc, b"None", EntityKind::Primitive, Cap::Val)?)?;
+    known.push(make_built_in(alloc, b"U64", EntityKind::Primitive, Cap::Val)?)?;
+    known.push(make_built_in(alloc, b"Bool", EntityKind::Primitive, Cap::Val)?)?;
+    known.push(make_built_in(alloc, b"String", EntityKind::Primitive, Cap::Val)?)?;
+    known.push(make_built_in(alloc, b"Env", EntityKind::Class, Cap::Val)?)?;
+    known.push(make_built_in(alloc, b"OutStream", EntityKind::Actor, Cap::Tag)?)?;
+    Ok(known)
+}
+
+/// Behind the entities of the language those of the file, with the table of their members.
+pub(crate) fn list_known(
+    alloc: Global,
+    entities: &[Entity],
+    table: &[List<Member>],
+) -> Result<List<Known>, AllocError>
+    requires { length table.now ≡ length entities.now }
+    ensures { IfOk result (λ l. l ≡ spec.built_in_known ++ rows.known_rows 1 (map entity_view entities.now) (table_view table.now)) }
+{
+    let mut known = list_built_in(alloc)?;
+    let mut first = 1;
+    for at in 0..entities.len() {
+        let members = table[at].as_slice();
+        let after = number_after(first, members)?;
+        known.push(make_known(alloc, first, &entities[at], members)?)?;
+        first = after;
+    }
+    Ok(known)
+}

@@ -1,0 +1,105 @@
+//! What each program has: the entities of the language.
+ghost use Rattle.std.specs.Prelude.{◌≡◌, ◌∷◌, [], IfOk};
+ghost use Rattle.pc_core.specs.Entities.{built_in, built_in_value, out_field, print_method};
+ghost use Rattle.pc_program.specs.Cores as spec;
+
+use pc_caps::{Cap, Form, List, Span};
+use pc_core::{EntityDef, FieldInfo, Method, MethodKind, ParamInfo};
+use pc_tree::EntityKind;
+use std::alloc::{AllocError, Global};
+
+// What the language has stands nowhere in the text.
+const NOWHERE: Span = Span { start: 0, end: 0 };
+
+// An entity of the language.
+fn make_built_in(
+    alloc: Global,
+    kind: EntityKind,
+    cap: Cap,
+    name: &str,
+    fields: List<FieldInfo>,
+    methods: u32,
+) -> Result<EntityDef, AllocError>
+    ensures { IfOk result (λ x. x ≡ built_in kind cap name.now fields methods) }
+{
+    Ok(EntityDef {
+        kind,
+        cap,
+        name: List::from_slice(alloc, name.as_bytes())?,
+        span: NOWHERE,
+        provides: List::new(alloc),
+        above: List::new(alloc),
+        fields,
+        first_method: 0,
+        methods,
+    })
+}
+
+// One of the language's values.
+fn make_built_in_value(alloc: Global, name: &str) -> Result<EntityDef, AllocError>
+    ensures { IfOk result (λ x. x ≡ built_in_value name.now) }
+{
+    make_built_in(
+        alloc,
+        EntityKind::Primitive,
+        Cap::Val,
+        name,
+        List::new(alloc),
+        0,
+    )
+}
+
+// The fields of the environment.
+fn list_env_fields(alloc: Global) -> Result<List<FieldInfo>, AllocError>
+    ensures { IfOk result (λ fields. fields ≡ out_field 0 ∷ []) }
+{
+    let mut fields = List::new(alloc);
+    fields.push(FieldInfo {
+        name: 0,
+        fixed: true,
+        entity: 5,
+        cap: Cap::Tag,
+    })?;
+    Ok(fields)
+}
+
+/// The entities of the language, where `out` and `print` are the first two texts.
+pub(crate) fn list_built_ins(alloc: Global) -> Result<List<EntityDef>, AllocError>
+    ensures { IfOk result (λ entities. entities ≡ spec.built_ins) }
+{
+    let mut entities = List::new(alloc);
+    entities.push(make_built_in_value(alloc, "None")?)?;
+    entities.push(make_built_in_value(alloc, "U64")?)?;
+    entities.push(make_built_in_value(alloc, "Bool")?)?;
+    entities.push(make_built_in_value(alloc, "String")?)?;
+    let fields = list_env_fields(alloc)?;
+    entities.push(make_built_in(alloc, EntityKind::Class, Cap::Val, "Env", fields, 0)?)?;
+    let none = List::new(alloc);
+    entities.push(make_built_in(alloc, EntityKind::Actor, Cap::Tag, "OutStream", none, 1)?)?;
+    Ok(entities)
+}
+
+/// The behaviour of the stream.
+pub(crate) fn make_print(alloc: Global) -> Result<Method, AllocError>
+    ensures { IfOk result (λ x. x ≡ print_method 1) }
+{
+    let mut params = List::new(alloc);
+    params.push(ParamInfo {
+        entity: 3,
+        cap: Cap::Val,
+        span: NOWHERE,
+    })?;
+    Ok(Method {
+        entity: 5,
+        name: 1,
+        kind: MethodKind::Be,
+        receiver: Cap::Ref,
+        params,
+        result: (0, Form::Val),
+        first_slot: 0,
+        slots: 0,
+        first_node: 0,
+        body: None,
+        span: NOWHERE,
+    })
+}

@@ -1,0 +1,119 @@
+//! The parts of a program, entity by entity.
+ghost use Rattle.std.specs.Prelude.{◌≡◌, ◌+◌, ◌<◌, ◌^◌, map, length, IfOk, OnOk};
+ghost use Rattle.pc_tree.specs.View.{entity_view, field_view};
+ghost use Rattle.pc_names.specs.Chains.{first_own};
+ghost use Rattle.pc_names.specs.Faults.{field_texts};
+ghost use Rattle.pc_program.specs.Members.{member_text, owned};
+ghost use Rattle.pc_program.specs.Signatures.{placed_of as placed_in};
+ghost use Rattle.pc_elab.specs.Outcomes as spec;
+ghost use Rattle.pc_elab.specs.Views.{member_view, members_view, parts_view, table_view};
+
+use crate::member::Member;
+use crate::parts::{Parts, add_member};
+use crate::slots::{locals_of, placed_of};
+use pc_body::Context;
+use pc_caps::List;
+use pc_names::NameFault;
+use pc_tree::{Entity, FieldDef};
+use std::alloc::{AllocError, Global};
+
+/// How many entities are built in.
+const FIRST_OWN: usize = 6;
+
+fn list_field_names(alloc: Global, fields: &[FieldDef]) -> Result<List<List<u8>>, AllocError>
+    ensures { IfOk result (λ l. l ≡ field_texts (map field_view fields.now)) }
+{
+    let mut names = List::new(alloc);
+    for field in fields {
+        names.push(List::from_slice(alloc, field.name.text.as_slice())?)?;
+    }
+    Ok(names)
+}
+
+fn list_member_names(alloc: Global, members: &[Member]) -> Result<List<List<u8>>, AllocError>
+    ensures { IfOk result (λ l. l ≡ map member_text (members_view members.now)) }
+{
+    let mut names = List::new(alloc);
+    for member in members {
+        names.push(List::from_slice(alloc, member.text())?)?;
+    }
+    Ok(names)
+}
+
+// A member of the entity of this number goes behind the others, or its first fault is told.
+fn add_one(
+    alloc: Global,
+    context: &mut Context,
+    parts: &mut Parts,
+    number: u32,
+    entity: &Entity,
+    member: Member,
+) -> Result<(), NameFault>
+    ensures grows { spec.Grows result (parts_view parts.new) (spec.own_member context.old (parts_view parts.old) (owned number (entity_view entity.now) (member_view member.entry))) }
+    ensures context { OnOk result (context.new ≡ spec.with_slots context.old (placed_in (entity_view entity.now) (member_view member.entry))) }
+{
+    let locals = locals_of(alloc, entity, member)?;
+    let locals = locals.as_slice();
+    context.set_slots(placed_of(alloc, member, locals)?);
+    add_member(alloc, context, parts, number, entity, member, locals)
+}
+
+// The members of the entity of this number go behind the others, up to the first that has a fault, which is told.
+fn add_members(
+    alloc: Global,
+    context: &mut Context,
+    parts: &mut Parts,
+    number: u32,
+    entity: &Entity,
+    members: &[Member],
+) -> Result<(), NameFault>
+    ensures grows { spec.Grows result (parts_view parts.new) (spec.own_members context.old (parts_view parts.old) (map (owned number (entity_view entity.now)) (members_view members.now))) }
+    ensures context { OnOk result (context.new ≡ spec.with_slots context.old context.new.slots) }
+{
+    for member in members {
+        add_one(alloc, context, parts, number, entity, *member)?;
+    }
+    Ok(())
+}
+
+// The same of an entity, whose fields and members the context gets.
+fn add_entity(
+    alloc: Global,
+    context: &mut Context,
+    parts: &mut Parts,
+    number: u32,
+    entity: &Entity,
+    members: &[Member],
+) -> Result<(), NameFault>
+    ensures grows { spec.Grows result (parts_view parts.new) (spec.entity_members context.old (parts_view parts.old) number (entity_view entity.now) (members_view members.now)) }
+    ensures entities { OnOk result (context.new.entities ≡ context.old.entities) }
+    ensures texts { OnOk result (context.new.texts ≡ context.old.texts) }
+{
+    let fields = list_field_names(alloc, entity.fields.as_slice())?;
+    let methods = list_member_names(alloc, members)?;
+    context.set_members(fields, methods);
+    add_members(alloc, context, parts, number, entity, members)
+}
+
+/// The members of these entities of a file go behind the parts of the language, or the first fault is told: that of the first
+/// member that has one. The table has the members of each entity.
+pub(crate) fn add_entities(
+    alloc: Global,
+    context: &mut Context,
+    parts: &mut Parts,
+    entities: &[Entity],
+    table: &[List<Member>],
+) -> Result<(), NameFault>
+    requires rows { length table.now ≡ length entities.now }
+    requires numbers { first_own + length entities.now < 2 ^ 32 }
+    ensures grows { spec.Grows result (parts_view parts.new) (spec.row_members context.old (parts_view parts.old) first_own (map entity_view entities.now) (table_view table.now)) }
+    ensures entities { OnOk result (context.new.entities ≡ context.old.entities) }
+    ensures texts { OnOk result (context.new.texts ≡ context.old.texts) }
+{
+    for at in 0..entities.len() {
+        let number = (FIRST_OWN + at) as u32;
+        let members = table[at].as_slice();
+        add_entity(alloc, context, parts, number, &entities[at], members)?;
+    }
+    Ok(())
+}

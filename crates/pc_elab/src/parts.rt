@@ -1,0 +1,249 @@
+//! The methods of a program with their slots and nodes, member by member.
+ghost use Rattle.std.specs.Prelude.{◌≡◌, slice_get, IfOk, OnOk};
+ghost use Rattle.pc_tree.specs.View.{entity_view};
+ghost use Rattle.pc_body.specs.Checking.{Tells};
+ghost use Rattle.pc_body.specs.Giving.{GivesBody};
+ghost use Rattle.pc_stands.specs.Methods.{local_names};
+ghost use Rattle.pc_program.specs.Members.{owned};
+ghost use Rattle.pc_program.specs.Parts.{and_member, built_in_parts as language_parts};
+ghost use Rattle.pc_program.specs.Signatures as signatures;
+ghost use Rattle.pc_elab.specs.Outcomes as spec;
+ghost use Rattle.pc_elab.specs.Views.{member_view, parts_view};
+
+use crate::language::make_print;
+use crate::member::Member;
+use crate::signature::{kind_of, params_of, receiver_of, result_of};
+use crate::slots::add_slots;
+use pc_body::{BodyFault, Context, Local, Stop, check, check_added, emit, emit_added};
+use pc_caps::{List, Span};
+use pc_core::{Method, Node, Slot};
+use pc_names::{NameFault, Which};
+use pc_tree::Entity;
+use std::alloc::{AllocError, Global};
+
+/// How many methods, slots or nodes a program may have at most. No memory holds so many.
+const MOST: usize = 4_294_967_295;
+
+/// The slot that is one too many has this index behind the slot of `this`.
+const EXTRA_SLOT: usize = 63;
+
+/// The methods, slots and nodes so far.
+#[derive(Drop)]
+pub(crate) struct Parts {
+    pub(crate) methods: List<Method>,
+    pub(crate) slots: List<Slot>,
+    pub(crate) nodes: List<Node>,
+}
+
+// A count as a number of 32 bits.
+fn number(count: usize) -> Result<u32, AllocError>
+    ensures { IfOk result (λ n. n ≡ count) }
+{
+    if count > MOST {
+        return Err(AllocError);
+    }
+    Ok(count as u32)
+}
+
+// What the fault of a body is among those of a file's names.
+fn name_fault(fault: BodyFault) -> NameFault
+    ensures { result ≡ spec.as_name_fault fault }
+{
+    match fault {
+        BodyFault::Unknown(span) => NameFault::Unknown(span),
+        BodyFault::Double(span) => NameFault::Double(span),
+        BodyFault::LongText(span) => NameFault::TooMany(Which::Text, span),
+        BodyFault::Memory => NameFault::Memory,
+    }
+}
+
+// Whether the body of a member is without a fault.
+fn check_body(
+    alloc: Global,
+    context: &Context,
+    entity: &Entity,
+    member: Member,
+) -> Result<(), BodyFault>
+    ensures { Tells result (spec.member_faults context.now (entity_view entity.now) (member_view member.entry)) }
+{
+    let fields = entity.fields.as_slice();
+    match member {
+        Member::Written(method) => check(alloc, context, fields, method),
+        Member::Added => check_added(alloc, context, fields),
+    }
+}
+
+// The place of the name of the 65th slot, where a member with these locals has so many.
+fn extra_slot(member: Member, locals: &[Local]) -> Option<Span>
+    ensures { result ≡ spec.extra_slot (member_view member.entry) locals.now }
+{
+    match member {
+        Member::Written(method) => match method.params.get(EXTRA_SLOT) {
+            Some(param) => Some(param.name.span),
+            None => local_at(locals, EXTRA_SLOT.saturating_sub(method.params.len())),
+        },
+        Member::Added => local_at(locals, EXTRA_SLOT),
+    }
+}
+
+// The place of the name of the local of this index.
+fn local_at(locals: &[Local], index: usize) -> Option<Span>
+    ensures { result ≡ spec.span_of (slice_get (local_names locals.now) index) }
+{
+    match locals.get(index) {
+        Some(local) => Some(local.name().span),
+        None => None,
+    }
+}
+
+// The nodes of a member that is this method go behind the others.
+fn put_body(
+    alloc: Global,
+    context: &Context,
+    method: u32,
+    nodes: &mut List<Node>,
+    entity: &Entity,
+    member: Member,
+) -> Result<Option<u32>, Stop>
+    ensures { GivesBody result nodes.new (spec.member_rose context.now (entity_view entity.now) (member_view member.entry)) method nodes.old }
+{
+    let fields = entity.fields.as_slice();
+    match member {
+        Member::Written(written) => emit(alloc, context, method, nodes, fields, written),
+        Member::Added => {
+            let body = emit_added(alloc, context, method, nodes, fields, entity.name.span)?;
+            Ok(Some(body))
+        }
+    }
+}
+
+// Whether a member with these locals is without a fault but for the count of nodes. A fault of its body comes before its 65th
+// slot.
+#[tactic(auto, using(crate::proofs::Outcomes::no_fault))]
+fn check_member(
+    alloc: Global,
+    context: &Context,
+    entity: &Entity,
+    member: Member,
+    locals: &[Local],
+) -> Result<(), NameFault>
+    ensures { spec.Passes result (spec.before_nodes context.now (entity_view entity.now) (member_view member.entry) locals.now) }
+{
+    match check_body(alloc, context, entity, member) {
+        Err(fault) => Err(name_fault(fault)),
+        Ok(()) => match extra_slot(member, locals) {
+            Some(span) => Err(NameFault::TooMany(Which::Slots, span)),
+            None => Ok(()),
+        },
+    }
+}
+
+// What becomes of a member with these locals that is this method: the nodes of its body behind the others, or its first
+// fault.
+fn member_outcome(
+    alloc: Global,
+    context: &Context,
+    method: u32,
+    nodes: &mut List<Node>,
+    entity: &Entity,
+    member: Member,
+    locals: &[Local],
+) -> Result<Option<u32>, NameFault>
+    ensures { spec.Becomes result nodes.new (spec.outcome_with context.now method (entity_view entity.now) (member_view member.entry) locals.now nodes.old) }
+{
+    check_member(alloc, context, entity, member, locals)?;
+    match put_body(alloc, context, method, nodes, entity, member) {
+        Ok(body) => Ok(body),
+        Err(Stop::Full) => Err(NameFault::TooMany(Which::Nodes, member.span(entity.name.span))),
+        Err(Stop::Memory) => Err(NameFault::Memory),
+    }
+}
+
+// The method and the slots of a member of the entity of this number go behind the others. Its nodes are there.
+fn join(
+    alloc: Global,
+    context: &Context,
+    parts: &mut Parts,
+    number_of_entity: u32,
+    entity: &Entity,
+    member: Member,
+    locals: &[Local],
+    first_node: u32,
+    body: Option<u32>,
+) -> Result<(), AllocError>
+    requires { locals.now ≡ signatures.locals_of (entity_view entity.now) (member_view member) }
+    ensures { OnOk result (parts_view parts.new ≡ spec.joined_with context.now (parts_view parts.old) (owned number_of_entity (entity_view entity.now) (member_view member.entry)) first_node body) }
+{
+    let method = number(parts.methods.len())?;
+    let first_slot = number(parts.slots.len())?;
+    let params = params_of(alloc, context, member)?;
+    let slots = &mut parts.slots;
+    add_slots(
+        context,
+        slots,
+        method,
+        number_of_entity,
+        member,
+        params.as_slice(),
+        locals,
+    )?;
+    let behind = number(parts.slots.len())?;
+    parts.methods.push(Method {
+        entity: number_of_entity,
+        name: context.text_of(member.text()),
+        kind: kind_of(entity.kind, member),
+        receiver: receiver_of(member),
+        params,
+        result: result_of(context, entity.kind, number_of_entity, member),
+        first_slot,
+        slots: behind - first_slot,
+        first_node,
+        body,
+        span: member.span(entity.name.span),
+    })?;
+    Ok(())
+}
+
+/// A member of the entity of this number, with these locals, goes behind the others, or its first fault is told.
+pub(crate) fn add_member(
+    alloc: Global,
+    context: &Context,
+    parts: &mut Parts,
+    number_of_entity: u32,
+    entity: &Entity,
+    member: Member,
+    locals: &[Local],
+) -> Result<(), NameFault>
+    requires { locals.now ≡ signatures.locals_of (entity_view entity.now) (member_view member) }
+    ensures { spec.Grows result (parts_view parts.new) (and_member context.now (parts_view parts.old) (owned number_of_entity (entity_view entity.now) (member_view member.entry))) }
+{
+    let method = number(parts.methods.len())?;
+    let first_node = number(parts.nodes.len())?;
+    let nodes = &mut parts.nodes;
+    let body = member_outcome(alloc, context, method, nodes, entity, member, locals)?;
+    join(
+        alloc,
+        context,
+        parts,
+        number_of_entity,
+        entity,
+        member,
+        locals,
+        first_node,
+        body,
+    )?;
+    Ok(())
+}
+
+/// The parts before those of a file: the method of the language, which has neither slots nor nodes.
+pub(crate) fn built_in_parts(alloc: Global) -> Result<Parts, AllocError>
+    ensures { IfOk result (λ p. parts_view p ≡ language_parts) }
+{
+    let mut methods = List::new(alloc);
+    methods.push(make_print(alloc)?)?;
+    Ok(Parts {
+        methods,
+        slots: List::new(alloc),
+        nodes: List::new(alloc),
+    })
+}

@@ -1,0 +1,154 @@
+//! The slots of a member.
+ghost use Rattle.std.specs.Prelude.{◌≡◌, ◌++◌, ◌∷◌, [], map, IfOk, OnOk};
+ghost use Rattle.std.specs.Option.{option_copied};
+ghost use Rattle.pc_tree.specs.View.{entity_view};
+ghost use Rattle.pc_core.specs.Methods as methods;
+ghost use Rattle.pc_stands.specs.Slots as local_specs;
+ghost use Rattle.pc_program.specs.Signatures as spec;
+ghost use Rattle.pc_elab.specs.Slots as counts;
+ghost use Rattle.pc_elab.specs.Views.{member_view};
+
+use crate::member::Member;
+use crate::signature::receiver_of;
+use pc_body::{Context, Local, Placed, added_locals, locals, slots};
+use pc_caps::{Cap, List};
+use pc_core::{ParamInfo, Slot, SlotKind};
+use pc_tree::{Entity, TypeRef};
+use std::alloc::{AllocError, Global};
+
+/// How many slots a program may have at most. No memory holds so many.
+const MOST_SLOTS: usize = 4_294_967_295;
+
+/// The locals of a member of this entity.
+pub(crate) fn locals_of(
+    alloc: Global,
+    entity: &Entity,
+    member: Member,
+) -> Result<List<Local>, AllocError>
+    ensures { IfOk result (λ l. l ≡ spec.locals_of (entity_view entity.now) (member_view member.entry)) }
+{
+    match member {
+        Member::Written(method) => locals(alloc, entity.fields.as_slice(), method),
+        Member::Added => added_locals(alloc, entity.fields.as_slice()),
+    }
+}
+
+// The index of the slot of a member's first local, behind `this` and the parameters.
+fn first_local(member: Member) -> Result<u32, AllocError>
+    ensures { IfOk result (λ n. n ≡ counts.first_local (member_view member.entry)) }
+{
+    match member {
+        Member::Written(method) => {
+            let params = method.params.len();
+            if params >= MOST_SLOTS {
+                return Err(AllocError);
+            }
+            Ok(1 + params as u32)
+        }
+        Member::Added => Ok(1),
+    }
+}
+
+/// The places of a member's locals, which are these, and their slots.
+pub(crate) fn placed_of(
+    alloc: Global,
+    member: Member,
+    locals: &[Local],
+) -> Result<List<Placed>, AllocError>
+    ensures { IfOk result (λ l. l ≡ local_specs.placed_from (counts.first_local (member_view member.entry)) locals.now) }
+{
+    slots(alloc, first_local(member)?, locals)
+}
+
+// The slot of `this` in a member of the entity of this number.
+fn this_slot(method: u32, number: u32, member: Member) -> Slot
+    ensures { result ≡ counts.this_of method number (member_view member.entry) }
+{
+    Slot {
+        method,
+        kind: SlotKind::This,
+        depth: 0,
+        written: Some((number, receiver_of(member))),
+    }
+}
+
+// The slot of a parameter.
+fn param_slot(method: u32, param: &ParamInfo) -> Slot
+    ensures { result ≡ methods.param_slot method param.now }
+{
+    Slot {
+        method,
+        kind: SlotKind::Param,
+        depth: 0,
+        written: Some((param.entity, param.cap)),
+    }
+}
+
+// The type that is written for a local.
+fn written_of(context: &Context, ty: Option<&TypeRef>) -> Option<(u32, Cap)>
+    ensures { result ≡ local_specs.written_of context.now (option_copied ty.entry) }
+{
+    match ty {
+        Some(ty) => context.type_of(ty),
+        None => None,
+    }
+}
+
+// The slot of a local.
+fn local_slot(context: &Context, method: u32, local: &Local) -> Slot
+    ensures { result ≡ local_specs.local_slot context.now method local.now }
+{
+    Slot {
+        method,
+        kind: if local.is_fixed() {
+            SlotKind::Let
+        } else {
+            SlotKind::Var
+        },
+        depth: local.depth(),
+        written: written_of(context, local.ty()),
+    }
+}
+
+// The slots of these parameters go behind the others.
+fn add_params(slots: &mut List<Slot>, method: u32, params: &[ParamInfo]) -> Result<(), AllocError>
+    ensures { OnOk result (slots.new ≡ slots.old ++ map (methods.param_slot method) params.now) }
+{
+    for param in params {
+        slots.push(param_slot(method, param))?;
+    }
+    Ok(())
+}
+
+// The slots of these locals go behind the others.
+fn add_locals(
+    context: &Context,
+    slots: &mut List<Slot>,
+    method: u32,
+    locals: &[Local],
+) -> Result<(), AllocError>
+    ensures { OnOk result (slots.new ≡ slots.old ++ map (local_specs.local_slot context.now method) locals.now) }
+{
+    for local in locals {
+        slots.push(local_slot(context, method, local))?;
+    }
+    Ok(())
+}
+
+/// The slots of a member that is this method, with these parameters and locals, go behind the others: `this`, then the
+/// parameters, then the locals. The entity has this number.
+pub(crate) fn add_slots(
+    context: &Context,
+    slots: &mut List<Slot>,
+    method: u32,
+    number: u32,
+    member: Member,
+    params: &[ParamInfo],
+    locals: &[Local],
+) -> Result<(), AllocError>
+    ensures { OnOk result (slots.new ≡ slots.old ++ counts.slots_with context.now method number (member_view member.entry) params.now locals.now) }
+{
+    slots.push(this_slot(method, number, member))?;
+    add_params(slots, method, params)?;
+    add_locals(context, slots, method, locals)
+}

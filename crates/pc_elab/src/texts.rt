@@ -1,0 +1,41 @@
+//! The texts of a file.
+ghost use Rattle.std.specs.Prelude.{◌≡◌, ◌<◌, ◌^◌, length, IfOk};
+ghost use Rattle.pc_tree.specs.View.{file_view};
+ghost use Rattle.pc_program.specs.Known.{texts_of};
+
+use pc_body::add_texts;
+use pc_caps::List;
+use pc_names::{NameTable, add_member_texts};
+use pc_tree::File;
+use std::alloc::{AllocError, Global};
+
+/// The texts of a file, each once: those of the language, then the names of the fields and methods, and then the names
+/// behind a `.`.
+pub(crate) fn table_texts(alloc: Global, file: &File) -> Result<NameTable, AllocError>
+    ensures { IfOk result (λ t. t ≡ texts_of (file_view file.now)) }
+{
+    let mut table = NameTable::new(alloc);
+    table.add(b"out")?;
+    table.add(b"print")?;
+    table.add(b"create")?;
+    table.add(b"apply")?;
+    add_member_texts(&mut table, file.entities.as_slice())?;
+    add_texts(&mut table, file.entities.as_slice())?;
+    Ok(table)
+}
+
+/// The texts of a table by their numbers.
+#[tactic(auto, using(crate::proofs::Firsts::get_some, crate::proofs::Firsts::get_none))]
+pub(crate) fn list_texts(alloc: Global, table: &NameTable) -> Result<List<List<u8>>, AllocError>
+    ensures texts { IfOk result (λ l. l ≡ table.now) }
+    ensures few { IfOk result (λ l. length l < 2 ^ 32) }
+{
+    let mut texts = List::new(alloc);
+    for number in 0..table.len() {
+        match table.get(number) {
+            Some(text) => texts.push(List::from_slice(alloc, text)?)?,
+            None => {}
+        }
+    }
+    Ok(texts)
+}
