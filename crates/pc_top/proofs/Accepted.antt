@@ -16,7 +16,7 @@ use Rattle.pc_top.specs.Check.Deriving.{derives, declared, no_rule, unset}
 use Rattle.pc_top.specs.Command.{Text, Asked, check, judge, command_of}
 use Rattle.pc_top.specs.Ends.{Change}
 use Rattle.pc_top.specs.Faults.{fault_status}
-use Rattle.pc_top.specs.FirstForm.{IsDerivable}
+use Rattle.pc_top.specs.CoreOf.{IsDerivable}
 use Rattle.pc_top.specs.Judge.{DerivationStage, JudgeStage, IsJudge, judged, text_status}
 use Rattle.pc_top.specs.Judge.Reads.{refuses}
 use Rattle.pc_top.specs.Judge.Judging.{holds, fails}
@@ -25,7 +25,12 @@ use Rattle.pc_top.specs.Named.{Named, Reading, whole, Gives}
 use Rattle.pc_top.specs.Source.{CoreStage, SourceStage, source_limit}
 use Rattle.pc_top.specs.Source.Length.{fits, is_longer}
 use Rattle.pc_top.specs.Source.Lexing.{faulty}
-use Rattle.pc_top.specs.Source.Form.{not_built}
+use Rattle.pc_top.specs.Source.Parsing.{astray, nested}
+use Rattle.pc_top.specs.Source.Elaborating.{misnamed, misused}
+use Rattle.pc_names.specs.declared.fault.NameFault.{NameFault}
+use Rattle.pc_names.specs.declared.fault.NameFault.TheVariants as names
+use Rattle.pc_top.specs.Names.{name_status}
+use Rattle.pc_top.specs.Source.Kinds.{not_built}
 use Rattle.pc_top.specs.Source.TextStage.{has_none}
 use Rattle.pc_top.specs.Verdict.{Verdict, ended}
 use Rattle.pc_top.specs.declared.source.Source.{Source}
@@ -44,9 +49,22 @@ text_refuses (deriv.BadLine n) e = omega arith
 text_refuses deriv.TooMany e = omega arith
 text_refuses deriv.Memory e = omega arith
 
+name_refuses : (f : NameFault) → name_status f ≡ 0 → ⊥
+name_refuses (names.Double s) e = omega arith
+name_refuses (names.Unknown s) e = omega arith
+name_refuses names.NoMain e = omega arith
+name_refuses (names.BadMain s) e = omega arith
+name_refuses (names.Cycle s) e = omega arith
+name_refuses (names.TooMany w s) e = omega arith
+name_refuses names.Memory e = omega arith
+
 core_refuses : {name bytes : Text} {v : Verdict} → CoreStage name bytes (Err v) → v.status ≡ 0 → ⊥
 core_refuses (stops (faulty f h)) e = fault_refuses f e
-core_refuses (goes t (not_built n)) e = omega arith
+core_refuses (goes t (stops (astray h))) e = omega arith
+core_refuses (goes t (stops (nested h))) e = omega arith
+core_refuses (goes t (goes tree (stops (misnamed f o h)))) e = name_refuses f e
+core_refuses (goes t (goes tree (stops (misused f o h)))) e = name_refuses f e
+core_refuses (goes t (goes tree (goes core (not_built n)))) e = omega arith
 
 pub source_refuses : {name : Text} {r : Reading} {v : Verdict} → SourceStage name r (Err v) → v.status ≡ 0 → ⊥
 source_refuses (stops is_longer) e = omega arith

@@ -7,22 +7,23 @@ use Rattle.pc_check.specs.declared.fault.CheckFault.TheVariants as fault
 use Rattle.pc_ann.specs.declared.annotation.Ann.{Ann}
 use Rattle.pc_rules.specs.Valid.{Valid}
 use Rattle.pc_deriv.specs.Limits.{slot_limit, node_limit}
-use Rattle.pc_first.specs.Cores.{core_of}
-use Rattle.pc_first.specs.FirstForm.{FormedFirst}
-use Rattle.pc_first.specs.Naming.{well_named}
-use Rattle.pc_first.specs.declared.program.Program.{Program}
+use Rattle.pc_core.specs.Formed.{Formed}
+use Rattle.pc_order.specs.Laws.{TokensAscend}
+use Rattle.pc_elab.specs.Cores.{CoresAreFormed as FilesAreFormed}
 use Rattle.pc_top.specs.After.After.{goes}
 use Rattle.pc_top.specs.Check.{Deriving, IsCheck}
 use Rattle.pc_top.specs.Check.Deriving.{declared, no_rule, unset}
 use Rattle.pc_top.specs.Command.{Text}
 use Rattle.pc_top.specs.CoreFaults.{IsCoreRefusal, IsSmall, node_start}
 use Rattle.pc_top.specs.Ends.{Stops, change}
-use Rattle.pc_top.specs.FirstForm.{CoreOf}
+use Rattle.pc_top.specs.CoreOf.{CoreOf, CoresAreFormed}
 use Rattle.pc_top.specs.Named.{Named, Reading, whole, FailedAt}
 use Rattle.pc_top.specs.Source.{SourceStage, source_limit}
 use Rattle.pc_top.specs.Source.Length.{fits}
 use Rattle.pc_top.specs.Source.Lexing.{lexed}
-use Rattle.pc_top.specs.Source.Form.{says}
+use Rattle.pc_top.specs.Source.Parsing.{parsed}
+use Rattle.pc_top.specs.Source.Elaborating.{elaborated}
+use Rattle.pc_top.specs.Source.Kinds.{built}
 use Rattle.pc_top.specs.Source.TextStage.{has_core}
 use Rattle.pc_top.specs.Stages.{StageStops, PartGives}
 use Rattle.pc_top.specs.Verdict.{refused}
@@ -49,11 +50,16 @@ core_stops name source f Memory r h = tt
 
 -- a source that all stages let pass
 pub source_says : {name : Text} {r : Reading} {s : Source} → SourceStage name r (Ok s) → (r ≡ whole s.bytes) × CoreOf s.bytes s.core
-source_says (goes (fits {bytes = b}) (has_core (goes (lexed {ts = t} l) (says p a)))) = (refl, (p, (t, l.0, a), refl))
+source_says (goes (fits {bytes = b}) (has_core (goes (lexed {ts = t} l) (goes (parsed {file = f} tree) (goes (elaborated stands) (built first)))))) = (refl, (t, f, l.0, tree.0, stands))
 
--- its core is that of a program of the first form
-pub source_first : {name : Text} {r : Reading} {s : Source} → SourceStage name r (Ok s) → (p : Program) × (core_of p ≡ s.core) × (well_named p ≡ true)
-source_first h = let c = (source_says h).1 in (c.0, c.2, c.1.2.1)
+-- its core fits together and is small
+pub source_formed : CoresAreFormed → {name : Text} {r : Reading} {s : Source} → SourceStage name r (Ok s) → Formed s.core × IsSmall s.core
+source_formed law {s = s} h = law s.bytes s.core (source_says h).1
+
+pub core_formed : TokensAscend → FilesAreFormed → CoresAreFormed
+core_formed ascend formed bytes core c =
+    let is = formed c.1 core (c.0, c.3, ascend bytes c.0 c.2) c.4 in
+    (is.0, (is.1, is.2))
 
 -- the derivation stops behind the source's stages
 pub check_stops : (file : Named) (source : Source) (told : Option Text) (f g : ℕ) (s : Stop) → PartGives source_limit (SourceStage file.name) file source
@@ -63,16 +69,7 @@ check_stops file source told f g (File n) p h = absurd h
 check_stops file source told f g Sink p h = absurd h
 check_stops file source told f g Memory p h = inl (kept told)
 
--- a core of that form is small
-pub small_source : FormedFirst → {name : Text} {r : Reading} {s : Source} → SourceStage name r (Ok s) → IsSmall s.core
-small_source law {s = s} h =
-    let f = source_first h in
-    let first = law f.0 f.2 in
-    let few = first.few_slots in
-    let nodes = first.few_nodes in
-    subst IsSmall f.1 (omega (arith, few), omega (arith, nodes))
-
--- and so is its valid annotation
+-- A small core has small annotations.
 pub small_notes : (core : CoreData) (ann : Ann) → IsSmall core → Valid core ann → (length ann.slots ≤ slot_limit) × (length ann.notes ≤ node_limit)
 small_notes core ann small v =
     let few = small.0 in

@@ -1,12 +1,14 @@
 -- No two verdicts differ.
-use Rattle.std.proofs.Common.{◌≡◌, ◌<◌, ℕ, List, Option, Some, None, Ok, Err, refl, sym, ◌∙◌, ap, subst, length, arith, true, false}
+use Rattle.std.proofs.Common.{◌≡◌, Bool, ◌<◌, ℕ, List, Option, Some, None, ◌∷◌, Ok, Err, refl, sym, ◌∙◌, ap, subst, length, arith, true, false}
 use Rattle.std.specs.Prelude.{Result, IsSome, slice_get, codes}
 use Rattle.std.proofs.lemmas.Option.{same_Some, none-some}
 use Rattle.pc_ann.specs.declared.annotation.Ann.{Ann}
 use Rattle.pc_core.specs.declared.nodes.Node.{Node}
 use Rattle.pc_core.specs.CoreData.{CoreData}
 use Rattle.pc_token.specs.declared.kinds.Token.{Token}
+use Rattle.pc_grammar.specs.FileAnswers.{FileAnswer, OneFileAnswer, spelled, unexpected, too_deep}
 use Rattle.pc_lex.specs.Laws.{OneList, NotBoth, OneFault}
+use Rattle.pc_tree.specs.Tree as t
 use Rattle.pc_lex.specs.declared.fault.LexFault.{LexFault}
 use Rattle.pc_sub.specs.Declarations.{DeclOk, NoFaultWhereFit, first_fault}
 use Rattle.pc_sub.specs.declared.faults.DeclFault.{DeclFault}
@@ -18,41 +20,50 @@ use Rattle.pc_deriv.specs.Text.{deriv_text}
 use Rattle.pc_deriv.specs.declared.fault.DerivFault.{DerivFault}
 use Rattle.pc_judge.specs.Faults.{OneFirst, NotValid}
 use Rattle.pc_judge.specs.declared.faults.JudgeFault.{JudgeFault}
-use Rattle.pc_first.specs.Cores.{core_of}
+use Rattle.pc_names.specs.Laws.{NotBoth as NotBothNames, OneFault as OneNameFault}
+use Rattle.pc_names.specs.declared.fault.NameFault.{NameFault}
 use Rattle.pc_core.specs.declared.declarations.Method.{Method}
 use Rattle.pc_core.specs.Formed.{Formed}
-use Rattle.pc_first.specs.FirstForm.{FormedFirst, OneProgram}
-use Rattle.pc_first.specs.declared.program.Program.{Program}
+use Rattle.pc_program.specs.Laws.{OneCore, NotBoth as NotBothMembers, OneFault as OneMemberFault}
 use Rattle.pc_top.specs.After.{After, IsOne}
 use Rattle.pc_top.specs.After.After.{stops, goes}
 use Rattle.pc_top.specs.Asked.{Files, IsVerdictOf}
 use Rattle.pc_top.specs.Check.{Deriving, CheckStage}
 use Rattle.pc_top.specs.Check.Deriving.{derives, declared, no_rule, unset}
 use Rattle.pc_top.specs.Command.{Text, Asked, check, judge, command_of}
+use Rattle.pc_top.specs.CoreOf.{CoresAreFormed}
 use Rattle.pc_top.specs.CoreFaults.{offset_line, decl_offset, decl_text}
 use Rattle.pc_top.specs.Faults.{fault_status, fault_line}
 use Rattle.pc_top.specs.Judge.{Reads, DerivationStage, Judging, JudgeStage, judged, judge_line, text_status, text_line, derivation_limit}
 use Rattle.pc_top.specs.Judge.Reads.{reads, refuses}
 use Rattle.pc_top.specs.Judge.Judging.{holds, fails}
 use Rattle.pc_top.specs.Judge.IsJudge.{source_stops, source_stands}
+use Rattle.pc_top.specs.Names.{name_status, name_line}
 use Rattle.pc_top.specs.Named.{Reading, whole, longer, IsReading}
 use Rattle.pc_top.specs.One.{TellsOf, VerdictIsOne}
-use Rattle.pc_top.specs.Source.{Length, Lexing, Form, CoreStage, TextStage, SourceStage, source_limit}
+use Rattle.pc_top.specs.Source.{Length, Lexing, Parsing, Elaborating, Kinds, NameStage, TreeStage, CoreStage, TextStage, SourceStage, source_limit}
 use Rattle.pc_top.specs.Source.Length.{fits, is_longer}
 use Rattle.pc_top.specs.Source.Lexing.{lexed, faulty}
-use Rattle.pc_top.specs.Source.Form.{says, not_built}
+use Rattle.pc_top.specs.Source.Parsing.{parsed, astray, nested}
+use Rattle.pc_top.specs.Source.Elaborating.{elaborated, misnamed, misused}
+use Rattle.pc_top.specs.Source.Kinds.{built, not_built}
 use Rattle.pc_top.specs.Source.TextStage.{has_core, has_none}
 use Rattle.pc_top.specs.Verdict.{Verdict, refused, ended}
 use Rattle.pc_top.specs.declared.source.Source.{Source}
-use Rattle.pc_top.proofs.Deriving.{source_first}
+use Rattle.pc_top.proofs.Deriving.{source_formed}
 
 -- What the verdicts rest on.
 pub record Laws : Type 0 where
   pub list : OneList
   pub both : NotBoth
   pub fault : OneFault
-  pub spelled : OneProgram
-  pub formed : FormedFirst
+  pub tree : OneFileAnswer
+  pub core : OneCore
+  pub misnamed : NotBothNames
+  pub misused : NotBothMembers
+  pub name_fault : OneNameFault
+  pub body_fault : OneMemberFault
+  pub formed : CoresAreFormed
   pub fits : NoFaultWhereFit
   pub valid : OneValid
   pub ruleless : NoneWithoutRule
@@ -95,6 +106,27 @@ one_length limit name r _ _ is_longer is_longer = refl
 
 -- ---- the source
 
+true_false : (b : Bool) → b ≡ true → b ≡ false → ⊥
+true_false b p q = cc
+
+file_same : (f g : t.File) → spelled f ≡ spelled g → f ≡ g
+file_same f g e = cc e
+
+unexpected_same : (x y : Token) (r q : List Token) → unexpected (x ∷ r) ≡ unexpected (y ∷ q) → x ≡ y
+unexpected_same x y r q e = cc e
+
+deep_same : (x y : Token) (r q : List Token) → too_deep (x ∷ r) ≡ too_deep (y ∷ q) → x ≡ y
+deep_same x y r q e = cc e
+
+spelled_unexpected : (f : t.File) (r : List Token) → spelled f ≡ unexpected r → ⊥
+spelled_unexpected f r e = cc
+
+spelled_deep : (f : t.File) (r : List Token) → spelled f ≡ too_deep r → ⊥
+spelled_deep f r e = cc
+
+unexpected_deep : (r q : List Token) → unexpected r ≡ too_deep q → ⊥
+unexpected_deep r q e = cc
+
 module _ (laws : Laws) where
   one_lexing : (name bytes : Text) → IsOne (Lexing name bytes)
   one_lexing name bytes _ _ (lexed {ts = t} a) (lexed {ts = u} b) = ap (λ (x : List Token). Ok x) (laws.list bytes t u a.0 b.0)
@@ -102,14 +134,45 @@ module _ (laws : Laws) where
   one_lexing name bytes _ _ (faulty f a) (lexed {ts = t} b) = absurd (laws.both bytes t f b a)
   one_lexing name bytes _ _ (faulty f a) (faulty g b) = ap (λ (x : LexFault). Err (refused (fault_status x) (fault_line name bytes x))) (laws.fault bytes f g a b)
 
-  one_form : (name : Text) (ts : List Token) → IsOne (Form name ts)
-  one_form name ts _ _ (says p a) (says q b) = ap (λ (x : Program). Ok (core_of x)) (laws.spelled ts p q a b)
-  one_form name ts _ _ (says p a) (not_built n) = absurd (n p a)
-  one_form name ts _ _ (not_built n) (says p a) = absurd (n p a)
-  one_form name ts _ _ (not_built n) (not_built m) = refl
+  -- the file of an answer, and the place of the token that one names
+  one_parsing : (name bytes : Text) (ts : List Token) → IsOne (Parsing name bytes ts)
+  one_parsing name bytes ts _ _ (parsed {file = f} a) (parsed {file = g} b) = ap (λ (x : t.File). Ok x) (file_same f g (laws.tree ts (spelled f) (spelled g) a b))
+  one_parsing name bytes ts _ _ (parsed {file = f} a) (astray {x = x} {rest = r} b) = absurd (spelled_unexpected f (x ∷ r) (laws.tree ts (spelled f) (unexpected (x ∷ r)) a b))
+  one_parsing name bytes ts _ _ (parsed {file = f} a) (nested {x = x} {rest = r} b) = absurd (spelled_deep f (x ∷ r) (laws.tree ts (spelled f) (too_deep (x ∷ r)) a b))
+  one_parsing name bytes ts _ _ (astray {x = x} {rest = r} a) (parsed {file = f} b) = absurd (spelled_unexpected f (x ∷ r) (laws.tree ts (spelled f) (unexpected (x ∷ r)) b a))
+  one_parsing name bytes ts _ _ (astray {x = x} {rest = r} a) (astray {x = y} {rest = q} b) =
+      ap (λ (z : Token). Err (refused 3 (offset_line name bytes z.span.start (codes "unexpected")))) (unexpected_same x y r q (laws.tree ts (unexpected (x ∷ r)) (unexpected (y ∷ q)) a b))
+  one_parsing name bytes ts _ _ (astray {x = x} {rest = r} a) (nested {x = y} {rest = q} b) = absurd (unexpected_deep (x ∷ r) (y ∷ q) (laws.tree ts (unexpected (x ∷ r)) (too_deep (y ∷ q)) a b))
+  one_parsing name bytes ts _ _ (nested {x = x} {rest = r} a) (parsed {file = f} b) = absurd (spelled_deep f (x ∷ r) (laws.tree ts (spelled f) (too_deep (x ∷ r)) b a))
+  one_parsing name bytes ts _ _ (nested {x = x} {rest = r} a) (astray {x = y} {rest = q} b) = absurd (unexpected_deep (y ∷ q) (x ∷ r) (laws.tree ts (unexpected (y ∷ q)) (too_deep (x ∷ r)) b a))
+  one_parsing name bytes ts _ _ (nested {x = x} {rest = r} a) (nested {x = y} {rest = q} b) =
+      ap (λ (z : Token). Err (refused 8 (offset_line name bytes z.span.start (codes "nested too deep")))) (deep_same x y r q (laws.tree ts (too_deep (x ∷ r)) (too_deep (y ∷ q)) a b))
+
+  one_elaborating : (name bytes : Text) (file : t.File) → IsOne (Elaborating name bytes file)
+  one_elaborating name bytes file _ _ (elaborated {core = c} a) (elaborated {core = d} b) = ap (λ (x : CoreData). Ok x) (laws.core file c d a b)
+  one_elaborating name bytes file _ _ (elaborated {core = c} a) (misnamed f o h) = absurd (laws.misnamed file f a.0 o h a.1)
+  one_elaborating name bytes file _ _ (elaborated {core = c} a) (misused f o h) = absurd (laws.misused file c f a h)
+  one_elaborating name bytes file _ _ (misnamed f o h) (elaborated {core = c} a) = absurd (laws.misnamed file f a.0 o h a.1)
+  one_elaborating name bytes file _ _ (misnamed f o h) (misnamed g p i) = ap (λ (x : NameFault). Err (refused (name_status x) (name_line name bytes x))) (laws.name_fault file f g o p h i)
+  one_elaborating name bytes file _ _ (misnamed f o h) (misused g p i) = absurd (laws.misnamed file f i.0 o h i.1)
+  one_elaborating name bytes file _ _ (misused f o h) (elaborated {core = c} a) = absurd (laws.misused file c f a h)
+  one_elaborating name bytes file _ _ (misused f o h) (misnamed g p i) = absurd (laws.misnamed file g h.0 p i h.1)
+  one_elaborating name bytes file _ _ (misused f o h) (misused g p i) = ap (λ (x : NameFault). Err (refused (name_status x) (name_line name bytes x))) (laws.body_fault file f g h i)
+
+  one_kinds : (name : Text) (core : CoreData) → IsOne (Kinds name core)
+  one_kinds name core _ _ (built a) (built b) = refl
+  one_kinds name core _ _ (built a) (not_built b) = absurd (true_false _ a b)
+  one_kinds name core _ _ (not_built a) (built b) = absurd (true_false _ b a)
+  one_kinds name core _ _ (not_built a) (not_built b) = refl
+
+  one_naming : (name bytes : Text) (file : t.File) → IsOne (NameStage name bytes file)
+  one_naming name bytes file = after_is_one (Elaborating name bytes file) (Kinds name) (one_elaborating name bytes file) (λ core l. one_kinds name core)
+
+  one_tree : (name bytes : Text) (ts : List Token) → IsOne (TreeStage name bytes ts)
+  one_tree name bytes ts = after_is_one (Parsing name bytes ts) (NameStage name bytes) (one_parsing name bytes ts) (λ file l. one_naming name bytes file)
 
   one_core : (name bytes : Text) → IsOne (CoreStage name bytes)
-  one_core name bytes = after_is_one (Lexing name bytes) (Form name) (one_lexing name bytes) (λ ts l. one_form name ts)
+  one_core name bytes = after_is_one (Lexing name bytes) (TreeStage name bytes) (one_lexing name bytes) (λ ts l. one_tree name bytes ts)
 
   one_text : (name bytes : Text) → IsOne (TextStage name bytes)
   one_text name bytes _ _ (has_core {core = c} a) (has_core {core = d} b) =
@@ -155,7 +218,7 @@ module _ (laws : Laws) where
 
   -- the core of a source that all stages let pass
   formed_of : {name : Text} {r : Reading} {s : Source} → SourceStage name r (Ok s) → Formed s.core
-  formed_of h = let f = source_first h in subst Formed f.1 (laws.formed f.0 f.2).formed
+  formed_of h = (source_formed laws.formed h).0
 
   one_check : (name : Text) (r : Reading) → IsOne (CheckStage name r)
   one_check name r = after_is_one (SourceStage name r) (Deriving name) (one_source name r) (λ s h. one_deriving name s (formed_of h))

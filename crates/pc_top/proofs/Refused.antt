@@ -8,7 +8,6 @@ use Rattle.pc_core.specs.Formed.{Formed}
 use Rattle.pc_deriv.specs.declared.fault.DerivFault.{DerivFault}
 use Rattle.pc_deriv.specs.declared.fault.DerivFault.TheVariants as deriv
 use Rattle.pc_rules.specs.Valid.{Derivable}
-use Rattle.pc_first.specs.FirstForm.{FormedFirst}
 use Rattle.pc_top.specs.After.After.{stops, goes}
 use Rattle.pc_top.specs.Answer.{Answer}
 use Rattle.pc_top.specs.Answer.Answer.{told, file, out_failed, err_failed, file_err_failed, no_memory}
@@ -18,7 +17,7 @@ use Rattle.pc_top.specs.Check.Deriving.{derives, declared, no_rule, unset}
 use Rattle.pc_top.specs.Command.{Text, Asked, check, judge, command_of}
 use Rattle.pc_top.specs.Ends.{Change}
 use Rattle.pc_top.specs.Faults.{fault_status}
-use Rattle.pc_top.specs.FirstForm.{IsUnderivable}
+use Rattle.pc_top.specs.CoreOf.{CoresAreFormed, IsUnderivable}
 use Rattle.pc_top.specs.Judge.{DerivationStage, JudgeStage, IsJudge, judged, text_status}
 use Rattle.pc_top.specs.Judge.Reads.{refuses}
 use Rattle.pc_top.specs.Judge.Judging.{holds, fails}
@@ -27,11 +26,16 @@ use Rattle.pc_top.specs.Named.{Named, Reading, whole, Gives}
 use Rattle.pc_top.specs.Source.{CoreStage, SourceStage, source_limit}
 use Rattle.pc_top.specs.Source.Length.{fits, is_longer}
 use Rattle.pc_top.specs.Source.Lexing.{faulty}
-use Rattle.pc_top.specs.Source.Form.{not_built}
+use Rattle.pc_top.specs.Source.Parsing.{astray, nested}
+use Rattle.pc_top.specs.Source.Elaborating.{misnamed, misused}
+use Rattle.pc_names.specs.declared.fault.NameFault.{NameFault}
+use Rattle.pc_names.specs.declared.fault.NameFault.TheVariants as names
+use Rattle.pc_top.specs.Names.{name_status}
+use Rattle.pc_top.specs.Source.Kinds.{not_built}
 use Rattle.pc_top.specs.Source.TextStage.{has_none}
 use Rattle.pc_top.specs.Verdict.{Verdict, ended}
 use Rattle.pc_top.specs.declared.source.Source.{Source}
-use Rattle.pc_top.proofs.Deriving.{source_says, source_first}
+use Rattle.pc_top.proofs.Deriving.{source_says, source_formed}
 
 -- ---- the other refusals
 
@@ -48,9 +52,22 @@ text_high (deriv.BadLine n) = omega arith
 text_high deriv.TooMany = omega arith
 text_high deriv.Memory = omega arith
 
+name_high : (f : NameFault) → 2 ≤ name_status f
+name_high (names.Double s) = omega arith
+name_high (names.Unknown s) = omega arith
+name_high names.NoMain = omega arith
+name_high (names.BadMain s) = omega arith
+name_high (names.Cycle s) = omega arith
+name_high (names.TooMany w s) = omega arith
+name_high names.Memory = omega arith
+
 core_high : {name bytes : Text} {v : Verdict} → CoreStage name bytes (Err v) → 2 ≤ v.status
 core_high (stops (faulty f h)) = fault_high f
-core_high (goes t (not_built n)) = omega arith
+core_high (goes t (stops (astray h))) = omega arith
+core_high (goes t (stops (nested h))) = omega arith
+core_high (goes t (goes tree (stops (misnamed f o h)))) = name_high f
+core_high (goes t (goes tree (stops (misused f o h)))) = name_high f
+core_high (goes t (goes tree (goes core (not_built n)))) = omega arith
 
 source_high : {name : Text} {r : Reading} {v : Verdict} → SourceStage name r (Err v) → 2 ≤ v.status
 source_high (stops is_longer) = omega arith
@@ -75,7 +92,7 @@ underivable_told : (given : Option Text) (bytes : Text) → IsUnderivable bytes 
 underivable_told None bytes s e = tt
 underivable_told (Some b) bytes s e = subst IsUnderivable e s
 
-module _ (formed : FormedFirst) (ruleless : NoneWithoutRule) (setless : NoneWithUnset) (failing : NoneWithFault) where
+module _ (formed : CoresAreFormed) (ruleless : NoneWithoutRule) (setless : NoneWithUnset) (failing : NoneWithFault) where
   deriving_refuses : {name : Text} {s : Source} {end : Result Text Verdict} → Formed s.core → Deriving name s end → (ended end).status ≡ 1 → Derivable s.core → ⊥
   deriving_refuses is (derives ann v t) e d = absurd (omega arith)
   deriving_refuses {s = s} is (declared f g) e d = failing s.core f is g d
@@ -84,7 +101,7 @@ module _ (formed : FormedFirst) (ruleless : NoneWithoutRule) (setless : NoneWith
 
   check_refuses : {name : Text} {r : Reading} {end : Result Text Verdict} → CheckStage name r end → (ended end).status ≡ 1 → (s : Source) × SourceStage name r (Ok s) × (Derivable s.core → ⊥)
   check_refuses (stops h) e = let l = source_high h in absurd (omega (arith, l, e))
-  check_refuses (goes {x = s} h d) e = let f = source_first h in (s, h, deriving_refuses (subst Formed f.1 (formed f.0 f.2).formed) d e)
+  check_refuses (goes {x = s} h d) e = (s, h, deriving_refuses (source_formed formed h).0 d e)
 
   check_underivable : (source : Named) (v : Verdict) → IsCheck source v → v.status ≡ 1 → IfSome source.told IsUnderivable
   check_underivable source v c e =

@@ -2,7 +2,7 @@
 use Rattle.std.specs.Prelude.{ℕ, ◌≡◌, ◌⊎◌, Option, Some, None, List, IfSome}
 use Rattle.pc_top.specs.Check.{IsCheck}
 use Rattle.pc_top.specs.Command.{Text, Asked, check, judge, command_of}
-use Rattle.pc_top.specs.FirstForm.{IsDerivable, IsUnderivable}
+use Rattle.pc_top.specs.CoreOf.{IsDerivable, IsUnderivable}
 use Rattle.pc_top.specs.Judge.{IsJudge}
 use Rattle.pc_top.specs.Lines.{usage_line}
 use Rattle.pc_top.specs.Named.{Named, file_at, FailedAt}

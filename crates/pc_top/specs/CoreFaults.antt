@@ -21,6 +21,13 @@ use Rattle.pc_top.specs.declared.stop.Stop.TheVariants as stop
 abbrev pub offset_line : Text → Text → ℕ → Text → Text
 offset_line name bytes at what = place_line name (line_behind (take at bytes)) (column_behind (take at bytes)) what
 
+-- The refusal that names that byte with this status, or want of memory.
+abbrev pub IsPlaceRefusal : Text → Text → ℕ → ℕ → Text → Stop → Type 0
+IsPlaceRefusal name bytes wanted at what (stop.Refused status line) = (status ≡ wanted) × (line ≡ offset_line name bytes at what)
+IsPlaceRefusal name bytes wanted at what (stop.File n) = ⊥
+IsPlaceRefusal name bytes wanted at what stop.Sink = ⊥
+IsPlaceRefusal name bytes wanted at what stop.Memory = Unit {0}
+
 -- Where a part of the core starts in the source. What is not there starts at 0.
 abbrev pub entity_start : Option EntityDef → ℕ
 entity_start None = 0

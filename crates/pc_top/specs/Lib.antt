@@ -5,12 +5,14 @@ pub mod Check
 pub mod Command
 pub mod Complete
 pub mod CoreFaults
+pub mod CoreOf
 pub mod Ends
 pub mod Faults
-pub mod FirstForm
 pub mod Judge
+pub mod Kinds
 pub mod Lines
 pub mod Named
+pub mod Names
 pub mod One
 pub mod Place
 pub mod Reading

@@ -17,6 +17,9 @@ longer_line name limit = name ++ (codes ": longer than " ++ (decimal limit ++ (c
 abbrev pub not_built_line : Text → Text
 not_built_line name = name ++ (codes ": form not built" ++ line_end)
 
+abbrev pub no_main_line : Text → Text
+no_main_line name = name ++ (codes ": no Main" ++ line_end)
+
 -- A place in a file, by its line and column, and what is wrong there.
 abbrev pub place_line : Text → ℕ → ℕ → Text → Text
 place_line name line column what = name ++ (codes ":" ++ (decimal line ++ (codes ":" ++ (decimal column ++ (codes ": " ++ (what ++ line_end))))))

@@ -1,20 +1,26 @@
 -- The stages of a source, which every command goes through first.
-use Rattle.std.specs.Prelude.{ℕ, Result, Ok, Err, List}
+use Rattle.std.specs.Prelude.{ℕ, ◌≡◌, ◌∷◌, true, false, Result, Ok, Err, List, codes}
+use Rattle.pc_tree.specs.Tree as t
 use Rattle.pc_token.specs.declared.kinds.Token.{Token}
+use Rattle.pc_grammar.specs.FileAnswers.{IsFileAnswer, spelled, unexpected, too_deep}
 use Rattle.pc_lex.specs.Answers.{TokenList}
 use Rattle.pc_lex.specs.Pieces.{FirstFault}
 use Rattle.pc_lex.specs.declared.fault.LexFault.{LexFault}
 use Rattle.pc_core.specs.CoreData.{CoreData}
-use Rattle.pc_first.specs.Cores.{core_of}
+use Rattle.pc_names.specs.Laws.{OfFile}
+use Rattle.pc_names.specs.Names.{IsNameFault}
+use Rattle.pc_names.specs.declared.fault.NameFault.{NameFault}
+use Rattle.pc_program.specs.Cores.{Stands, IsElabFault}
 use Rattle.pc_top.specs.After.{After}
 use Rattle.pc_top.specs.Command.{Text}
+use Rattle.pc_top.specs.CoreFaults.{offset_line}
 use Rattle.pc_top.specs.Faults.{fault_status, fault_line}
-use Rattle.pc_first.specs.FirstForm.{Spell}
+use Rattle.pc_top.specs.Kinds.{has_first_kinds}
 use Rattle.pc_top.specs.Lines.{longer_line, not_built_line}
 use Rattle.pc_top.specs.Named.{Reading, whole, longer}
+use Rattle.pc_top.specs.Names.{name_status, name_line}
 use Rattle.pc_top.specs.Verdict.{Verdict, refused}
 use Rattle.pc_top.specs.declared.source.Source.{Source}
-use Rattle.pc_first.specs.declared.program.Program.{Program}
 
 -- how many bytes a source may have
 abbrev pub source_limit : ℕ
@@ -30,14 +36,36 @@ pub data Lexing (name : Text) (bytes : Text) : Result (List Token) Verdict → T
   lexed : {ts : List Token} → TokenList bytes ts → Lexing name bytes (Ok ts)
   faulty : (f : LexFault) → FirstFault bytes f → Lexing name bytes (Err (refused (fault_status f) (fault_line name bytes f)))
 
--- Its form: 14 where the tokens are not those of the first form, and else the core of what they say.
-pub data Form (name : Text) (ts : List Token) : Result CoreData Verdict → Type 0 where
-  says : (p : Program) → Spell ts p → Form name ts (Ok (core_of p))
-  not_built : ((p : Program) → Spell ts p → ⊥) → Form name ts (Err (refused 14 (not_built_line name)))
+-- Its tree: 3 at the first token with which no file begins, and 8 at the first that opens a level too many.
+pub data Parsing (name bytes : Text) (ts : List Token) : Result t.File Verdict → Type 0 where
+  parsed : {file : t.File} → IsFileAnswer ts (spelled file) → Parsing name bytes ts (Ok file)
+  astray : {x : Token} {rest : List Token} → IsFileAnswer ts (unexpected (x ∷ rest))
+      → Parsing name bytes ts (Err (refused 3 (offset_line name bytes x.span.start (codes "unexpected"))))
+  nested : {x : Token} {rest : List Token} → IsFileAnswer ts (too_deep (x ∷ rest))
+      → Parsing name bytes ts (Err (refused 8 (offset_line name bytes x.span.start (codes "nested too deep"))))
+
+-- Its core: 4, or 8 where a limit is passed, at the first fault of its names, or else at the first of its methods.
+pub data Elaborating (name bytes : Text) (file : t.File) : Result CoreData Verdict → Type 0 where
+  elaborated : {core : CoreData} → Stands file core → Elaborating name bytes file (Ok core)
+  misnamed : (f : NameFault) → OfFile f → IsNameFault file f → Elaborating name bytes file (Err (refused (name_status f) (name_line name bytes f)))
+  misused : (f : NameFault) → OfFile f → IsElabFault file f → Elaborating name bytes file (Err (refused (name_status f) (name_line name bytes f)))
+
+-- Its kinds: 14 where they are not built yet.
+pub data Kinds (name : Text) (core : CoreData) : Result CoreData Verdict → Type 0 where
+  built : has_first_kinds core ≡ true → Kinds name core (Ok core)
+  not_built : has_first_kinds core ≡ false → Kinds name core (Err (refused 14 (not_built_line name)))
+
+-- From its tree to its core.
+abbrev pub NameStage : Text → Text → t.File → Result CoreData Verdict → Type 0
+NameStage name bytes file = After (Elaborating name bytes file) (Kinds name)
+
+-- From its tokens to its core.
+abbrev pub TreeStage : Text → Text → List Token → Result CoreData Verdict → Type 0
+TreeStage name bytes ts = After (Parsing name bytes ts) (NameStage name bytes)
 
 -- From its bytes to its core.
 abbrev pub CoreStage : Text → Text → Result CoreData Verdict → Type 0
-CoreStage name bytes = After (Lexing name bytes) (Form name)
+CoreStage name bytes = After (Lexing name bytes) (TreeStage name bytes)
 
 -- The same, with the bytes, in which refusals name places.
 pub data TextStage (name bytes : Text) : Result Source Verdict → Type 0 where

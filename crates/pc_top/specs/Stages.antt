@@ -35,6 +35,10 @@ StageStops Stage Memory = Unit {0}
 abbrev pub StageEnds : {T : Type 0} → (Result T Verdict → Type 0) → Result T Stop → Type 0
 StageEnds Stage result = MatchResult result (λ x. Stage (Ok x)) (StageStops Stage)
 
+-- The same of a stage whose value is seen in another way.
+abbrev pub StageEndsAs : {S T : Type 0} → (S → T) → (Result T Verdict → Type 0) → Result S Stop → Type 0
+StageEndsAs view Stage result = MatchResult result (λ x. Stage (Ok (view x))) (StageStops Stage)
+
 -- How the writing of a text ended.
 abbrev pub WriteStops : Text → Change → Stop → Type 0
 WriteStops text out (Refused status line) = ⊥

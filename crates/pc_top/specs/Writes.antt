@@ -8,7 +8,7 @@ use Rattle.pc_deriv.specs.Faults.{IsText}
 use Rattle.pc_top.specs.Asked.{Files, IsVerdict}
 use Rattle.pc_top.specs.Command.{Text, Asked, check, judge, command_of}
 use Rattle.pc_top.specs.Ends.{Change}
-use Rattle.pc_top.specs.FirstForm.{CoreOf}
+use Rattle.pc_top.specs.CoreOf.{CoreOf}
 use Rattle.pc_top.specs.Lines.{line_end}
 use Rattle.pc_top.specs.Verdict.{done}
 

@@ -9,7 +9,7 @@ use std::test::Fail;
 /// The words, the source `a.pony`, the derivation `a.der`, and where the files, out and err fail, as the objects in
 /// memory take it.
 #[derive(Clone, Copy)]
-struct Given<'a> {
+pub(crate) struct Given<'a> {
     words: &'a [&'a str],
     source: &'a [u8],
     derivation: &'a [u8],
@@ -20,13 +20,13 @@ struct Given<'a> {
 
 /// The status, and what stands on out and err.
 #[derive(Clone, Copy)]
-struct Wanted<'a> {
-    status: u8,
-    out: &'a str,
-    err: &'a str,
+pub(crate) struct Wanted<'a> {
+    pub status: u8,
+    pub out: &'a str,
+    pub err: &'a str,
 }
 
-const CHECK: &[&str] = &["check", "a.pony"];
+pub(crate) const CHECK: &[&str] = &["check", "a.pony"];
 
 const JUDGE: &[&str] = &["judge", "a.pony", "a.der"];
 
@@ -43,7 +43,7 @@ const NEW: &str = "n new 6 iso^ 3 0 3 0\n";
 const REST: &str = "n define - 3 0 7 0\nn seq - 3 0 3 0\nn body - 3 0 3 0";
 
 // A command on files that do not fail.
-fn whole<'a>(words: &'a [&'a str], source: &'a [u8], derivation: &'a [u8]) -> Given<'a> {
+pub(crate) fn whole<'a>(words: &'a [&'a str], source: &'a [u8], derivation: &'a [u8]) -> Given<'a> {
     Given {
         words,
         source,
@@ -55,7 +55,7 @@ fn whole<'a>(words: &'a [&'a str], source: &'a [u8], derivation: &'a [u8]) -> Gi
 }
 
 // Runs a command, and compares the answer.
-fn answers(
+pub(crate) fn answers(
     rt: &impl Abort,
     alloc: Global,
     given: Given<'_>,
@@ -131,11 +131,25 @@ fn programs_are_accepted_refused_or_not_built(rt: HostRuntime) -> Result<(), Fai
             0,
             "",
         ),
-        ("    let a: C iso = C let b: C tag = a\n", 14, form),
-        ("    let a: D iso = C\n", 14, form),
-        ("    let a: C iso = b\n", 14, form),
-        ("    let a: C iso = C\n    let a: C iso = C\n", 14, form),
-        ("    None\n", 14, form),
+        (
+            "    let a: C iso = C let b: C tag = a\n",
+            3,
+            "a.pony:4:22: unexpected\n",
+        ),
+        ("    let a: C iso = C; let b: C tag = a\n", 0, ""),
+        ("    \"\"\"Makes one.\"\"\"\n    C\n", 0, ""),
+        ("    (let a: C iso = C; consume a)\n", 0, ""),
+        ("    None\n", 0, ""),
+        ("    let a: C iso = (C; C)\n    env", 0, ""),
+        ("    env.out\n", 14, form),
+        ("    let a: U64 = 1\n", 14, form),
+        ("    let a: D iso = C\n", 4, "a.pony:4:12: name unknown\n"),
+        ("    let a: C iso = b\n", 4, "a.pony:4:20: name unknown\n"),
+        (
+            "    let a: C iso = C\n    let a: C iso = C\n",
+            4,
+            "a.pony:5:9: name twice\n",
+        ),
         (
             "    let a: U64 = 18446744073709551616\n",
             3,
@@ -223,7 +237,7 @@ fn faults_have_their_status_and_line(rt: HostRuntime) -> Result<(), Fail> {
     let alloc = rt.alloc();
     let source = SOURCE.as_bytes();
     let unread = "a.pony: cannot be read\n";
-    let unbuilt = "a.pony: form not built\n";
+    let unexpected = "a.pony:1:1: unexpected\n";
     let rows: [(
         &[&str],
         &[u8],
@@ -238,7 +252,7 @@ fn faults_have_their_status_and_line(rt: HostRuntime) -> Result<(), Fail> {
         (CHECK, source, &[1], &[], &[(1, 3)], 10, "", "a.p"),
         (CHECK, source, &[], &[(1, 0)], &[], 10, "", ""),
         (CHECK, source, &[], &[(1, 4)], &[], 10, "rcap", ""),
-        (CHECK, b"", &[], &[], &[], 14, "", unbuilt),
+        (CHECK, b"", &[], &[], &[], 3, "", unexpected),
         (CHECK, b"", &[], &[], &[(1, 3)], 10, "", "a.p"),
         (JUDGE, source, &[1], &[], &[], 9, "", unread),
         (
@@ -252,7 +266,7 @@ fn faults_have_their_status_and_line(rt: HostRuntime) -> Result<(), Fail> {
             "a.der: cannot be read\n",
         ),
         // Where the source is refused, the derivation is not read.
-        (JUDGE, b"", &[2], &[], &[], 14, "", unbuilt),
+        (JUDGE, b"", &[2], &[], &[], 3, "", unexpected),
     ];
     for (words, source, files, out, err, status, text, line) in rows {
         let given = Given {
@@ -277,9 +291,9 @@ fn faults_have_their_status_and_line(rt: HostRuntime) -> Result<(), Fail> {
 fn files_may_have_so_many_bytes_and_tokens(rt: HostRuntime) -> Result<(), Fail> {
     let alloc = rt.alloc();
     let rows = [
-        (b' ', 1_048_576, 14, "a.pony: form not built\n"),
+        (b' ', 1_048_576, 3, "a.pony:1:1048577: unexpected\n"),
         (b' ', 1_048_577, 8, "a.pony: longer than 1048576 bytes\n"),
-        (b'.', 200_000, 14, "a.pony: form not built\n"),
+        (b'.', 200_000, 3, "a.pony:1:1: unexpected\n"),
         (b'.', 200_001, 8, "a.pony:1:200001: too many tokens\n"),
     ];
     for (byte, size, status, err) in rows {

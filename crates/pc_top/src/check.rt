@@ -9,11 +9,11 @@ ghost use Rattle.pc_top.specs.Stages.{StageEnds};
 use crate::core_faults::refuse_core;
 use crate::source::{Source, read_source};
 use crate::stop::Stop;
+use crate::top::cores_of_sources_are_formed;
 use crate::writing::put_text;
 use pc_caps::List;
 use pc_check::check;
 use pc_deriv::write;
-use pc_first::cores_are_formed;
 use pc_io::{Files, Sink};
 use std::alloc::Global;
 
@@ -41,7 +41,7 @@ pub fn run_check<F: Files, O: Sink>(
         Ends (IsCheck source) (FailedAt source)
         (change (O.written out.old) (O.written out.new) (O.faults out.old) (O.faults out.new)) result }
 {
-    cores_are_formed();
+    cores_of_sources_are_formed();
     let source = read_source(alloc, files, name)?;
     let text = derive_text(alloc, name, &source)?;
     put_text(out, text.as_slice())

@@ -8,17 +8,25 @@ mod derivation;
 mod faults;
 mod finish;
 mod judge;
+mod kinds;
 mod lines;
+mod names;
 mod place;
 mod reading;
 mod source;
 mod stop;
 mod top;
+mod tree;
 mod writing;
 
 pub use top::{
-    rcap, refused_sources_have_no_derivation, verdict_is_one, written_derivations_are_accepted,
+    cores_of_sources_are_formed, rcap, refused_sources_have_no_derivation, verdict_is_one,
+    written_derivations_are_accepted,
 };
 
 #[cfg(test)]
 mod cases;
+#[cfg(test)]
+mod name_cases;
+#[cfg(test)]
+mod tree_cases;

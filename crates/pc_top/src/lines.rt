@@ -1,6 +1,6 @@
 //! The lines on err.
 ghost use Rattle.std.specs.Prelude.{◌≡◌, IfOk};
-ghost use Rattle.pc_top.specs.Lines.{bad_line, longer_line, many_line, node_line, not_built_line, place_line, shape_line, slot_line, unread_line, unset_line, usage_line};
+ghost use Rattle.pc_top.specs.Lines.{bad_line, longer_line, many_line, no_main_line, node_line, not_built_line, place_line, shape_line, slot_line, unread_line, unset_line, usage_line};
 
 use crate::place::Place;
 use pc_io::Bytes;
@@ -35,6 +35,14 @@ pub fn make_not_built_line(alloc: Global, name: &str) -> Result<Bytes, AllocErro
     ensures { IfOk result (λ line. line ≡ not_built_line name.now) }
 {
     let text = format!(in alloc; "{name}: form not built\n")?;
+    Bytes::copy_of(alloc, text.as_bytes())
+}
+
+/// `NAME: no Main`, with a line end.
+pub fn make_no_main_line(alloc: Global, name: &str) -> Result<Bytes, AllocError>
+    ensures { IfOk result (λ line. line ≡ no_main_line name.now) }
+{
+    let text = format!(in alloc; "{name}: no Main\n")?;
     Bytes::copy_of(alloc, text.as_bytes())
 }
 

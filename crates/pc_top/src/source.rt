@@ -1,21 +1,29 @@
-//! The source's stages, which every command goes through first: its length, its tokens, and its core, by the form that is
-//! built.
+//! The source's stages, which every command goes through first: its length, its tokens, its tree, its core, and
+//! whether that is built.
 ghost use Rattle.std.specs.Prelude.{◌≡◌, ◌≤◌, ℕ, List as Sequence, length};
+ghost use Rattle.pc_elab.specs.Cores.{Spelled};
 ghost use Rattle.pc_lex.specs.Limits.{text_limit};
+ghost use Rattle.pc_tree.specs.View.{file_view};
 ghost use Rattle.pc_top.specs.Named.{file_at};
-ghost use Rattle.pc_top.specs.Source.{CoreStage, Lexing, SourceStage, source_limit};
+ghost use Rattle.pc_top.specs.Source.{CoreStage, Elaborating, Lexing, SourceStage, source_limit};
 ghost use Rattle.pc_top.specs.Stages.{PartEnds, StageEnds};
 
 use crate::faults::refuse_fault;
+use crate::kinds::has_first_kinds;
 use crate::lines::make_not_built_line;
+use crate::names::refuse_name;
 use crate::reading::read_file;
 use crate::stop::Stop;
+use crate::tree::read_tree;
 use pc_caps::List;
 use pc_core::Core;
-use pc_first::{build_core, recognise};
+use pc_elab::elaborate;
 use pc_io::{Bytes, Files};
 use pc_lex::lex;
+use pc_names::collect;
+use pc_order::tokens_are_in_order;
 use pc_token::Token;
+use pc_tree::File;
 use std::alloc::Global;
 
 /// How many bytes a source may have.
@@ -46,12 +54,31 @@ fn read_core(alloc: Global, name: &str, bytes: &[u8]) -> Result<Core, Stop>
     ensures { StageEnds (CoreStage name.now bytes.now) result }
 {
     let tokens = read_tokens(alloc, name, bytes)?;
-    match recognise(alloc, tokens.as_slice())? {
-        Some(program) => Ok(build_core(alloc, &program)?),
-        None => Err(Stop::Refused {
+    tokens_are_in_order();
+    let file = read_tree(alloc, name, bytes, tokens.as_slice())?;
+    let core = elaborate_tree(alloc, name, bytes, &file)?;
+    if has_first_kinds(&core) {
+        Ok(core)
+    } else {
+        Err(Stop::Refused {
             status: 14,
             line: make_not_built_line(alloc, name)?,
-        }),
+        })
+    }
+}
+
+// The core of the source of this name with these bytes, whose tree this is.
+fn elaborate_tree(alloc: Global, name: &str, bytes: &[u8], file: &File) -> Result<Core, Stop>
+    requires { Spelled (file_view file.now) }
+    ensures { StageEnds (Elaborating name.now bytes.now (file_view file.now)) result }
+{
+    let names = match collect(alloc, file) {
+        Ok(names) => names,
+        Err(fault) => return Err(refuse_name(alloc, name, bytes, fault)),
+    };
+    match elaborate(alloc, file, &names) {
+        Ok(core) => Ok(core),
+        Err(fault) => Err(refuse_name(alloc, name, bytes, fault)),
     }
 }
 

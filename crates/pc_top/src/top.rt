@@ -4,6 +4,7 @@ ghost use Rattle.pc_top.specs.Answer.{Answer, IsWordsRefusal};
 ghost use Rattle.pc_top.specs.Asked.{Accepts, FailedIn, IsVerdict, Lacks, RefusedIsUnderivable, files_change};
 ghost use Rattle.pc_top.specs.Command.{texts};
 ghost use Rattle.pc_top.specs.Complete.{Completes};
+ghost use Rattle.pc_top.specs.CoreOf.{CoresAreFormed};
 ghost use Rattle.pc_top.specs.Ends.{Ends, change};
 ghost use Rattle.pc_top.specs.One.{VerdictIsOne};
 ghost use Rattle.pc_top.specs.Writes.{Writes, WrittenIsAccepted};
@@ -19,10 +20,14 @@ use pc_check::{
     nothing_is_derivable_without_a_rule,
 };
 use pc_deriv::annotations_are_one;
-use pc_first::{cores_are_formed, programs_are_one};
+use pc_elab::cores_are_formed;
+use pc_grammar::files_are_read;
 use pc_io::{Files, Sink};
 use pc_judge::{faulted_is_not_valid, one_fault_is_first};
 use pc_lex::{faults_are_told, tokens_are_one};
+use pc_names::names_are_one;
+use pc_order::tokens_are_in_order;
+use pc_program::cores_are_one;
 use pc_rules::one_annotation_is_valid;
 use pc_sub::no_fault_where_declarations_fit;
 use std::alloc::Global;
@@ -98,14 +103,24 @@ fn refuse_words(alloc: Global) -> Stop
     }
 }
 
+/// The core of a source fits together, and is so small that its annotations have a text.
+pub fn cores_of_sources_are_formed()
+    ensures { CoresAreFormed }
+{
+    tokens_are_in_order();
+    cores_are_formed();
+}
+
 /// There is one verdict for the words and for what the files tell.
 pub fn verdict_is_one()
     ensures { VerdictIsOne }
 {
     tokens_are_one();
     faults_are_told();
-    programs_are_one();
-    cores_are_formed();
+    files_are_read();
+    names_are_one();
+    cores_are_one();
+    cores_of_sources_are_formed();
     no_fault_where_declarations_fit();
     one_annotation_is_valid();
     nothing_is_derivable_without_a_rule();
@@ -127,7 +142,7 @@ pub fn written_derivations_are_accepted()
 pub fn refused_sources_have_no_derivation()
     ensures { RefusedIsUnderivable }
 {
-    cores_are_formed();
+    cores_of_sources_are_formed();
     nothing_is_derivable_without_a_rule();
     nothing_is_derivable_with_a_field_unset();
     nothing_is_derivable_with_a_declaration_that_fails();

@@ -5,12 +5,12 @@ use Rattle.pc_top.specs.Check.{IsCheck}
 use Rattle.pc_top.specs.Ends.{change}
 use Rattle.pc_top.specs.Named.{FailedAt, file_at}
 use Rattle.pc_top.specs.Source.{SourceStage, source_limit}
-use Rattle.pc_top.proofs.Deriving.{check_stops, small_source}
+use Rattle.pc_top.proofs.Deriving.{check_stops, source_formed}
 use Rattle.pc_top.proofs.Parts.{part_stops, text_ends}
 use Rattle.pc_top.proofs.check.run_check.Goals as goal
 
 pub derive_text-requires : goal.derive_text-requires
-derive_text-requires g c = small_source c.cores_are_formed.ensures c.in_ok-source.ensures.stage.2
+derive_text-requires g c = (source_formed c.cores_of_sources_are_formed.ensures c.in_ok-source.ensures.stage.2).1
 
 pub returns-in_err-source-clause-ends : goal.returns-in_err-source-clause-ends
 returns-in_err-source-clause-ends g c =

@@ -1,0 +1,13 @@
+use Rattle.pc_tree.specs.View.{file_view}
+use Rattle.pc_top.specs.Source.Elaborating.{elaborated}
+use Rattle.pc_top.proofs.Facts.{names_stop, members_stop}
+use Rattle.pc_top.proofs.source.elaborate_tree.Goals as goal
+
+pub returns-in-Err : goal.returns-in-Err
+returns-in-Err c = names_stop c.args.name.now c.args.bytes.now (file_view c.args.file.now) c.in-Err.fault c.refuse_name.result c.in-Err.ensures.err c.refuse_name.ensures
+
+pub returns-in-Ok-elaborate : goal.returns-in-Ok-elaborate
+returns-in-Ok-elaborate c = elaborated c.in-Ok-elaborate.ensures.core
+
+pub returns : goal.returns
+returns c = members_stop c.args.name.now c.args.bytes.now (file_view c.args.file.now) c.in-Err-elaborate.fault c.refuse_name-in-Err-elaborate.result c.in-Err-elaborate.ensures.fault c.refuse_name-in-Err-elaborate.ensures
