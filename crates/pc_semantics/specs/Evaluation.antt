@@ -5,11 +5,11 @@ use Rattle.pc_heap.specs.declared.value.Value.TheVariants.{Num, Truth, Text, Pri
 use Rattle.pc_core.specs.declared.nodes.Node.{Node}
 use Rattle.pc_core.specs.declared.nodes.NodeKind.{NodeKind}
 use Rattle.pc_core.specs.declared.nodes.NodeKind.TheVariants as node
-use Rattle.pc_machine.specs.declared.frames.Frame.{Frame}
-use Rattle.pc_machine.specs.declared.frames.Task.{Task}
-use Rattle.pc_machine.specs.declared.frames.Task.TheVariants as task
-use Rattle.pc_machine.specs.declared.outcome.Lack.TheVariants as lack
-use Rattle.pc_machine.specs.Around.{Move, Stuck, Goes, pushed, with_slot, doing}
+use Rattle.pc_semantics.specs.declared.frames.Frame.{Frame}
+use Rattle.pc_semantics.specs.declared.frames.Task.{Task}
+use Rattle.pc_semantics.specs.declared.frames.Task.TheVariants as task
+use Rattle.pc_semantics.specs.declared.outcome.Lack.TheVariants as lack
+use Rattle.pc_semantics.specs.Around.{Move, Stuck, Goes, pushed, with_slot, doing}
 
 -- ---- slots
 

@@ -14,16 +14,16 @@ use Rattle.pc_core.specs.declared.declarations.Method.{Method}
 use Rattle.pc_core.specs.declared.declarations.ParamInfo.{ParamInfo}
 use Rattle.pc_core.specs.declared.nodes.NodeKind.{NodeKind}
 use Rattle.pc_core.specs.declared.nodes.NodeKind.TheVariants as node
-use Rattle.pc_machine.specs.declared.access.Access.{Access}
-use Rattle.pc_machine.specs.declared.frames.Frame.{Frame}
-use Rattle.pc_machine.specs.declared.frames.Task.{Task}
-use Rattle.pc_machine.specs.declared.frames.Task.TheVariants as task
-use Rattle.pc_machine.specs.declared.mailbox.Message.{Message}
-use Rattle.pc_machine.specs.declared.outcome.Lack.{Lack}
-use Rattle.pc_machine.specs.declared.outcome.Outcome.TheVariants.{Lacks}
-use Rattle.pc_machine.specs.Configurations.{Configuration, own_address}
-use Rattle.pc_machine.specs.Step.{step}
-use Rattle.pc_machine.specs.Runs.{after}
+use Rattle.pc_semantics.specs.declared.access.Access.{Access}
+use Rattle.pc_semantics.specs.declared.frames.Frame.{Frame}
+use Rattle.pc_semantics.specs.declared.frames.Task.{Task}
+use Rattle.pc_semantics.specs.declared.frames.Task.TheVariants as task
+use Rattle.pc_semantics.specs.declared.mailbox.Message.{Message}
+use Rattle.pc_semantics.specs.declared.outcome.Lack.{Lack}
+use Rattle.pc_semantics.specs.declared.outcome.Outcome.TheVariants.{Lacks}
+use Rattle.pc_semantics.specs.Configurations.{Configuration, own_address}
+use Rattle.pc_semantics.specs.Step.{step}
+use Rattle.pc_semantics.specs.Runs.{after}
 
 -- ---- what an actor is about to touch
 

@@ -11,10 +11,10 @@ use Rattle.pc_core.specs.declared.declarations.MethodKind.{MethodKind}
 use Rattle.pc_core.specs.declared.declarations.MethodKind.TheVariants as method
 use Rattle.pc_core.specs.declared.nodes.NodeKind.{NodeKind}
 use Rattle.pc_core.specs.declared.nodes.NodeKind.TheVariants as node
-use Rattle.pc_machine.specs.declared.frames.Frame.{Frame}
-use Rattle.pc_machine.specs.declared.outcome.Lack.TheVariants as lack
-use Rattle.pc_machine.specs.Configurations.{own_address, blank_object}
-use Rattle.pc_machine.specs.Around.{Around, Move, Stuck, Goes, Makes, Spawns, Enters, Sends, Leaves, pushed, first_frame, none, entity_of, pop, pop_arguments}
+use Rattle.pc_semantics.specs.declared.frames.Frame.{Frame}
+use Rattle.pc_semantics.specs.declared.outcome.Lack.TheVariants as lack
+use Rattle.pc_semantics.specs.Configurations.{own_address, blank_object}
+use Rattle.pc_semantics.specs.Around.{Around, Move, Stuck, Goes, Makes, Spawns, Enters, Sends, Leaves, pushed, first_frame, none, entity_of, pop, pop_arguments}
 
 -- ---- counting
 

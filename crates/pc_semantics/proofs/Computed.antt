@@ -1,6 +1,6 @@
 -- The small programs, computed. Where a step looks at objects, the laws of maps say what is there.
-use Rattle.pc_machine.proofs.Maps.{get_inserted, gets, counts, makes}
-use Rattle.pc_machine.proofs.Parts.{text_is, Leads, then_run, then_moves}
+use Rattle.pc_semantics.proofs.Maps.{get_inserted, gets, counts, makes}
+use Rattle.pc_semantics.proofs.Parts.{text_is, Leads, then_run, then_moves}
 use Rattle.std.specs.Prelude.{◌≡◌, ℕ, zero, suc, Bool, true, false, List, [], ◌∷◌, ◌++◌, length, replicate, Some, codes, refl}
 use Rattle.std.specs.Fmt.{digits}
 use Rattle.std.specs.FinMap.{get, insert, len}
@@ -11,19 +11,19 @@ use Rattle.pc_heap.specs.declared.value.Address.{Address}
 use Rattle.pc_heap.specs.declared.value.Object.{Object}
 use Rattle.pc_heap.specs.declared.value.Value.TheVariants.{At, Text, Num}
 use Rattle.pc_heap.specs.declared.value.Value.{Value}
-use Rattle.pc_machine.specs.declared.frames.Frame.{Frame}
-use Rattle.pc_machine.specs.declared.frames.Task.{Task}
-use Rattle.pc_machine.specs.declared.frames.Task.TheVariants as task
-use Rattle.pc_machine.specs.declared.mailbox.Message.{Message}
-use Rattle.pc_machine.specs.declared.outcome.Outcome.TheVariants.{Moved, Skipped}
-use Rattle.pc_machine.specs.Configurations.{Configuration, start, own_address, environment_address, environment, blank_object}
-use Rattle.pc_machine.specs.Around.{none}
-use Rattle.pc_machine.specs.Runs.{after, outcomes, run_from, outcomes_from}
-use Rattle.pc_machine.specs.Text.{steps_of, waiting}
-use Rattle.pc_machine.specs.Programs.{hello, two_messages, making, touching}
-use Rattle.pc_machine.specs.Examples.{HelloRuns, NoActorNoStep, TakenInOrder, SpawnedHasItsMessage, ConstructorSets, LazyRight, BranchTaken, WhileTwice, Wraps, EachLackComes, TextTooLong, RacesAreSeen, both_about_to}
-use Rattle.pc_machine.specs.Safety.{access}
-use Rattle.pc_machine.specs.declared.access.Access.{Access}
+use Rattle.pc_semantics.specs.declared.frames.Frame.{Frame}
+use Rattle.pc_semantics.specs.declared.frames.Task.{Task}
+use Rattle.pc_semantics.specs.declared.frames.Task.TheVariants as task
+use Rattle.pc_semantics.specs.declared.mailbox.Message.{Message}
+use Rattle.pc_semantics.specs.declared.outcome.Outcome.TheVariants.{Moved, Skipped}
+use Rattle.pc_semantics.specs.Configurations.{Configuration, start, own_address, environment_address, environment, blank_object}
+use Rattle.pc_semantics.specs.Around.{none}
+use Rattle.pc_semantics.specs.Runs.{after, outcomes, run_from, outcomes_from}
+use Rattle.pc_semantics.specs.Text.{steps_of, waiting}
+use Rattle.pc_semantics.specs.Programs.{hello, two_messages, making, touching}
+use Rattle.pc_semantics.specs.Examples.{HelloRuns, NoActorNoStep, TakenInOrder, SpawnedHasItsMessage, ConstructorSets, LazyRight, BranchTaken, WhileTwice, Wraps, EachLackComes, TextTooLong, RacesAreSeen, both_about_to}
+use Rattle.pc_semantics.specs.Safety.{access}
+use Rattle.pc_semantics.specs.declared.access.Access.{Access}
 
 -- ---- runs in which no step looks at an object
 

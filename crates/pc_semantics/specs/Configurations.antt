@@ -10,8 +10,8 @@ use Rattle.pc_core.specs.CoreData.{CoreData}
 use Rattle.pc_core.specs.Words.{◌>>=◌}
 use Rattle.pc_core.specs.Lookup.{method_named}
 use Rattle.pc_core.specs.declared.declarations.EntityDef.{EntityDef}
-use Rattle.pc_machine.specs.declared.actors.Actor.{Actor}
-use Rattle.pc_machine.specs.declared.frames.Frame.{Frame}
+use Rattle.pc_semantics.specs.declared.actors.Actor.{Actor}
+use Rattle.pc_semantics.specs.declared.frames.Frame.{Frame}
 
 -- The objects by their addresses, the actors in the order in which they were made, and the texts that were printed. How many
 -- objects an actor has made is the number of addresses of which it is the maker.

@@ -2,15 +2,15 @@
 use Rattle.std.specs.Prelude.{Option, Some, None, slice_get}
 use Rattle.pc_core.specs.CoreData.{CoreData}
 use Rattle.pc_core.specs.declared.nodes.Node.{Node}
-use Rattle.pc_machine.specs.declared.frames.Frame.{Frame}
-use Rattle.pc_machine.specs.declared.frames.Task.{Task}
-use Rattle.pc_machine.specs.declared.frames.Task.TheVariants as task
-use Rattle.pc_machine.specs.declared.outcome.Lack.TheVariants as lack
-use Rattle.pc_machine.specs.Around.{Around, Move, Stuck, Goes, pop}
-use Rattle.pc_machine.specs.Evaluation.{evaluate_node}
-use Rattle.pc_machine.specs.Fields.{get_task, put_task, store_task}
-use Rattle.pc_machine.specs.Calls.{make_task, spawn_task, invoke_task, return_task}
-use Rattle.pc_machine.specs.Choices.{apply_task, test_task, branch_task, loop_task}
+use Rattle.pc_semantics.specs.declared.frames.Frame.{Frame}
+use Rattle.pc_semantics.specs.declared.frames.Task.{Task}
+use Rattle.pc_semantics.specs.declared.frames.Task.TheVariants as task
+use Rattle.pc_semantics.specs.declared.outcome.Lack.TheVariants as lack
+use Rattle.pc_semantics.specs.Around.{Around, Move, Stuck, Goes, pop}
+use Rattle.pc_semantics.specs.Evaluation.{evaluate_node}
+use Rattle.pc_semantics.specs.Fields.{get_task, put_task, store_task}
+use Rattle.pc_semantics.specs.Calls.{make_task, spawn_task, invoke_task, return_task}
+use Rattle.pc_semantics.specs.Choices.{apply_task, test_task, branch_task, loop_task}
 
 -- A task goes on with its node.
 abbrev pub at_node : Option Node → (Node → Move) → Move

@@ -6,12 +6,12 @@ use Rattle.pc_heap.specs.declared.value.Object.{Object}
 use Rattle.pc_heap.specs.declared.value.Value.{Value}
 use Rattle.pc_heap.specs.declared.value.Value.TheVariants.{Num, Truth, Text, Prim, At}
 use Rattle.pc_core.specs.declared.declarations.Method.{Method}
-use Rattle.pc_machine.specs.declared.frames.Frame.{Frame}
-use Rattle.pc_machine.specs.declared.frames.Task.{Task}
-use Rattle.pc_machine.specs.declared.frames.Task.TheVariants as task
-use Rattle.pc_machine.specs.declared.mailbox.Message.{Message}
-use Rattle.pc_machine.specs.declared.outcome.Lack.{Lack}
-use Rattle.pc_machine.specs.declared.outcome.Lack.TheVariants as lack
+use Rattle.pc_semantics.specs.declared.frames.Frame.{Frame}
+use Rattle.pc_semantics.specs.declared.frames.Task.{Task}
+use Rattle.pc_semantics.specs.declared.frames.Task.TheVariants as task
+use Rattle.pc_semantics.specs.declared.mailbox.Message.{Message}
+use Rattle.pc_semantics.specs.declared.outcome.Lack.{Lack}
+use Rattle.pc_semantics.specs.declared.outcome.Lack.TheVariants as lack
 
 -- What a task sees besides its frame: the objects, the number of its actor, and how many actors there are.
 pub record Around : Type 0 where

@@ -9,9 +9,9 @@ use Rattle.pc_core.specs.Lookup.{field_named}
 use Rattle.pc_core.specs.CoreData.{CoreData}
 use Rattle.pc_core.specs.declared.nodes.NodeKind.{NodeKind}
 use Rattle.pc_core.specs.declared.nodes.NodeKind.TheVariants as node
-use Rattle.pc_machine.specs.declared.frames.Frame.{Frame}
-use Rattle.pc_machine.specs.declared.outcome.Lack.TheVariants as lack
-use Rattle.pc_machine.specs.Around.{Around, Move, Stuck, Goes, Writes, pushed, with_slot, or_none, pop}
+use Rattle.pc_semantics.specs.declared.frames.Frame.{Frame}
+use Rattle.pc_semantics.specs.declared.outcome.Lack.TheVariants as lack
+use Rattle.pc_semantics.specs.Around.{Around, Move, Stuck, Goes, Writes, pushed, with_slot, or_none, pop}
 
 -- ---- Get: the origin goes, and the field's value comes
 

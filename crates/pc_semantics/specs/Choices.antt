@@ -4,11 +4,11 @@ use Rattle.pc_heap.specs.declared.value.Value.{Value}
 use Rattle.pc_heap.specs.declared.value.Value.TheVariants.{Truth}
 use Rattle.pc_core.specs.declared.nodes.NodeKind.{NodeKind}
 use Rattle.pc_core.specs.declared.nodes.NodeKind.TheVariants as node
-use Rattle.pc_machine.specs.declared.frames.Frame.{Frame}
-use Rattle.pc_machine.specs.declared.frames.Task.TheVariants as task
-use Rattle.pc_machine.specs.declared.outcome.Lack.TheVariants as lack
-use Rattle.pc_machine.specs.Around.{Move, Stuck, Goes, pushed, doing, none, pop}
-use Rattle.pc_machine.specs.Operators.{binary, negated, compared}
+use Rattle.pc_semantics.specs.declared.frames.Frame.{Frame}
+use Rattle.pc_semantics.specs.declared.frames.Task.TheVariants as task
+use Rattle.pc_semantics.specs.declared.outcome.Lack.TheVariants as lack
+use Rattle.pc_semantics.specs.Around.{Move, Stuck, Goes, pushed, doing, none, pop}
+use Rattle.pc_semantics.specs.Operators.{binary, negated, compared}
 
 -- A truth value is asked for.
 abbrev pub truth : (Bool → Frame → Move) → Value → Frame → Move

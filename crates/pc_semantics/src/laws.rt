@@ -1,6 +1,6 @@
 //! What the machine does with small programs. Each call does nothing, and its contract says what `specs/Examples.antt`
 //! says there of the programs in `specs/Programs.antt`.
-ghost use Rattle.pc_machine.specs.Examples as example;
+ghost use Rattle.pc_semantics.specs.Examples as example;
 
 /// `env.out.print("hi")`: eleven steps, the text and the counts.
 #[tactic(auto, using(crate::proofs::Computed::hello_runs))]

@@ -3,11 +3,11 @@ use Rattle.std.specs.Prelude.{ℕ, ◌+◌, Bool, true, false, List, [], ◌∷�
 use Rattle.std.specs.List.{count_by}
 use Rattle.std.specs.FinMap.{len}
 use Rattle.pc_core.specs.CoreData.{CoreData}
-use Rattle.pc_machine.specs.declared.actors.Actor.{Actor}
-use Rattle.pc_machine.specs.declared.outcome.Outcome.{Outcome}
-use Rattle.pc_machine.specs.declared.outcome.Outcome.TheVariants.{Moved, Skipped}
-use Rattle.pc_machine.specs.Configurations.{Configuration}
-use Rattle.pc_machine.specs.Runs.{after, outcomes}
+use Rattle.pc_semantics.specs.declared.actors.Actor.{Actor}
+use Rattle.pc_semantics.specs.declared.outcome.Outcome.{Outcome}
+use Rattle.pc_semantics.specs.declared.outcome.Outcome.TheVariants.{Moved, Skipped}
+use Rattle.pc_semantics.specs.Configurations.{Configuration}
+use Rattle.pc_semantics.specs.Runs.{after, outcomes}
 
 -- ---- schedules
 

@@ -7,18 +7,18 @@ use Rattle.pc_heap.specs.declared.value.Value.TheVariants.{Num, Truth, At}
 use Rattle.pc_core.specs.declared.nodes.NodeKind.TheVariants as node
 use Rattle.pc_core.specs.CoreData.{CoreData}
 use Rattle.pc_core.specs.Words.{◌>>=◌}
-use Rattle.pc_machine.specs.declared.actors.Actor.{Actor}
-use Rattle.pc_machine.specs.declared.frames.Task.{Task}
-use Rattle.pc_machine.specs.declared.frames.Task.TheVariants as task
-use Rattle.pc_machine.specs.declared.outcome.Lack.TheVariants as lack
-use Rattle.pc_machine.specs.declared.outcome.Outcome.{Outcome}
-use Rattle.pc_machine.specs.declared.outcome.Outcome.TheVariants.{Moved, Skipped, Lacks, TooLong}
-use Rattle.pc_machine.specs.Configurations.{Configuration, start, own_address}
-use Rattle.pc_machine.specs.Operators.{text_limit}
-use Rattle.pc_machine.specs.Runs.{after, outcomes}
-use Rattle.pc_machine.specs.Safety.{Race}
-use Rattle.pc_machine.specs.Text.{run_text, steps_of, waiting}
-use Rattle.pc_machine.specs.Programs.{hello, two_messages, one_node, on_one, on_two, lazy, choice, counting, spawning, making, touching, field_n, n, zz}
+use Rattle.pc_semantics.specs.declared.actors.Actor.{Actor}
+use Rattle.pc_semantics.specs.declared.frames.Task.{Task}
+use Rattle.pc_semantics.specs.declared.frames.Task.TheVariants as task
+use Rattle.pc_semantics.specs.declared.outcome.Lack.TheVariants as lack
+use Rattle.pc_semantics.specs.declared.outcome.Outcome.{Outcome}
+use Rattle.pc_semantics.specs.declared.outcome.Outcome.TheVariants.{Moved, Skipped, Lacks, TooLong}
+use Rattle.pc_semantics.specs.Configurations.{Configuration, start, own_address}
+use Rattle.pc_semantics.specs.Operators.{text_limit}
+use Rattle.pc_semantics.specs.Runs.{after, outcomes}
+use Rattle.pc_semantics.specs.Safety.{Race}
+use Rattle.pc_semantics.specs.Text.{run_text, steps_of, waiting}
+use Rattle.pc_semantics.specs.Programs.{hello, two_messages, one_node, on_one, on_two, lazy, choice, counting, spawning, making, touching, field_n, n, zz}
 
 -- The text of a run of turns, each an actor and how many steps it takes.
 abbrev pub Writes : CoreData → List (ℕ × ℕ) → List ℕ → Type 0

@@ -1,10 +1,10 @@
 -- Runs: the steps of a list of actors, one after the other.
 use Rattle.std.specs.Prelude.{ℕ, List, [], ◌∷◌}
 use Rattle.pc_core.specs.CoreData.{CoreData}
-use Rattle.pc_machine.specs.declared.outcome.Outcome.{Outcome}
-use Rattle.pc_machine.specs.declared.outcome.Outcome.TheVariants.{Moved, Skipped, Lacks, TooLong}
-use Rattle.pc_machine.specs.Configurations.{Configuration, start}
-use Rattle.pc_machine.specs.Step.{step}
+use Rattle.pc_semantics.specs.declared.outcome.Outcome.{Outcome}
+use Rattle.pc_semantics.specs.declared.outcome.Outcome.TheVariants.{Moved, Skipped, Lacks, TooLong}
+use Rattle.pc_semantics.specs.Configurations.{Configuration, start}
+use Rattle.pc_semantics.specs.Step.{step}
 
 -- What follows a step at c that ended so: the rest from the configuration behind it, or from c where nothing was to be
 -- done, or the end of the run.

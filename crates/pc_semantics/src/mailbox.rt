@@ -21,7 +21,7 @@ pub struct Mailbox {
 
 impl Model for Mailbox {
     ghost use Rattle.std.specs.Prelude.{List as Sequence};
-    ghost use Rattle.pc_machine.specs.declared.mailbox.Message.{Message};
+    ghost use Rattle.pc_semantics.specs.declared.mailbox.Message.{Message};
 
     ghost Value = { Sequence Message };
 

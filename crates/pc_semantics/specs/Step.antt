@@ -7,16 +7,16 @@ use Rattle.pc_heap.specs.declared.value.Value.{Value}
 use Rattle.pc_heap.specs.declared.value.Value.TheVariants.{Text, At}
 use Rattle.pc_core.specs.CoreData.{CoreData}
 use Rattle.pc_core.specs.declared.declarations.Method.{Method}
-use Rattle.pc_machine.specs.declared.actors.Actor.{Actor}
-use Rattle.pc_machine.specs.declared.frames.Frame.{Frame}
-use Rattle.pc_machine.specs.declared.frames.Task.{Task}
-use Rattle.pc_machine.specs.declared.mailbox.Message.{Message}
-use Rattle.pc_machine.specs.declared.outcome.Lack.TheVariants as lack
-use Rattle.pc_machine.specs.declared.outcome.Outcome.{Outcome}
-use Rattle.pc_machine.specs.declared.outcome.Outcome.TheVariants.{Moved, Skipped, Lacks, TooLong}
-use Rattle.pc_machine.specs.Configurations.{Configuration, with_objects, with_actor, with_frames, own_address}
-use Rattle.pc_machine.specs.Around.{Around, Move, Stuck, Overflows, Goes, Writes, Makes, Spawns, Enters, Sends, Leaves, pushed, first_frame}
-use Rattle.pc_machine.specs.Tasks.{task_move}
+use Rattle.pc_semantics.specs.declared.actors.Actor.{Actor}
+use Rattle.pc_semantics.specs.declared.frames.Frame.{Frame}
+use Rattle.pc_semantics.specs.declared.frames.Task.{Task}
+use Rattle.pc_semantics.specs.declared.mailbox.Message.{Message}
+use Rattle.pc_semantics.specs.declared.outcome.Lack.TheVariants as lack
+use Rattle.pc_semantics.specs.declared.outcome.Outcome.{Outcome}
+use Rattle.pc_semantics.specs.declared.outcome.Outcome.TheVariants.{Moved, Skipped, Lacks, TooLong}
+use Rattle.pc_semantics.specs.Configurations.{Configuration, with_objects, with_actor, with_frames, own_address}
+use Rattle.pc_semantics.specs.Around.{Around, Move, Stuck, Overflows, Goes, Writes, Makes, Spawns, Enters, Sends, Leaves, pushed, first_frame}
+use Rattle.pc_semantics.specs.Tasks.{task_move}
 
 -- ---- a move is made
 
