@@ -154,7 +154,7 @@ impl Context {
 
     /// What a bare name means where these locals and parameters are visible: a local or parameter, else a field of the
     /// entity, else a method of the entity.
-    pub(crate) fn resolve(&self, scope: &[Visible], name: &[u8]) -> Meaning
+    pub fn resolve(&self, scope: &[Visible], name: &[u8]) -> Meaning
         ensures { meaning_view result ≡ spec.resolve self.now scope.now name.now }
     {
         if let Some(slot) = slot_of(scope, name) {
@@ -170,22 +170,22 @@ impl Context {
         }
     }
 
-    /// What a type name means as an expression.
-    pub(crate) fn type_meaning(&self, name: &[u8]) -> TypeMeaning<'_>
+    /// What a type name means as an expression: the value of a primitive, an entity with constructors, or nothing.
+    pub fn type_meaning(&self, name: &[u8]) -> TypeMeaning<'_>
         ensures { type_view result ≡ spec.type_meaning self.now name.now }
     {
         type_among(self.entities.as_slice(), name)
     }
 
     /// Whether an entity of the program has this name.
-    pub(crate) fn has_entity(&self, name: &[u8]) -> bool
+    pub fn has_entity(&self, name: &[u8]) -> bool
         ensures { result ≡ is_entity self.now.entities name.now }
     {
         is_entity_among(self.entities.as_slice(), name)
     }
 
     /// The slot of the local whose name begins at this byte where it is defined, or 0 where there is none.
-    pub(crate) fn slot_at(&self, start: u32) -> u32
+    pub fn slot_at(&self, start: u32) -> u32
         ensures { result ≡ spec.slot_at self.now.slots start }
     {
         slot_among(self.slots.as_slice(), start)
@@ -218,8 +218,8 @@ impl Context {
     }
 }
 
-/// The number of the constructor of this name among the methods of the program.
-pub(crate) fn constructor_named(constructors: &[Constructor], name: &[u8]) -> Option<u32>
+/// The number of the constructor of this name among the methods of the program. `None` exactly where none of these has it.
+pub fn constructor_named(constructors: &[Constructor], name: &[u8]) -> Option<u32>
     ensures { result ≡ spec.constructor_named constructors.now name.now }
 {
     for constructor in constructors {

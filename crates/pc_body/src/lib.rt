@@ -1,8 +1,6 @@
-//! What becomes of the body of a method: its nodes.
+//! What the names in the body of a method mean, its first fault, its locals with their slots, and the names behind a `.`.
 #![tactic(auto)]
 
-mod bodies;
-mod chains;
 mod checks;
 mod context;
 mod definitions;
@@ -11,22 +9,18 @@ mod fault;
 mod faults;
 mod local;
 mod meaning;
-mod names;
-mod nodes;
 mod params;
 mod placing;
 mod scope;
 mod starts;
-mod stop;
-mod waiting;
-mod walk;
 
-pub use bodies::{emit, emit_added};
-pub use context::{Constructor, Context, Known, Placed};
+pub use context::{Constructor, Context, Known, Placed, constructor_named};
 pub use definitions::{added_locals, locals};
 pub use dot_texts::add_texts;
 pub use fault::BodyFault;
 pub use faults::{check, check_added};
 pub use local::Local;
+pub use meaning::{Meaning, TypeMeaning};
+pub use params::params_scope;
 pub use placing::slots;
-pub use stop::Stop;
+pub use scope::{Visible, slot_of};

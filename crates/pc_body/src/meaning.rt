@@ -4,19 +4,20 @@ use crate::context::Constructor;
 
 /// What a bare name means.
 #[derive(Clone, Copy, Debug, PartialEq, Eq)]
-pub(crate) enum Meaning {
+pub enum Meaning {
     /// A visible local or parameter, by the index of its slot.
     Local(u32),
     /// A field of the entity.
     Field,
     /// A method of the entity.
     Method,
+    /// Nothing that is visible or that the entity has.
     Nothing,
 }
 
 /// What a type name means as an expression.
 #[derive(Drop)]
-pub(crate) enum TypeMeaning<'a> {
+pub enum TypeMeaning<'a> {
     /// The value of a primitive, by the entity's number.
     Primitive(u32),
     /// A class or an actor, which has these constructors.

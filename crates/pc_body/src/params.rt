@@ -9,7 +9,7 @@ use std::alloc::{AllocError, Global};
 
 /// The parameters, whose slots come after that of `this`. An `Err` where memory runs out, or where there are so many that the
 /// slot behind the last one is no number of 32 bits.
-pub(crate) fn params_scope(alloc: Global, params: &[ParamDef]) -> Result<List<Visible>, AllocError>
+pub fn params_scope(alloc: Global, params: &[ParamDef]) -> Result<List<Visible>, AllocError>
     ensures { IfOk result (λ scope. scope ≡ spec.params_scope params.now) }
 {
     let mut scope = List::new(alloc);

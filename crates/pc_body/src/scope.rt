@@ -7,7 +7,7 @@ use std::marker::Model;
 
 /// A local or parameter that is visible, and the index of its slot.
 #[derive(Drop)]
-pub(crate) struct Visible {
+pub struct Visible {
     name: List<u8>,
     slot: u32,
 }
@@ -21,15 +21,16 @@ impl Model for Visible {
 }
 
 impl Visible {
-    pub(crate) fn new(name: List<u8>, slot: u32) -> Visible
+    /// The local or parameter of this name, in the slot of this index.
+    pub fn new(name: List<u8>, slot: u32) -> Visible
         ensures { result ≡ record { name = name; slot = slot } }
     {
         Visible { name, slot }
     }
 }
 
-/// The slot of the visible local or parameter of this name.
-pub(crate) fn slot_of(scope: &[Visible], name: &[u8]) -> Option<u32>
+/// The slot of the visible local or parameter of this name. `None` exactly where there is none; the first in the scope counts.
+pub fn slot_of(scope: &[Visible], name: &[u8]) -> Option<u32>
     ensures { result ≡ spec.slot_of scope.now name.now }
 {
     for visible in scope {

@@ -1,8 +1,8 @@
 use crate::program::{Written, added_nodes, nodes_of};
 use crate::rows::{Row, place_of_difference};
-use pc_body::Stop;
 use pc_caps::List;
 use pc_core::Node;
+use pc_nodes::Stop;
 use pc_tree::MethodWord;
 use std::alloc::Global;
 

@@ -1,9 +1,10 @@
 //! A program around a body.
 use crate::reading::{read_expr, read_seq};
-use pc_body::{Constructor, Context, Known, Placed, Stop, emit, emit_added};
+use pc_body::{Constructor, Context, Known, Placed};
 use pc_caps::{Cap, List, Span};
 use pc_core::Node;
 use pc_names::NameTable;
+use pc_nodes::{Stop, emit, emit_added};
 use pc_tree::{EntityKind, FieldDef, MethodDef, MethodWord, Name, ParamDef, TypeRef};
 use std::alloc::{AllocError, Global};
 

@@ -14,7 +14,7 @@ use Rattle.pc_stands.specs.Methods.{in_body, slots_full, nodes_full, Outcome, lo
 use Rattle.pc_body.specs.declared.fault.BodyFault.{BodyFault}
 use Rattle.pc_body.specs.declared.fault.BodyFault.TheVariants as body
 use Rattle.pc_body.specs.Checking.{IsFirst}
-use Rattle.pc_body.specs.Giving.{put_written}
+use Rattle.pc_nodes.specs.Giving.{put_written}
 use Rattle.pc_program.specs.Members.{Member}
 use Rattle.pc_elab.specs.Outcomes.{Passes, as_name_fault, member_faults, member_params, span_of, extra_slot, before_nodes}
 

@@ -2,7 +2,7 @@
 ghost use Rattle.std.specs.Prelude.{◌≡◌, slice_get, IfOk, OnOk};
 ghost use Rattle.pc_tree.specs.View.{entity_view};
 ghost use Rattle.pc_body.specs.Checking.{Tells};
-ghost use Rattle.pc_body.specs.Giving.{GivesBody};
+ghost use Rattle.pc_nodes.specs.Giving.{GivesBody};
 ghost use Rattle.pc_stands.specs.Methods.{local_names};
 ghost use Rattle.pc_program.specs.Members.{owned};
 ghost use Rattle.pc_program.specs.Parts.{and_member, built_in_parts as language_parts};
@@ -14,10 +14,11 @@ use crate::language::make_print;
 use crate::member::Member;
 use crate::signature::{kind_of, params_of, receiver_of, result_of};
 use crate::slots::add_slots;
-use pc_body::{BodyFault, Context, Local, Stop, check, check_added, emit, emit_added};
+use pc_body::{BodyFault, Context, Local, check, check_added};
 use pc_caps::{List, Span};
 use pc_core::{Method, Node, Slot};
 use pc_names::{NameFault, Which};
+use pc_nodes::{Stop, emit, emit_added};
 use pc_tree::Entity;
 use std::alloc::{AllocError, Global};
 

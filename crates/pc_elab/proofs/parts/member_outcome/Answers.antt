@@ -1,6 +1,6 @@
 use Rattle.std.proofs.Common.{◌∙◌, refl, sym, ap, subst, Err}
-use Rattle.pc_body.specs.declared.stop.Stop.{Stop}
-use Rattle.pc_body.specs.Giving.{Gives, put_written}
+use Rattle.pc_nodes.specs.declared.stop.Stop.{Stop}
+use Rattle.pc_nodes.specs.Giving.{Gives, put_written}
 use Rattle.pc_tree.specs.View.{entity_view}
 use Rattle.pc_stands.specs.Methods.{nodes_full, put_body}
 use Rattle.pc_program.specs.Members.{member_span}

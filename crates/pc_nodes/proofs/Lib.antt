@@ -1,0 +1,3 @@
+pub mod Suffixes
+pub mod Walks
+pub mod Wholes
