@@ -30,7 +30,6 @@ use Rattle.pc_top.specs.Source.Elaborating.{misnamed, misused}
 use Rattle.pc_names.specs.declared.fault.NameFault.{NameFault}
 use Rattle.pc_names.specs.declared.fault.NameFault.TheVariants as names
 use Rattle.pc_top.specs.Names.{name_status}
-use Rattle.pc_top.specs.Source.Kinds.{not_built}
 use Rattle.pc_top.specs.Source.TextStage.{has_none}
 use Rattle.pc_top.specs.Verdict.{Verdict, ended}
 use Rattle.pc_top.specs.declared.source.Source.{Source}
@@ -62,9 +61,8 @@ core_refuses : {name bytes : Text} {v : Verdict} → CoreStage name bytes (Err v
 core_refuses (stops (faulty f h)) e = fault_refuses f e
 core_refuses (goes t (stops (astray h))) e = omega arith
 core_refuses (goes t (stops (nested h))) e = omega arith
-core_refuses (goes t (goes tree (stops (misnamed f o h)))) e = name_refuses f e
-core_refuses (goes t (goes tree (stops (misused f o h)))) e = name_refuses f e
-core_refuses (goes t (goes tree (goes core (not_built n)))) e = omega arith
+core_refuses (goes t (goes tree (misnamed f o h))) e = name_refuses f e
+core_refuses (goes t (goes tree (misused f o h))) e = name_refuses f e
 
 pub source_refuses : {name : Text} {r : Reading} {v : Verdict} → SourceStage name r (Err v) → v.status ≡ 0 → ⊥
 source_refuses (stops is_longer) e = omega arith

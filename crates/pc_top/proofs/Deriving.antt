@@ -23,7 +23,6 @@ use Rattle.pc_top.specs.Source.Length.{fits}
 use Rattle.pc_top.specs.Source.Lexing.{lexed}
 use Rattle.pc_top.specs.Source.Parsing.{parsed}
 use Rattle.pc_top.specs.Source.Elaborating.{elaborated}
-use Rattle.pc_top.specs.Source.Kinds.{built}
 use Rattle.pc_top.specs.Source.TextStage.{has_core}
 use Rattle.pc_top.specs.Stages.{StageStops, PartGives}
 use Rattle.pc_top.specs.Verdict.{refused}
@@ -50,7 +49,7 @@ core_stops name source f Memory r h = tt
 
 -- a source that all stages let pass
 pub source_says : {name : Text} {r : Reading} {s : Source} → SourceStage name r (Ok s) → (r ≡ whole s.bytes) × CoreOf s.bytes s.core
-source_says (goes (fits {bytes = b}) (has_core (goes (lexed {ts = t} l) (goes (parsed {file = f} tree) (goes (elaborated stands) (built first)))))) = (refl, (t, f, l.0, tree.0, stands))
+source_says (goes (fits {bytes = b}) (has_core (goes (lexed {ts = t} l) (goes (parsed {file = f} tree) (elaborated stands))))) = (refl, (t, f, l.0, tree.0, stands))
 
 -- its core fits together and is small
 pub source_formed : CoresAreFormed → {name : Text} {r : Reading} {s : Source} → SourceStage name r (Ok s) → Formed s.core × IsSmall s.core

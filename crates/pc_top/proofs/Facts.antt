@@ -1,6 +1,6 @@
 -- What calls tell of what they are shown.
 use Rattle.std.proofs.Common.{◌≡◌, ◌∙◌, ℕ, List, Option, Some, None, Ok, Err, refl, sym, ap, subst}
-use Rattle.std.specs.Prelude.{codes}
+use Rattle.std.specs.Prelude.{Result, codes}
 use Rattle.pc_core.specs.CoreData.{CoreData}
 use Rattle.pc_token.specs.declared.kinds.Token.{Token}
 use Rattle.pc_tree.specs.Tree as t
@@ -33,7 +33,7 @@ use Rattle.pc_top.specs.Source.Parsing.{parsed, astray, nested}
 use Rattle.pc_top.specs.Source.Elaborating.{misnamed, misused}
 use Rattle.pc_top.specs.Names.{IsNameRefusal}
 use Rattle.pc_top.specs.Source.TextStage.{has_core, has_none}
-use Rattle.pc_top.specs.Stages.{StageStops, PartStops, PartGives}
+use Rattle.pc_top.specs.Stages.{StageStops, StageEnds, PartStops, PartGives}
 use Rattle.pc_top.specs.Verdict.{refused}
 use Rattle.pc_top.specs.declared.stop.Stop.{Stop}
 use Rattle.pc_top.specs.declared.stop.Stop.TheVariants.{Refused, File, Sink, Memory}
@@ -121,12 +121,16 @@ members_stop name bytes file f (File n) r h = h
 members_stop name bytes file f Sink r h = h
 members_stop name bytes file f Memory r h = tt
 
--- Where the core of a tree is refused, the source is.
-pub elaborating_stops : (name bytes : Text) (ts : List Token) (f : t.File) (s : Stop) → Lexing name bytes (Ok ts) → Parsing name bytes ts (Ok f) → StageStops (Elaborating name bytes f) s → StageStops (CoreStage name bytes) s
-elaborating_stops name bytes ts f (Refused status line) l p h = goes l (goes p (stops h))
+-- The core of a tree is that of the source, and where it is refused, the source is.
+elaborating_stops : (name bytes : Text) (ts : List Token) (f : t.File) (s : Stop) → Lexing name bytes (Ok ts) → Parsing name bytes ts (Ok f) → StageStops (Elaborating name bytes f) s → StageStops (CoreStage name bytes) s
+elaborating_stops name bytes ts f (Refused status line) l p h = goes l (goes p h)
 elaborating_stops name bytes ts f (File n) l p h = h
 elaborating_stops name bytes ts f Sink l p h = h
 elaborating_stops name bytes ts f Memory l p h = tt
+
+pub elaborating_ends : (name bytes : Text) (ts : List Token) (f : t.File) (r : Result CoreData Stop) → Lexing name bytes (Ok ts) → Parsing name bytes ts (Ok f) → StageEnds (Elaborating name bytes f) r → StageEnds (CoreStage name bytes) r
+elaborating_ends name bytes ts f (Ok core) l p h = goes l (goes p h)
+elaborating_ends name bytes ts f (Err s) l p h = elaborating_stops name bytes ts f s l p h
 
 -- The stages behind the length of a source that was read whole.
 pub core_given : (file : Named) (bytes shown : Text) (core : CoreData) → Gives file source_limit (whole bytes) → shown ≡ bytes

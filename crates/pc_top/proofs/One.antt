@@ -41,12 +41,11 @@ use Rattle.pc_top.specs.Judge.IsJudge.{source_stops, source_stands}
 use Rattle.pc_top.specs.Names.{name_status, name_line}
 use Rattle.pc_top.specs.Named.{Reading, whole, longer, IsReading}
 use Rattle.pc_top.specs.One.{TellsOf, VerdictIsOne}
-use Rattle.pc_top.specs.Source.{Length, Lexing, Parsing, Elaborating, Kinds, NameStage, TreeStage, CoreStage, TextStage, SourceStage, source_limit}
+use Rattle.pc_top.specs.Source.{Length, Lexing, Parsing, Elaborating, TreeStage, CoreStage, TextStage, SourceStage, source_limit}
 use Rattle.pc_top.specs.Source.Length.{fits, is_longer}
 use Rattle.pc_top.specs.Source.Lexing.{lexed, faulty}
 use Rattle.pc_top.specs.Source.Parsing.{parsed, astray, nested}
 use Rattle.pc_top.specs.Source.Elaborating.{elaborated, misnamed, misused}
-use Rattle.pc_top.specs.Source.Kinds.{built, not_built}
 use Rattle.pc_top.specs.Source.TextStage.{has_core, has_none}
 use Rattle.pc_top.specs.Verdict.{Verdict, refused, ended}
 use Rattle.pc_top.specs.declared.source.Source.{Source}
@@ -106,9 +105,6 @@ one_length limit name r _ _ is_longer is_longer = refl
 
 -- ---- the source
 
-true_false : (b : Bool) → b ≡ true → b ≡ false → ⊥
-true_false b p q = cc
-
 file_same : (f g : t.File) → spelled f ≡ spelled g → f ≡ g
 file_same f g e = cc e
 
@@ -159,17 +155,8 @@ module _ (laws : Laws) where
   one_elaborating name bytes file _ _ (misused f o h) (misnamed g p i) = absurd (laws.misnamed file g h.0 p i h.1)
   one_elaborating name bytes file _ _ (misused f o h) (misused g p i) = ap (λ (x : NameFault). Err (refused (name_status x) (name_line name bytes x))) (laws.body_fault file f g h i)
 
-  one_kinds : (name : Text) (core : CoreData) → IsOne (Kinds name core)
-  one_kinds name core _ _ (built a) (built b) = refl
-  one_kinds name core _ _ (built a) (not_built b) = absurd (true_false _ a b)
-  one_kinds name core _ _ (not_built a) (built b) = absurd (true_false _ b a)
-  one_kinds name core _ _ (not_built a) (not_built b) = refl
-
-  one_naming : (name bytes : Text) (file : t.File) → IsOne (NameStage name bytes file)
-  one_naming name bytes file = after_is_one (Elaborating name bytes file) (Kinds name) (one_elaborating name bytes file) (λ core l. one_kinds name core)
-
   one_tree : (name bytes : Text) (ts : List Token) → IsOne (TreeStage name bytes ts)
-  one_tree name bytes ts = after_is_one (Parsing name bytes ts) (NameStage name bytes) (one_parsing name bytes ts) (λ file l. one_naming name bytes file)
+  one_tree name bytes ts = after_is_one (Parsing name bytes ts) (Elaborating name bytes) (one_parsing name bytes ts) (λ file l. one_elaborating name bytes file)
 
   one_core : (name bytes : Text) → IsOne (CoreStage name bytes)
   one_core name bytes = after_is_one (Lexing name bytes) (TreeStage name bytes) (one_lexing name bytes) (λ ts l. one_tree name bytes ts)

@@ -31,7 +31,6 @@ use Rattle.pc_top.specs.Source.Elaborating.{misnamed, misused}
 use Rattle.pc_names.specs.declared.fault.NameFault.{NameFault}
 use Rattle.pc_names.specs.declared.fault.NameFault.TheVariants as names
 use Rattle.pc_top.specs.Names.{name_status}
-use Rattle.pc_top.specs.Source.Kinds.{not_built}
 use Rattle.pc_top.specs.Source.TextStage.{has_none}
 use Rattle.pc_top.specs.Verdict.{Verdict, ended}
 use Rattle.pc_top.specs.declared.source.Source.{Source}
@@ -65,9 +64,8 @@ core_high : {name bytes : Text} {v : Verdict} → CoreStage name bytes (Err v) �
 core_high (stops (faulty f h)) = fault_high f
 core_high (goes t (stops (astray h))) = omega arith
 core_high (goes t (stops (nested h))) = omega arith
-core_high (goes t (goes tree (stops (misnamed f o h)))) = name_high f
-core_high (goes t (goes tree (stops (misused f o h)))) = name_high f
-core_high (goes t (goes tree (goes core (not_built n)))) = omega arith
+core_high (goes t (goes tree (misnamed f o h))) = name_high f
+core_high (goes t (goes tree (misused f o h))) = name_high f
 
 source_high : {name : Text} {r : Reading} {v : Verdict} → SourceStage name r (Err v) → 2 ≤ v.status
 source_high (stops is_longer) = omega arith

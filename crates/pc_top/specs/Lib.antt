@@ -9,7 +9,6 @@ pub mod CoreOf
 pub mod Ends
 pub mod Faults
 pub mod Judge
-pub mod Kinds
 pub mod Lines
 pub mod Named
 pub mod Names

@@ -14,9 +14,6 @@ unread_line name = name ++ (codes ": cannot be read" ++ line_end)
 abbrev pub longer_line : Text → ℕ → Text
 longer_line name limit = name ++ (codes ": longer than " ++ (decimal limit ++ (codes " bytes" ++ line_end)))
 
-abbrev pub not_built_line : Text → Text
-not_built_line name = name ++ (codes ": form not built" ++ line_end)
-
 abbrev pub no_main_line : Text → Text
 no_main_line name = name ++ (codes ": no Main" ++ line_end)
 

@@ -1,5 +1,5 @@
 -- The stages of a source, which every command goes through first.
-use Rattle.std.specs.Prelude.{ℕ, ◌≡◌, ◌∷◌, true, false, Result, Ok, Err, List, codes}
+use Rattle.std.specs.Prelude.{ℕ, ◌≡◌, ◌∷◌, Result, Ok, Err, List, codes}
 use Rattle.pc_tree.specs.Tree as t
 use Rattle.pc_token.specs.declared.kinds.Token.{Token}
 use Rattle.pc_grammar.specs.FileAnswers.{IsFileAnswer, spelled, unexpected, too_deep}
@@ -15,8 +15,7 @@ use Rattle.pc_top.specs.After.{After}
 use Rattle.pc_top.specs.Command.{Text}
 use Rattle.pc_top.specs.CoreFaults.{offset_line}
 use Rattle.pc_top.specs.Faults.{fault_status, fault_line}
-use Rattle.pc_top.specs.Kinds.{has_first_kinds}
-use Rattle.pc_top.specs.Lines.{longer_line, not_built_line}
+use Rattle.pc_top.specs.Lines.{longer_line}
 use Rattle.pc_top.specs.Named.{Reading, whole, longer}
 use Rattle.pc_top.specs.Names.{name_status, name_line}
 use Rattle.pc_top.specs.Verdict.{Verdict, refused}
@@ -50,18 +49,9 @@ pub data Elaborating (name bytes : Text) (file : t.File) : Result CoreData Verdi
   misnamed : (f : NameFault) → OfFile f → IsNameFault file f → Elaborating name bytes file (Err (refused (name_status f) (name_line name bytes f)))
   misused : (f : NameFault) → OfFile f → IsElabFault file f → Elaborating name bytes file (Err (refused (name_status f) (name_line name bytes f)))
 
--- Its kinds: 14 where they are not built yet.
-pub data Kinds (name : Text) (core : CoreData) : Result CoreData Verdict → Type 0 where
-  built : has_first_kinds core ≡ true → Kinds name core (Ok core)
-  not_built : has_first_kinds core ≡ false → Kinds name core (Err (refused 14 (not_built_line name)))
-
--- From its tree to its core.
-abbrev pub NameStage : Text → Text → t.File → Result CoreData Verdict → Type 0
-NameStage name bytes file = After (Elaborating name bytes file) (Kinds name)
-
 -- From its tokens to its core.
 abbrev pub TreeStage : Text → Text → List Token → Result CoreData Verdict → Type 0
-TreeStage name bytes ts = After (Parsing name bytes ts) (NameStage name bytes)
+TreeStage name bytes ts = After (Parsing name bytes ts) (Elaborating name bytes)
 
 -- From its bytes to its core.
 abbrev pub CoreStage : Text → Text → Result CoreData Verdict → Type 0

@@ -8,7 +8,6 @@ mod derivation;
 mod faults;
 mod finish;
 mod judge;
-mod kinds;
 mod lines;
 mod names;
 mod place;
@@ -28,5 +27,7 @@ pub use top::{
 mod cases;
 #[cfg(test)]
 mod name_cases;
+#[cfg(test)]
+mod programs;
 #[cfg(test)]
 mod tree_cases;

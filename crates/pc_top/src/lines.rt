@@ -1,6 +1,6 @@
 //! The lines on err.
 ghost use Rattle.std.specs.Prelude.{◌≡◌, IfOk};
-ghost use Rattle.pc_top.specs.Lines.{bad_line, longer_line, many_line, no_main_line, node_line, not_built_line, place_line, shape_line, slot_line, unread_line, unset_line, usage_line};
+ghost use Rattle.pc_top.specs.Lines.{bad_line, longer_line, many_line, no_main_line, node_line, place_line, shape_line, slot_line, unread_line, unset_line, usage_line};
 
 use crate::place::Place;
 use pc_io::Bytes;
@@ -28,14 +28,6 @@ pub fn make_usage_line(alloc: Global) -> Result<Bytes, AllocError>
     ensures { IfOk result (λ line. line ≡ usage_line) }
 {
     Bytes::copy_of(alloc, b"usage: rcap COMMAND ARGUMENT ...\n")
-}
-
-/// `NAME: form not built`, with a line end.
-pub fn make_not_built_line(alloc: Global, name: &str) -> Result<Bytes, AllocError>
-    ensures { IfOk result (λ line. line ≡ not_built_line name.now) }
-{
-    let text = format!(in alloc; "{name}: form not built\n")?;
-    Bytes::copy_of(alloc, text.as_bytes())
 }
 
 /// `NAME: no Main`, with a line end.

@@ -1,24 +1,10 @@
 //! `check` on sources whose names are at fault, or that pass a limit.
 
-use crate::cases::{CHECK, Wanted, answers, whole};
+use crate::cases::ends;
 use std::alloc::{AllocError, Global};
-use std::process::Abort;
 use std::test::Fail;
 
 const MAIN: &str = "actor Main\n  new create(env: Env) => None\n";
-
-// A source, and the status and line with which it is refused.
-fn is_refused(
-    rt: &impl Abort,
-    alloc: Global,
-    source: &[u8],
-    status: u8,
-    err: &str,
-) -> Result<(), AllocError> {
-    let out = "";
-    let wanted = Wanted { status, out, err };
-    answers(rt, alloc, whole(CHECK, source, b""), wanted)
-}
 
 #[test]
 fn faults_of_declarations_are_named(rt: HostRuntime) -> Result<(), Fail> {
@@ -55,11 +41,11 @@ fn faults_of_declarations_are_named(rt: HostRuntime) -> Result<(), Fail> {
         ),
     ];
     for (source, err) in rows {
-        is_refused(&rt, alloc, source.as_bytes(), 4, err)?;
+        ends(&rt, alloc, source.as_bytes(), 4, err)?;
     }
     let greeting = "\nactor Main\n  new create(env: Env) =>\n    env.out.print(\"hi\")\n";
     let cycle = format!(in alloc; "trait A is B\ntrait B is A{greeting}")?;
-    is_refused(
+    ends(
         &rt,
         alloc,
         cycle.as_bytes(),
@@ -99,7 +85,7 @@ fn faults_of_bodies_are_named(rt: HostRuntime) -> Result<(), Fail> {
         let source = format!(in alloc;
             "class C\n  fun {method}\nclass D\n  new make() => None\n{MAIN}"
         )?;
-        is_refused(&rt, alloc, source.as_bytes(), 4, err)?;
+        ends(&rt, alloc, source.as_bytes(), 4, err)?;
     }
     let initial = "class C\n  var f: U64 = yy\n  fun g() => zz\n  new create() => None\n";
     let field = "class C\n  var f: U64\n  new create() =>\n    let f: U64 = 1\n";
@@ -115,7 +101,7 @@ fn faults_of_bodies_are_named(rt: HostRuntime) -> Result<(), Fail> {
     ];
     for (before, behind, err) in rows {
         let source = format!(in alloc; "{before}{behind}")?;
-        is_refused(&rt, alloc, source.as_bytes(), 4, err)?;
+        ends(&rt, alloc, source.as_bytes(), 4, err)?;
     }
     Ok(())
 }
@@ -143,16 +129,9 @@ fn with_locals(alloc: Global, count: usize) -> Result<Vec<u8>, AllocError> {
 fn a_method_may_have_so_many_slots(rt: HostRuntime) -> Result<(), Fail> {
     let alloc = rt.alloc();
     let most = with_locals(alloc, 62)?;
-    let mut files = pc_io::MemFiles::new(alloc, &[])?;
-    files.add("a.pony", &most)?;
-    let mut out = pc_io::MemSink::new(alloc, &[])?;
-    let mut err = pc_io::MemSink::new(alloc, &[])?;
-    assert_eq!(rt;
-        crate::rcap(alloc, CHECK, &mut files, &mut out, &mut err),
-        0
-    );
+    ends(&rt, alloc, &most, 0, "")?;
     let more = with_locals(alloc, 63)?;
-    is_refused(&rt, alloc, &more, 8, "a.pony:66:9: too many slots\n")?;
+    ends(&rt, alloc, &more, 8, "a.pony:66:9: too many slots\n")?;
     Ok(())
 }
 
@@ -176,9 +155,9 @@ fn a_program_may_have_so_many_nodes(rt: HostRuntime) -> Result<(), Fail> {
     // Each constructor has the 1,995 nodes of the sum, a write of the field with its `this`, None, a sequence and a body:
     // 2,000. Main has three.
     let most = with_initial(alloc, 998, 99)?;
-    is_refused(&rt, alloc, &most, 14, "a.pony: form not built\n")?;
+    ends(&rt, alloc, &most, 0, "")?;
     let more = with_initial(alloc, 998, 100)?;
-    is_refused(&rt, alloc, &more, 8, "a.pony:104:7: too many nodes\n")?;
+    ends(&rt, alloc, &more, 8, "a.pony:104:7: too many nodes\n")?;
     Ok(())
 }
 
@@ -195,8 +174,8 @@ fn with_text(alloc: Global, size: usize) -> Result<Vec<u8>, AllocError> {
 fn a_text_may_have_so_many_bytes(rt: HostRuntime) -> Result<(), Fail> {
     let alloc = rt.alloc();
     let most = with_text(alloc, 4_096)?;
-    is_refused(&rt, alloc, &most, 14, "a.pony: form not built\n")?;
+    ends(&rt, alloc, &most, 0, "")?;
     let more = with_text(alloc, 4_097)?;
-    is_refused(&rt, alloc, &more, 8, "a.pony:2:27: text too long\n")?;
+    ends(&rt, alloc, &more, 8, "a.pony:2:27: text too long\n")?;
     Ok(())
 }

@@ -1,5 +1,4 @@
-//! The source's stages, which every command goes through first: its length, its tokens, its tree, its core, and
-//! whether that is built.
+//! The source's stages, which every command goes through first: its length, its tokens, its tree and its core.
 ghost use Rattle.std.specs.Prelude.{◌≡◌, ◌≤◌, ℕ, List as Sequence, length};
 ghost use Rattle.pc_elab.specs.Cores.{Spelled};
 ghost use Rattle.pc_lex.specs.Limits.{text_limit};
@@ -9,8 +8,6 @@ ghost use Rattle.pc_top.specs.Source.{CoreStage, Elaborating, Lexing, SourceStag
 ghost use Rattle.pc_top.specs.Stages.{PartEnds, StageEnds};
 
 use crate::faults::refuse_fault;
-use crate::kinds::has_first_kinds;
-use crate::lines::make_not_built_line;
 use crate::names::refuse_name;
 use crate::reading::read_file;
 use crate::stop::Stop;
@@ -56,15 +53,7 @@ fn read_core(alloc: Global, name: &str, bytes: &[u8]) -> Result<Core, Stop>
     let tokens = read_tokens(alloc, name, bytes)?;
     tokens_are_in_order();
     let file = read_tree(alloc, name, bytes, tokens.as_slice())?;
-    let core = elaborate_tree(alloc, name, bytes, &file)?;
-    if has_first_kinds(&core) {
-        Ok(core)
-    } else {
-        Err(Stop::Refused {
-            status: 14,
-            line: make_not_built_line(alloc, name)?,
-        })
-    }
+    elaborate_tree(alloc, name, bytes, &file)
 }
 
 // The core of the source of this name with these bytes, whose tree this is.
