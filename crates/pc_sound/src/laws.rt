@@ -1,0 +1,2 @@
+/// Nothing.
+pub fn nothing_yet() {}
