@@ -1,6 +1,6 @@
 -- Masks and types, and what is kept where more slots are live and more fields are set.
-use Rattle.std.specs.Prelude.{◌≡◌, ◌⊎◌, ℕ, Bool, true, List, [], ◌∷◌, Option, Some, None, refl}
-use Rattle.std.proofs.Common.{inl, inr, subst, sym}
+use Rattle.std.specs.Prelude.{ℕ, Bool, List, [], ◌∷◌, Option, Some, None, refl}
+use Rattle.std.proofs.Common.{inl, inr}
 use Rattle.pc_heap.specs.Objects.{ObjectMap}
 use Rattle.pc_heap.specs.declared.value.Value.{Value}
 use Rattle.pc_core.specs.CoreData.{CoreData}
@@ -11,7 +11,7 @@ use Rattle.pc_semantics.specs.declared.frames.Task.TheVariants as task
 use Rattle.pc_core.specs.declared.nodes.NodeKind.{NodeKind}
 use Rattle.pc_rules.specs.Parts.{Ty}
 use Rattle.pc_sound.specs.Types.{OfType, OfSome, LowerType, Lower, Want}
-use Rattle.pc_sound.specs.Tasks.{Within, EvalOk, BodyOk, FinishOk, TestOk, BranchOk, LoopOk, DiscardOk, ReturnOk, TasksOk}
+use Rattle.pc_sound.specs.Tasks.{Within, EvalOk, BodyOk, FinishOk, TestOk, BranchOk, LoopOk, ReturnOk, TasksOk}
 use Rattle.pc_sound.proofs.Needs.{Needs}
 
 -- ---- masks

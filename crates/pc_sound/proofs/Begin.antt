@@ -1,12 +1,11 @@
 -- The frame of a method that begins can go on.
 use Rattle.std.specs.Prelude.{◌≡◌, ◌≢◌, ℕ, zero, suc, ◌+◌, ◌-◌, ◌<◌, ◌≤◌, true, ◌&&◌, List, [], ◌∷◌, ◌++◌, map, length, replicate, Option, Some, None, slice_get, refl}
-use Rattle.std.proofs.Common.{inl, inr, ap, sym, subst, ◌∙◌, arith, length-append}
+use Rattle.std.proofs.Common.{inr, ap, sym, subst, ◌∙◌, arith, length-append}
 use Rattle.std.proofs.lemmas.Option.{same_Some, none-some}
 use Rattle.std.proofs.lemmas.Bool.{and_parts}
 use Rattle.std.proofs.lemmas.List.{length-map, length-replicate}
 use Rattle.pc_heap.specs.Objects.{ObjectMap}
 use Rattle.pc_heap.specs.declared.value.Value.{Value}
-use Rattle.pc_caps.specs.declared.capability.Cap.{Cap}
 use Rattle.pc_core.specs.declared.declarations.Method.{Method}
 use Rattle.pc_core.specs.declared.declarations.ParamInfo.{ParamInfo}
 use Rattle.pc_core.specs.declared.nodes.Node.{Node}
@@ -14,10 +13,9 @@ use Rattle.pc_core.specs.declared.nodes.NodeKind.{NodeKind}
 use Rattle.pc_core.specs.declared.nodes.NodeKind.TheVariants as nodes
 use Rattle.pc_core.specs.CoreData.{CoreData}
 use Rattle.pc_core.specs.Members.{bind_some}
-use Rattle.pc_ann.specs.declared.mask.Mask.{Mask}
 use Rattle.pc_ann.specs.declared.annotation.Note.{Note}
 use Rattle.pc_ann.specs.declared.annotation.Ann.{Ann}
-use Rattle.pc_ann.specs.Masks.{IsIn, first, same}
+use Rattle.pc_ann.specs.Masks.{first, same}
 use Rattle.pc_ann.specs.MaskLaws.{first_bits}
 use Rattle.pc_semantics.specs.Around.{first_slots, first_frame}
 use Rattle.pc_rules.specs.declared.said.Said.{Said}
@@ -26,8 +24,8 @@ use Rattle.pc_rules.specs.Control.{start_set, starts_method, result_ok, body_say
 use Rattle.pc_rules.specs.Rules.{says, said_by}
 use Rattle.pc_rules.specs.Threads.{kept}
 use Rattle.pc_rules.specs.OneRule.{body_rule}
-use Rattle.pc_sound.specs.Types.{OfType, ArgumentsOk, param_type, held_in}
-use Rattle.pc_sound.specs.Tasks.{Within, BodyOk}
+use Rattle.pc_sound.specs.Types.{OfType, ArgumentsOk, param_type}
+use Rattle.pc_sound.specs.Tasks.{BodyOk}
 use Rattle.pc_sound.specs.Frames.{ThisOk, SlotsOk, Held, FrameOk}
 use Rattle.pc_sound.proofs.Needs.{Needs}
 use Rattle.pc_sound.proofs.Notes.{note_at, same_within}

@@ -1,6 +1,6 @@
 -- What stays where objects are added, and fields are set.
-use Rattle.std.specs.Prelude.{◌≡◌, ◌⊎◌, ℕ, ◌<◌, Bool, true, List, [], ◌∷◌, length, Option, Some, None, slice_get, refl}
-use Rattle.std.proofs.Common.{inl, inr, ap, sym, subst, ◌∙◌}
+use Rattle.std.specs.Prelude.{◌≡◌, ℕ, ◌<◌, List, [], ◌∷◌, length, Option, Some, None, slice_get, refl}
+use Rattle.std.proofs.Common.{inl, inr, ap, subst, ◌∙◌}
 use Rattle.std.proofs.lemmas.Option.{same_Some, none-some}
 use Rattle.std.specs.FinMap.{get}
 use Rattle.pc_heap.specs.Objects.{ObjectMap, class_in, class_at}
@@ -21,7 +21,7 @@ use Rattle.pc_semantics.specs.declared.mailbox.Message.{Message}
 use Rattle.pc_semantics.specs.Configurations.{own_address}
 use Rattle.pc_semantics.specs.Around.{entity_of}
 use Rattle.pc_rules.specs.Parts.{Ty}
-use Rattle.pc_sound.specs.Types.{AllSet, Finished, OfType, OfSome, ArgumentsOk, param_type, held_in, Want, wanted, Answers, StackOk}
+use Rattle.pc_sound.specs.Types.{Finished, OfType, OfSome, ArgumentsOk, param_type, held_in, Want, wanted, StackOk}
 use Rattle.pc_sound.specs.Frames.{HasFields, ThisOk, SlotsOk, Held, FrameOk, LastOk, WaitOk, FramesOk}
 use Rattle.pc_sound.specs.Typed.{field_type, ObjectOk, MessageOk, MailOk, FirstMailOk, ActorOk}
 

@@ -1,5 +1,5 @@
 -- Objects after one is added, and after a field is set.
-use Rattle.std.specs.Prelude.{◌≡◌, ◌≢◌, ◌⊎◌, ℕ, suc, ◌+◌, ◌<◌, ◌≤◌, Bool, true, false, cond, List, length, Option, Some, None, nat_eq, slice_get, slice_set, refl}
+use Rattle.std.specs.Prelude.{◌≡◌, ◌⊎◌, ℕ, ◌+◌, ◌<◌, ◌≤◌, Bool, true, false, cond, length, Option, Some, None, nat_eq, slice_get, slice_set, refl}
 use Rattle.std.proofs.Common.{inl, inr, ap, sym, subst, ◌∙◌, arith, length-set}
 use Rattle.std.proofs.lemmas.Option.{same_Some, none-some}
 use Rattle.std.proofs.lemmas.Bool.{eq-eqb}
@@ -9,7 +9,7 @@ use Rattle.std.specs.FinMap.{get, insert, get-insert}
 use Rattle.std.proofs.lemmas.Map.Views.{tells_apart}
 use Rattle.pc_heap.specs.Objects.{address_cmp, ObjectMap, made_by, next_address, with_field, with_value, object_in}
 use Rattle.pc_heap.specs.Maps.{addresses_total, exact_addresses, get_own}
-use Rattle.pc_heap.specs.Counts.{one_if, made_more, made_same}
+use Rattle.pc_heap.specs.Counts.{one_if, made_more}
 use Rattle.pc_heap.specs.declared.value.Address.{Address}
 use Rattle.pc_heap.specs.declared.value.Object.{Object}
 use Rattle.pc_heap.specs.declared.value.Value.{Value}

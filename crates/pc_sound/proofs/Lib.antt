@@ -6,3 +6,6 @@ pub mod Made
 pub mod Notes
 pub mod Begin
 pub mod Steps
+pub mod Tables
+pub mod Values
+pub mod Running

@@ -1,17 +1,17 @@
 -- A move that keeps what it has to leaves a well-typed configuration, and lacks nothing.
-use Rattle.std.specs.Prelude.{◌≡◌, ◌≢◌, ◌⊎◌, ℕ, zero, suc, ◌+◌, ◌<◌, ◌≤◌, Bool, true, false, List, [], ◌∷◌, ◌++◌, length, replicate, Option, Some, None, slice_get, slice_set, refl}
+use Rattle.std.specs.Prelude.{◌≡◌, ◌≢◌, ℕ, zero, suc, ◌+◌, ◌<◌, ◌≤◌, true, List, [], ◌∷◌, ◌++◌, length, replicate, Option, Some, None, slice_get, slice_set, refl}
 use Rattle.std.proofs.Common.{inl, inr, ap, sym, subst, ◌∙◌, arith, length-set, length-append}
 use Rattle.std.proofs.lemmas.Option.{same_Some, none-some}
 use Rattle.std.proofs.lemmas.List.{length-replicate}
 use Rattle.std.specs.FinMap.{get, insert}
-use Rattle.pc_heap.specs.Objects.{ObjectMap, made_by, next_address, with_field, with_value, class_at}
+use Rattle.pc_heap.specs.Objects.{ObjectMap, made_by, next_address, with_field, with_value}
 use Rattle.pc_heap.specs.Counts.{made_same}
 use Rattle.pc_heap.specs.declared.value.Address.{Address}
 use Rattle.pc_heap.specs.declared.value.Object.{Object}
 use Rattle.pc_heap.specs.declared.value.Value.{Value}
 use Rattle.pc_tree.specs.declared.kinds.EntityKind.{EntityKind}
 use Rattle.pc_tree.specs.declared.kinds.EntityKind.TheVariants as kind
-use Rattle.pc_caps.specs.Gets.{get_below, get_within, get_push, get_set, get_set_same, get_set_other}
+use Rattle.pc_caps.specs.Gets.{get_within, get_push, get_set}
 use Rattle.pc_core.specs.declared.declarations.EntityDef.{EntityDef}
 use Rattle.pc_core.specs.declared.declarations.FieldInfo.{FieldInfo}
 use Rattle.pc_core.specs.declared.declarations.MethodKind.TheVariants as method
@@ -24,17 +24,16 @@ use Rattle.pc_semantics.specs.declared.frames.Frame.{Frame}
 use Rattle.pc_semantics.specs.declared.mailbox.Message.{Message}
 use Rattle.pc_semantics.specs.declared.outcome.Lack.{Lack}
 use Rattle.pc_semantics.specs.declared.outcome.Outcome.{Outcome}
-use Rattle.pc_semantics.specs.declared.outcome.Outcome.TheVariants.{Moved, Skipped, Lacks, TooLong}
+use Rattle.pc_semantics.specs.declared.outcome.Outcome.TheVariants.{Lacks}
 use Rattle.pc_semantics.specs.Configurations.{Configuration, with_objects, with_actor, with_frames, own_address, blank_object, fields_in}
-use Rattle.pc_semantics.specs.Around.{Around, Move, Stuck, Overflows, Goes, Writes, Makes, Spawns, Enters, Sends, Leaves}
-use Rattle.pc_semantics.specs.Step.{with_spawned, delivered, deliver, left, made, around}
-use Rattle.std.proofs.lemmas.Bool.Decides.{eqb_tells}
+use Rattle.pc_semantics.specs.Around.{Move, Stuck, Overflows, Goes, Writes, Makes, Spawns, Enters, Sends, Leaves}
+use Rattle.pc_semantics.specs.Step.{delivered, left, made, around}
 use Rattle.pc_sound.specs.Types.{OfType}
 use Rattle.pc_sound.specs.Frames.{FramesOk}
 use Rattle.pc_sound.specs.Typed.{field_type, ObjectOk, PlaceOk, ObjectsOk, MessageOk, MailOk, FirstMailOk, ActorOk, WellTyped}
-use Rattle.pc_sound.specs.Moves.{WriteOk, MakeOk, SpawnOk, MoveOk}
+use Rattle.pc_sound.specs.Moves.{SpawnOk, MoveOk}
 use Rattle.pc_sound.proofs.Growth.{Extends, class_kept, of_kept, object_kept, mail_kept, actor_kept}
-use Rattle.pc_sound.proofs.Heaps.{put_or_before, fresh_extends, get_here, written, write_extends, made_grows, made_here, fresh}
+use Rattle.pc_sound.proofs.Heaps.{put_or_before, fresh_extends, written, write_extends, made_grows, made_here, fresh}
 
 -- The configuration is well typed, and the step lacks nothing.
 abbrev pub StepOk : CoreData → Ann → Outcome × Configuration → Type 0

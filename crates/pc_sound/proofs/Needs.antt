@@ -1,5 +1,5 @@
 -- What the proof uses of a core that fits together and of a valid annotation, besides what stands in them word by word.
-use Rattle.std.specs.Prelude.{◌≡◌, ◌≢◌, ℕ, suc, ◌+◌, ◌<◌, ◌≤◌, length, Option, Some, None, slice_get}
+use Rattle.std.specs.Prelude.{◌≡◌, ◌≢◌, ℕ, suc, ◌+◌, ◌≤◌, length, Some, slice_get}
 use Rattle.pc_caps.specs.declared.capability.Cap.{Cap}
 use Rattle.pc_tree.specs.declared.kinds.EntityKind.TheVariants as entity
 use Rattle.pc_core.specs.declared.declarations.EntityDef.{EntityDef}

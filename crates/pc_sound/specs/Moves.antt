@@ -1,6 +1,6 @@
 -- What a move of a running actor has to keep, so that the configuration stays well typed when the move is made. A move that
 -- lacks something keeps nothing.
-use Rattle.std.specs.Prelude.{◌≡◌, ◌≢◌, ℕ, ◌<◌, List, ◌∷◌, Option, Some, None, slice_get}
+use Rattle.std.specs.Prelude.{◌≡◌, ◌≢◌, ℕ, ◌<◌, List, ◌∷◌, Some, slice_get}
 use Rattle.std.specs.FinMap.{get, insert}
 use Rattle.pc_heap.specs.Objects.{ObjectMap, with_value, next_address}
 use Rattle.pc_heap.specs.declared.value.Address.{Address}
@@ -13,13 +13,11 @@ use Rattle.pc_core.specs.declared.declarations.MethodKind.TheVariants as method
 use Rattle.pc_core.specs.CoreData.{CoreData}
 use Rattle.pc_ann.specs.declared.annotation.Ann.{Ann}
 use Rattle.pc_semantics.specs.declared.frames.Frame.{Frame}
-use Rattle.pc_semantics.specs.declared.frames.Task.{Task}
 use Rattle.pc_semantics.specs.declared.mailbox.Message.{Message}
 use Rattle.pc_semantics.specs.Configurations.{own_address, blank_object}
 use Rattle.pc_semantics.specs.Step.{left}
 use Rattle.pc_semantics.specs.Around.{Around, Move, Stuck, Overflows, Goes, Writes, Makes, Spawns, Enters, Sends, Leaves}
 use Rattle.pc_sound.specs.Types.{OfType}
-use Rattle.pc_sound.specs.Tasks.{TasksOk}
 use Rattle.pc_sound.specs.Frames.{Held, WaitOk, FramesOk}
 use Rattle.pc_sound.specs.Typed.{field_type, ObjectsOk, MessageOk}
 

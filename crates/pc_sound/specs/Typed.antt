@@ -1,6 +1,6 @@
 -- When a configuration is well typed: each object holds values of its fields' types, each actor's frames can go on, and the
 -- messages that wait for it are behaviours of its entity, behind its constructor where that has not begun.
-use Rattle.std.specs.Prelude.{◌≡◌, ◌⊎◌, ℕ, ◌<◌, Bool, true, false, List, [], ◌∷◌, length, Option, Some, None, slice_get}
+use Rattle.std.specs.Prelude.{◌≡◌, ◌⊎◌, ℕ, ◌<◌, true, List, [], ◌∷◌, length, Some, slice_get}
 use Rattle.std.specs.FinMap.{get}
 use Rattle.pc_heap.specs.Objects.{ObjectMap, class_at, made_by}
 use Rattle.pc_heap.specs.declared.value.Address.{Address}
@@ -18,7 +18,6 @@ use Rattle.pc_core.specs.CoreData.{CoreData}
 use Rattle.pc_core.specs.Entities.{may_have_fields}
 use Rattle.pc_ann.specs.declared.annotation.Ann.{Ann}
 use Rattle.pc_semantics.specs.declared.actors.Actor.{Actor}
-use Rattle.pc_semantics.specs.declared.frames.Frame.{Frame}
 use Rattle.pc_semantics.specs.declared.mailbox.Message.{Message}
 use Rattle.pc_semantics.specs.Configurations.{Configuration, own_address}
 use Rattle.pc_sound.specs.Types.{OfType, ArgumentsOk}
