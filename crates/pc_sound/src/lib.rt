@@ -4,4 +4,4 @@
 
 mod laws;
 
-pub use laws::nothing_yet;
+pub use laws::moves_keep_types;
