@@ -10,3 +10,4 @@ pub mod Tables
 pub mod Values
 pub mod Running
 pub mod InverseCalls
+pub mod Popped
