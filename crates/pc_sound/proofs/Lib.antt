@@ -11,3 +11,6 @@ pub mod Values
 pub mod Running
 pub mod InverseCalls
 pub mod Popped
+pub mod Callers
+pub mod MakeTask
+pub mod SpawnTask
