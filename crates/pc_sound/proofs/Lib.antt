@@ -14,3 +14,4 @@ pub mod Popped
 pub mod Callers
 pub mod MakeTask
 pub mod SpawnTask
+pub mod InvokeTask
