@@ -98,7 +98,7 @@ not_print core ann needs m f k at is other zero = other (sym is ∙ ap (λ (g : 
 no_bit : (i : ℕ) → IsIn empty i → ⊥
 no_bit i h = let p = ((first_bits 0 i).0 h).0 in absurd (omega (arith, p))
 
-nothing_set : (core : CoreData) (f : Method) (i : ℕ) → constructs f.kind ≡ true → IsIn (start_set core f) i → ⊥
+pub nothing_set : (core : CoreData) (f : Method) (i : ℕ) → constructs f.kind ≡ true → IsIn (start_set core f) i → ⊥
 nothing_set core f i c h = no_bit i (rw c at h)
 
 -- The object of a class or an actor, as `this` of a constructor that begins.

@@ -8,6 +8,7 @@ use Rattle.pc_heap.specs.declared.value.Address.{Address}
 use Rattle.pc_heap.specs.declared.value.Value.{Value}
 use Rattle.pc_heap.specs.declared.value.Value.TheVariants.{Text}
 use Rattle.pc_caps.specs.declared.capability.Form.TheVariants as form
+use Rattle.pc_tree.specs.declared.kinds.EntityKind.TheVariants as kind
 use Rattle.pc_core.specs.declared.declarations.EntityDef.{EntityDef}
 use Rattle.pc_core.specs.declared.declarations.Method.{Method}
 use Rattle.pc_core.specs.declared.declarations.MethodKind.TheVariants as method
@@ -32,6 +33,7 @@ use Rattle.pc_rules.specs.Threads.{false_true}
 use Rattle.pc_sound.specs.Types.{OfKind, OfType, OfSome, ArgumentsOk, LowerType, Want, StackOk}
 use Rattle.pc_sound.specs.Tasks.{want_of, stacked, FinishOk, invokes, TasksOk}
 use Rattle.pc_sound.specs.Frames.{ThisOk, leaves}
+use Rattle.pc_sound.specs.Typed.{ObjectsOk}
 use Rattle.pc_sound.specs.Moves.{MoveOk, Runs}
 use Rattle.pc_sound.proofs.Needs.{Declared, Needs}
 use Rattle.pc_sound.proofs.Basic.{trans_lower}
@@ -62,6 +64,13 @@ no_method core d name x at empty (Some k) e =
     let l = (get_range core.methods a.0.first_method (a.0.first_method + a.0.methods) p.0 p.1 p.3).0 in
     let few : a.0.methods ≡ 0 = ap (λ (z : EntityDef). z.methods) (same_Some a.0 x (sym a.1 ∙ at)) ∙ empty in
     absurd (omega (arith, l, few))
+
+-- An actor's object is the first of its maker, which is one of the actors.
+actor_place : (core : CoreData) (objects : ObjectMap) (count : ℕ) (a : Address) (d : ℕ) (x : EntityDef) → ObjectsOk core objects count → class_at objects a ≡ Some d → slice_get core.entities d ≡ Some x → x.kind ≡ kind.Actor → (a.maker < count) × (a.serial ≡ 0)
+actor_place core objects count a d x ok class at actor =
+    let o = object_of objects a d class in
+    let place = (ok.each a o.0 o.1).1 in
+    (place.maker, place.first x (ap (slice_get core.entities) o.2 ∙ at) actor)
 
 -- The receiver and the arguments of a call, and the method that the receiver's own entity has of the name.
 record Received (core : CoreData) (objects : ObjectMap) (own : Value) (below : List Want) (vs : List Value) (count name : ℕ) (ty : Ty) (by : Method) : Type 0 where
@@ -148,10 +157,9 @@ module _ (core : CoreData) (ann : Ann) (needs : Needs core ann) (around : Around
       let at = is_address core ann needs h own.entity owner.owner c.this kind is_entity owner.is_owner (ap may_have_fields actor) in
       let a : Address = at.0 in
       let class : class_at h a ≡ Some own.entity = subst (λ (v : Value). entity_of h v ≡ Some own.entity) at.1 is_entity in
-      let stands = object_of h a own.entity class in
-      let place = (r.objects.each a stands.0 stands.1).1 in
-      let there : a.maker < around.actors = place.maker in
-      let serial : a.serial ≡ 0 = place.first owner.owner (ap (slice_get core.entities) stands.2 ∙ owner.is_owner) actor in
+      let place = actor_place core h around.actors a own.entity owner.owner r.objects class owner.is_owner actor in
+      let there : a.maker < around.actors = place.0 in
+      let serial : a.serial ≡ 0 = place.1 in
       let home : class_at h (own_address a.maker) ≡ Some own.entity = ap (λ (k : ℕ). class_at h (record { maker = a.maker; serial = k })) (sym serial) ∙ class in
       let masks = left_within (through ann e.node.children (before e.note)) e.behind by.behind e.note.live_after e.note.set_after r.held.live r.held.set e.is_behind by.is_behind by.live by.set e.live e.set in
       rw (c.is, popped_is core h r.held.this e.below c.under (length e.node.children - 1) by.own.params c.popped, c.typed.is_entity, c.found.found, c.found.is_own, be, at.1, eq-eqb a.serial 0 serial, lt-ltb a.maker around.actors there, counts core h c.popped.values own.params c.fit)

@@ -15,3 +15,5 @@ pub mod Callers
 pub mod MakeTask
 pub mod SpawnTask
 pub mod InvokeTask
+pub mod ReturnTask
+pub mod Takes
