@@ -17,3 +17,5 @@ pub mod SpawnTask
 pub mod InvokeTask
 pub mod ReturnTask
 pub mod Takes
+pub mod Declarations
+pub mod Needed
