@@ -1,3 +1,1 @@
-pub mod Maps
-pub mod Counts
 pub mod Sounds

@@ -16,8 +16,8 @@ use Rattle.pc_heap.specs.declared.spare.Spare.{Spare}
 use Rattle.pc_heap.specs.Objects.{address_cmp, ObjectMap, made_by, object_in, field_in}
 use Rattle.pc_heap.specs.Heaps.{object_limit}
 use Rattle.pc_heap.specs.Inside.{or_zero, shown, kept_at, room_of, Ready, Sound}
-use Rattle.pc_heap.proofs.Maps.{addresses_total, exact_addresses, tied_own, get_own, get_removed, remove_insert, insert_remove, remove_other}
-use Rattle.pc_heap.proofs.Counts.{one_if, made_more, made_same, len_more, len_same, made_few}
+use Rattle.pc_heap.specs.Maps.{addresses_total, exact_addresses, tied_own, get_own, get_removed, remove_insert, insert_remove, remove_other}
+use Rattle.pc_heap.specs.Counts.{one_if, made_more, made_same, len_more, len_same, made_few}
 
 pub no_room : (spare : Option Spare) → room_of spare ≡ None → spare ≡ None
 no_room None e = refl

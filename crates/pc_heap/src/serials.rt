@@ -63,7 +63,7 @@ impl Serials {
     }
 
     /// The serial of a maker, 0 where it has none yet, which is kept from then on.
-    #[tactic(auto, using(crate::proofs::Maps::zero_kept))]
+    #[tactic(auto, using(crate::specs::Maps::zero_kept))]
     pub fn next(&mut self, maker: u32) -> Result<u32, AllocError>
         ensures ok { IfOk result (λ serial. (map.get self.new maker ≡ Some serial) × (serial ≡ or_zero (map.get self.old maker))) }
         ensures same { (other : ℕ) → or_zero (map.get self.new other) ≡ or_zero (map.get self.old other) }

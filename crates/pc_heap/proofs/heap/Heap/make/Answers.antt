@@ -7,7 +7,7 @@ use Rattle.pc_heap.specs.declared.value.Value.{Value}
 use Rattle.pc_heap.specs.Objects.{ObjectMap}
 use Rattle.pc_heap.specs.Heaps.{HeapData, Room}
 use Rattle.pc_heap.specs.Inside.{shown, room_of, Sound}
-use Rattle.pc_heap.proofs.Maps.{addresses_total, exact_addresses, insert_remove}
+use Rattle.pc_heap.specs.Maps.{addresses_total, exact_addresses, insert_remove}
 use Rattle.pc_heap.proofs.Sounds.{serial_small, make_sound}
 use Rattle.pc_heap.proofs.heap.Heap.make.Goals as goal
 

@@ -4,7 +4,7 @@ use Rattle.std.specs.FinMap as map
 use Rattle.pc_heap.specs.declared.value.Value.{Value}
 use Rattle.pc_heap.specs.declared.value.Object.{Object}
 use Rattle.pc_heap.specs.Objects.{object_in, with_field}
-use Rattle.pc_heap.proofs.Maps.{get_at, entry_at, one_written, addresses_total, exact_addresses}
+use Rattle.pc_heap.specs.Maps.{get_at, entry_at, one_written, addresses_total, exact_addresses}
 use Rattle.pc_heap.proofs.objects.Objects.exchange.Goals as goal
 
 pub unreachable-requires : goal.unreachable-requires

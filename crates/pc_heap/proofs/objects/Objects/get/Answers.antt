@@ -1,6 +1,6 @@
 use Rattle.std.proofs.Common.{◌∙◌, ap, sym}
 use Rattle.std.specs.FinMap as map
-use Rattle.pc_heap.proofs.Maps.{get_at, addresses_total}
+use Rattle.pc_heap.specs.Maps.{get_at, addresses_total}
 use Rattle.pc_heap.proofs.objects.Objects.get.Goals as goal
 
 pub returns : goal.returns

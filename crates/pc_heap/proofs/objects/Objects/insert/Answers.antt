@@ -1,6 +1,6 @@
 use Rattle.std.proofs.Common.{◌∙◌, ap}
 use Rattle.std.specs.FinMap as map
-use Rattle.pc_heap.proofs.Maps.{one_written, addresses_total, exact_addresses}
+use Rattle.pc_heap.specs.Maps.{one_written, addresses_total, exact_addresses}
 use Rattle.pc_heap.proofs.objects.Objects.insert.Goals as goal
 
 pub returns-clause-ok : goal.returns-clause-ok

@@ -2,7 +2,7 @@ use Rattle.std.proofs.Common.{◌≡◌, Bool, true, false, Option, None, ◌∙
 use Rattle.std.specs.Prelude.{IsSome, is_some}
 use Rattle.std.specs.FinMap as map
 use Rattle.pc_heap.specs.declared.value.Object.{Object}
-use Rattle.pc_heap.proofs.Maps.{get_at, entry_at, one_written, addresses_total, exact_addresses}
+use Rattle.pc_heap.specs.Maps.{get_at, entry_at, one_written, addresses_total, exact_addresses}
 use Rattle.pc_heap.proofs.objects.Objects.replace.Goals as goal
 
 pub unreachable-requires : goal.unreachable-requires

@@ -1,7 +1,7 @@
 use Rattle.std.proofs.Common.{◌∙◌, ap, sym}
 use Rattle.std.specs.FinMap as map
 use Rattle.std.specs.Cmp.{nat_cmp_total}
-use Rattle.pc_heap.proofs.Maps.{get_at}
+use Rattle.pc_heap.specs.Maps.{get_at}
 use Rattle.pc_heap.proofs.serials.Serials.get.Goals as goal
 
 pub returns : goal.returns

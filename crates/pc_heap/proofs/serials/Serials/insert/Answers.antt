@@ -2,7 +2,7 @@ use Rattle.std.proofs.Common.{◌∙◌, ap}
 use Rattle.std.specs.FinMap as map
 use Rattle.std.specs.Cmp.{nat_cmp_total}
 use Rattle.std.proofs.lemmas.Map.Lookups.{exact_unsigned}
-use Rattle.pc_heap.proofs.Maps.{one_written}
+use Rattle.pc_heap.specs.Maps.{one_written}
 use Rattle.pc_heap.proofs.serials.Serials.insert.Goals as goal
 
 pub returns-clause-ok : goal.returns-clause-ok

@@ -2,7 +2,7 @@ use Rattle.std.proofs.Common.{◌≡◌, None, ap, sym, ◌∙◌}
 use Rattle.std.specs.FinMap as map
 use Rattle.std.specs.Cmp.{nat_cmp_total}
 use Rattle.pc_heap.specs.Inside.{or_zero}
-use Rattle.pc_heap.proofs.Maps.{get_own}
+use Rattle.pc_heap.specs.Maps.{get_own}
 use Rattle.pc_heap.proofs.serials.Serials.next.Goals as goal
 
 pub returns-in_ok-insert-in-None-clause-ok : goal.returns-in_ok-insert-in-None-clause-ok

@@ -3,7 +3,7 @@ use Rattle.std.specs.Prelude.{IsSome, is_some}
 use Rattle.std.specs.FinMap as map
 use Rattle.std.specs.Cmp.{nat_cmp_total}
 use Rattle.std.proofs.lemmas.Map.Lookups.{exact_unsigned}
-use Rattle.pc_heap.proofs.Maps.{get_at, entry_at, one_written}
+use Rattle.pc_heap.specs.Maps.{get_at, entry_at, one_written}
 use Rattle.pc_heap.proofs.serials.Serials.replace.Goals as goal
 
 pub unreachable-requires : goal.unreachable-requires

@@ -1,0 +1,6 @@
+pub mod Types
+pub mod Tasks
+pub mod Frames
+pub mod Typed
+pub mod Moves
+pub mod Laws

@@ -1,0 +1,7 @@
+//! That a program with a valid annotation never lacks anything when it runs. `specs/` says when a configuration is well
+//! typed; each public call does nothing, and its contract is a law.
+#![tactic(auto)]
+
+mod laws;
+
+pub use laws::moves_keep_types;
