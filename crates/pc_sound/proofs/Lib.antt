@@ -9,3 +9,4 @@ pub mod Steps
 pub mod Tables
 pub mod Values
 pub mod Running
+pub mod Inverse
