@@ -82,6 +82,10 @@ says_is t ty n e =
     let is : says_of ty n ≡ said_by t = same_Some (says_of ty n) (said_by t) e in
     record { ty = sym (ap (λ (q : Said). q.ty) is); live = sym (ap (λ (q : Said). q.live) is); set = sym (ap (λ (q : Said). q.set) is) }
 
+-- The same of an equal type and equal masks.
+said_as : (t : Note) (v w : Option Ty) (n m : Masks) → v ≡ w → n ≡ m → Some (says_of w m) ≡ Some (said_by t) → Says t v n
+said_as t v w n m e g h = subst (λ (k : Masks). Says t v k) (sym g) (subst (λ (o : Option Ty). Says t o m) (sym e) (says_is t w m h))
+
 -- ---- slots
 
 -- A live and reachable slot.
@@ -202,7 +206,7 @@ module _ (core : CoreData) (ann : Ann) (x : Node) (t : Note) where
         is_behind_left = a.1;
         behind = b.0;
         is_behind = b.1;
-        says = says_is t (Some (2, form.Val)) (meet_masks a.0 b.0) (ap (λ (m : Masks). Some (says_of (Some (2, form.Val)) m)) (same_Some (meet_masks a.0 b.0) n.0 b.2) ∙ k.1);
+        says = said_as t (Some (2, form.Val)) (Some (2, form.Val)) (meet_masks a.0 b.0) n.0 refl (same_Some (meet_masks a.0 b.0) n.0 b.2) k.1;
       }
 
   pub and_rule : (r : Rule) → says core ann x (before t) r nodes.And ≡ Some (said_by t) → LazyRule
@@ -261,9 +265,7 @@ module _ (core : CoreData) (ann : Ann) (x : Node) (t : Note) where
         is_then_note = u.1;
         else_note = v.0;
         is_else_note = v.1;
-        says = says_is t (joined core u.0.ty v.0.ty) (meet_masks a.0 b.0)
-        (ap (λ (p : Option Ty × Option Ty). Some (says_of (joined core p.0 p.1) (meet_masks a.0 b.0))) types
-        ∙ ap (λ (m : Masks). Some (says_of (joined core ts.0.0 ts.0.1) m)) masks ∙ k.1);
+        says = said_as t (joined core u.0.ty v.0.ty) (joined core ts.0.0 ts.0.1) (meet_masks a.0 b.0) n.0 (ap (λ (p : Option Ty × Option Ty). joined core p.0 p.1) types) masks k.1;
       }
 
   pub if_rule : (r : Rule) → says core ann x (before t) r nodes.If ≡ Some (said_by t) → IfRule
@@ -304,7 +306,7 @@ module _ (core : CoreData) (ann : Ann) (x : Node) (t : Note) where
         is_body = b.1;
         keeps_live = p.0;
         keeps_set = p.1;
-        says = says_is t (Some (0, form.Val)) a.0 (ap (λ (m : Masks). Some (says_of (Some (0, form.Val)) m)) (same_Some a.0 n.0 l.1) ∙ k.1);
+        says = said_as t (Some (0, form.Val)) (Some (0, form.Val)) a.0 n.0 refl (same_Some a.0 n.0 l.1) k.1;
       }
 
   pub while_rule : (r : Rule) → says core ann x (before t) r nodes.While ≡ Some (said_by t) → WhileRule

@@ -10,3 +10,6 @@ pub mod Tables
 pub mod Values
 pub mod Running
 pub mod Inverse
+pub mod EvalChildren
+pub mod EvalValue
+pub mod EvalControl
