@@ -162,7 +162,7 @@ module _ (core : CoreData) (ann : Ann) (needs : Needs core ann) (around : Around
     children_here = children_at n e.node e.is_node e.own
 
     -- The value of another node than `this` is not taken for the frame's object.
-    not_own : (k : NodeKind) → e.node.kind ≡ k → (is_this k ≡ true → ⊥) → e.follows.goal.own ≡ true → ⊥
+    pub not_own : (k : NodeKind) → e.node.kind ≡ k → (is_this k ≡ true → ⊥) → e.follows.goal.own ≡ true → ⊥
     not_own k is bad h = bad (ap is_this (sym is) ∙ e.follows.this h)
 
     -- All children, and then the task that takes their values.

@@ -13,3 +13,5 @@ pub mod Inverse
 pub mod EvalChildren
 pub mod EvalValue
 pub mod EvalControl
+pub mod EvalTask
+pub mod Choose
