@@ -46,7 +46,7 @@ use Rattle.pc_sound.proofs.Tables.{below_sees, recovered_sees}
 use Rattle.pc_sound.proofs.Begin.{BodyRule, body_inverse}
 use Rattle.pc_sound.proofs.Running.{tasks_ok}
 use Rattle.pc_sound.proofs.EvalChildren.{within_is, items_less, First, first_of_them, type_is, child_ok, whole_ok, evaluations_ok, items_ok}
-use Rattle.pc_sound.proofs.Inverse.{LazyRule, IfRule, WhileRule, SeqRule, RecoverRule, truth_read, condition_is}
+use Rattle.pc_sound.proofs.Inverse.{LazyRule, IfRule, WhileRule, SeqRule, RecoverRule, read_is, condition_is}
 
 -- ---- masks
 
@@ -200,13 +200,13 @@ module _ (core : CoreData) (ann : Ann) (needs : Needs core ann) (around : Around
     lazy_ok q lazy own =
         let a = first_of_them ann q.left [] (before e.note) q.behind_left q.is_behind_left in
         let b = first_of_them ann q.right [] q.behind_left q.behind q.is_behind in
-        let reads = truth_read q.left_type q.left_reads in
+        let reads = read_is 2 q.left_type q.left_reads in
         let left_is : Some (2, q.left_type.1) ≡ a.note.ty = ap (λ (k : ℕ). Some (k, q.left_type.1)) (sym reads.0) ∙ sym q.is_left ∙ type_is ann q.left a.note a.is_note in
         let right_is : Some q.right_type ≡ b.note.ty = sym q.is_right ∙ type_is ann q.right b.note b.is_note in
         let live : Within e.note.live_after (meet q.behind_left.0 q.behind.0) = within_is e.note.live_after (meet q.behind_left.0 q.behind.0) q.says.live in
         let set : Within e.note.set_after (meet q.behind_left.1 q.behind.1) = within_is e.note.set_after (meet q.behind_left.1 q.behind.1) q.says.set in
         let fits : Lower core (Some (2, form.Val)) e.follows.goal.ty = subst (λ (o : Option Ty). Lower core o e.follows.goal.ty) q.says.ty e.follows.fits in
-        let right_fits : Lower core b.note.ty e.follows.goal.ty = subst (λ (o : Option Ty). Lower core o e.follows.goal.ty) right_is (trans_lower core ann needs (Some q.right_type) (Some (2, form.Val)) e.follows.goal.ty (truth_lower core ann needs q.right_type (truth_read q.right_type q.right_reads)) fits) in
+        let right_fits : Lower core b.note.ty e.follows.goal.ty = subst (λ (o : Option Ty). Lower core o e.follows.goal.ty) right_is (trans_lower core ann needs (Some q.right_type) (Some (2, form.Val)) e.follows.goal.ty (truth_lower core ann needs q.right_type (read_is 2 q.right_type q.right_reads)) fits) in
         let test : TasksOk core ann f.method (task.Test n ∷ f.tasks) q.behind_left.0 q.behind_left.1 (wanted (Some (2, q.left_type.1)) ∷ r.held.wants) = record {
           node = e.node;
           is_node = e.is_node;

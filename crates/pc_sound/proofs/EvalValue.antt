@@ -72,7 +72,11 @@ form_cases : (b : Bool) (f : Form) → sees (cond b f form.Tag) ≡ true → (b 
 form_cases true f h = (refl, h)
 form_cases false f h = absurd (false_true h)
 
-not_zero : (s : ℕ) → 0 < s → 0 ≢ s
+-- The form that no place holds sees as much as the place.
+pub taken_lower : (core : CoreData) (i : ℕ × Cap) → LowerType core (held_in i) (i.0, unalias i.1)
+taken_lower core i = (inl refl, λ h. sym (unalias_sees i.1) ∙ h)
+
+pub not_zero : (s : ℕ) → 0 < s → 0 ≢ s
 not_zero s l e = absurd (omega (arith, l, e))
 
 module _ (core : CoreData) (ann : Ann) (needs : Needs core ann) (around : Around) (f : Frame) (fs : List Frame) (r : Runs core ann around f fs) (n : ℕ) (e : EvalOk core ann f.method r.held.live r.held.set r.held.wants n (λ l s g. TasksOk core ann f.method f.tasks l s g)) where
@@ -150,10 +154,6 @@ module _ (core : CoreData) (ann : Ann) (needs : Needs core ann) (around : Around
       subst (λ (o : Option (Option Value)). MoveOk core ann around fs (push_slot f o)) (sym y.is_value)
       (leaf_ok (held_in q.place) y.value q.says y.typed (no_this (nodes.Local s) y.value is false_true))
 
-  -- The form that no place holds sees as much as the place.
-  taken_lower : (i : ℕ × Cap) → LowerType core (held_in i) (i.0, unalias i.1)
-  taken_lower i = (inl refl, λ h. sym (unalias_sees i.1) ∙ h)
-
   -- The other slots hold what they did.
   emptied_ok : (s : ℕ) (live : Mask) → Within live (without_number e.note.live_before s) → SlotsOk core ann around.objects r.held.own live (slice_set f.slots s None)
   emptied_ok s live w i l b =
@@ -166,7 +166,7 @@ module _ (core : CoreData) (ann : Ann) (needs : Needs core ann) (around : Around
       let low = (names_at (nodes.Consume s) is).0 in
       let y = slot_ok s q.place low q.used in
       let o = e.follows in
-      let typed : OfType core around.objects (q.place.0, unalias q.place.1) y.value = of_lower core ann needs around.objects (held_in q.place) (q.place.0, unalias q.place.1) y.value (taken_lower q.place) y.typed in
+      let typed : OfType core around.objects (q.place.0, unalias q.place.1) y.value = of_lower core ann needs around.objects (held_in q.place) (q.place.0, unalias q.place.1) y.value (taken_lower core q.place) y.typed in
       let some : OfSome core around.objects e.note.ty y.value = subst (λ (x : Option Ty). OfSome core around.objects x y.value) (sym q.says.ty) typed in
       subst (λ (x : Option (Option Value)). MoveOk core ann around fs (take_slot f s x)) (sym y.is_value)
       (go_ok core ann needs around f fs r o.live o.set (o.goal ∷ r.held.wants) (slice_set f.slots s None) (y.value ∷ f.stack) f.tasks (length-set f.slots s None) (get_set_other f.slots s None 0 (not_zero s low))

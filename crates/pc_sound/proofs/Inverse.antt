@@ -360,9 +360,9 @@ module _ (core : CoreData) (ann : Ann) (x : Node) (t : Note) where
 
 -- ---- types that are asked for
 
-pub truth_read : (v : Ty) → reads_as 2 v ≡ true → (v.0 ≡ 2) × (readable v.1 ≡ true)
-truth_read v e = let p = and_parts (nat_eq v.0 2) (readable v.1) e in (eqb-true v.0 2 p.0, p.1)
+pub read_is : (n : ℕ) (v : Ty) → reads_as n v ≡ true → (v.0 ≡ n) × (readable v.1 ≡ true)
+read_is n v e = let p = and_parts (nat_eq v.0 n) (readable v.1) e in (eqb-true v.0 n p.0, p.1)
 
 pub condition_is : (o : Option Ty) → is_condition o ≡ true → (f : Form) × (o ≡ Some (2, f))
 condition_is None e = absurd (false_true e)
-condition_is (Some v) e = (v.1, ap (λ (n : ℕ). Some (n, v.1)) (truth_read v e).0)
+condition_is (Some v) e = (v.1, ap (λ (n : ℕ). Some (n, v.1)) (read_is 2 v e).0)

@@ -15,3 +15,5 @@ pub mod EvalValue
 pub mod EvalControl
 pub mod EvalTask
 pub mod Choose
+pub mod Finish
+pub mod StoreTask
