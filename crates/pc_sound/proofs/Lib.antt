@@ -17,3 +17,5 @@ pub mod EvalTask
 pub mod Choose
 pub mod Finish
 pub mod StoreTask
+pub mod Origins
+pub mod GetTask
