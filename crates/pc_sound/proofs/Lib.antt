@@ -19,3 +19,13 @@ pub mod ReturnTask
 pub mod Takes
 pub mod Declarations
 pub mod Needed
+pub mod Inverse
+pub mod EvalChildren
+pub mod EvalValue
+pub mod EvalControl
+pub mod EvalTask
+pub mod Choose
+pub mod Finish
+pub mod StoreTask
+pub mod Origins
+pub mod GetTask

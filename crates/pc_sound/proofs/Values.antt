@@ -40,7 +40,7 @@ primitive_entity core d x y e p g h = false_true (ap may_have_fields (sym p) ∙
 no_trait : (k : EntityKind) → k ≡ entity.Primitive → k ≡ entity.Trait → ⊥
 no_trait k p t = let bad : entity.Primitive ≡ entity.Trait = sym p ∙ t in cc
 
-fields_no_trait : (k : EntityKind) → may_have_fields k ≡ true → k ≡ entity.Trait → ⊥
+pub fields_no_trait : (k : EntityKind) → may_have_fields k ≡ true → k ≡ entity.Trait → ⊥
 fields_no_trait k h t = false_true (ap may_have_fields (sym t) ∙ h)
 
 few : (e : ℕ) → e ≡ 1 → 6 ≤ e → ⊥
