@@ -1,0 +1,7 @@
+//! The tasks of the machine that stay within one frame and the objects: all but the making of objects and actors, calls,
+//! messages and returns. `specs/Inside.antt` says how such a task ends.
+#![tactic(auto)]
+
+mod inside;
+
+pub use inside::is_inside;
