@@ -2,6 +2,9 @@
 //! messages and returns. `specs/Inside.antt` says how such a task ends.
 #![tactic(auto)]
 
+mod evaluation;
+mod frames;
 mod inside;
 
+pub use frames::push_value;
 pub use inside::is_inside;
