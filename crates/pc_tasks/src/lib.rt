@@ -2,9 +2,13 @@
 //! messages and returns. `specs/Inside.antt` says how such a task ends.
 #![tactic(auto)]
 
+mod apply;
+mod choices;
 mod evaluation;
 mod frames;
+mod identity;
 mod inside;
+mod operators;
 
 pub use frames::push_value;
 pub use inside::is_inside;
