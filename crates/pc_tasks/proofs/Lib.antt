@@ -1,1 +1,2 @@
+mod Anyone
 mod Tasks

@@ -48,6 +48,10 @@ ended objects f m = None
 abbrev pub amid : ObjectMap → ℕ → ℕ → Around
 amid objects i k = record { objects = objects; actor = i; actors = k }
 
+-- What a task sees that looks at the objects alone.
+abbrev pub seeing : ObjectMap → Around
+seeing objects = amid objects 0 0
+
 -- The first task of frame f concerns the frame and the objects alone, whichever actor does it. It ends like this: the outcome,
 -- the objects, and the frame.
 abbrev pub Inside : CoreData → ObjectMap → Frame → Outcome → ObjectMap → Frame → Type 0

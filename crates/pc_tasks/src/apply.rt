@@ -1,14 +1,15 @@
 //! Operators that are applied to what is on the stack.
-ghost use Rattle.std.specs.Prelude.{◌≡◌, ◌<◌, length, drop, Some, IfOk, OnErr};
+ghost use Rattle.std.specs.Prelude.{◌≡◌, ◌<◌, length, drop, slice_get, Some, IfOk, OnErr};
 ghost use Rattle.pc_semantics.specs.Around.{with_stack, pop};
 ghost use Rattle.pc_semantics.specs.Operators as operators;
 ghost use Rattle.pc_semantics.specs.Choices as spec;
+ghost use Rattle.pc_semantics.specs.Tasks.{at_node};
 ghost use Rattle.pc_tasks.specs.Applied.{applied_to};
 ghost use Rattle.pc_tasks.specs.Inside.{relieved, within};
 
 use crate::identity::{same_truth, same_value};
 use crate::operators::{Applied, binary, negated};
-use pc_core::NodeKind;
+use pc_core::{Core, NodeKind};
 use pc_heap::Value;
 use pc_semantics::{Frame, Lack, Outcome};
 use pc_tree::Op;
@@ -92,13 +93,16 @@ fn apply_not(frame: &mut Frame) -> Outcome
     replace_one(frame, applied)
 }
 
-/// The task Apply: the operator of a node of this kind takes its operands, and gives its result.
-pub fn apply(alloc: Global, frame: &mut Frame, kind: &NodeKind) -> Result<Outcome, AllocError>
+/// The task Apply of node n: its operator takes its operands, and gives its result.
+pub fn apply(alloc: Global, core: &Core, frame: &mut Frame, n: u32) -> Result<Outcome, AllocError>
     requires { 0 < length frame.old.tasks }
-    ensures ok { IfOk result (λ o. within frame.old (spec.apply_task (relieved frame.old) kind.now) ≡ Some (o, frame.new)) }
+    ensures ok { IfOk result (λ o. within frame.old (at_node (slice_get core.now.nodes n) (λ x. spec.apply_task (relieved frame.old) x.kind)) ≡ Some (o, frame.new)) }
     ensures err { OnErr result (frame.new ≡ frame.old) }
 {
-    match kind {
+    let Some(node) = core.node_at(n) else {
+        return Ok(Outcome::Lacks(Lack::Value));
+    };
+    match &node.kind {
         NodeKind::Binary(op) => apply_binary(alloc, frame, *op),
         NodeKind::Same(wanted) => Ok(apply_same(frame, *wanted)),
         NodeKind::Not => Ok(apply_not(frame)),

@@ -1,11 +1,12 @@
 //! Tasks that look at a truth value and go one way or another.
-ghost use Rattle.std.specs.Prelude.{◌≡◌, ◌<◌, length, drop, Some, IfOk, OnErr};
+ghost use Rattle.std.specs.Prelude.{◌≡◌, ◌<◌, length, drop, slice_get, Some, IfOk, OnErr};
 ghost use Rattle.pc_semantics.specs.Around.{Goes, with_stack, pop};
 ghost use Rattle.pc_semantics.specs.Choices as spec;
+ghost use Rattle.pc_semantics.specs.Tasks.{at_node};
 ghost use Rattle.pc_tasks.specs.Inside.{relieved, within};
 
 use crate::frames::go_on_with;
-use pc_core::NodeKind;
+use pc_core::{Core, NodeKind};
 use pc_heap::Value;
 use pc_semantics::{Frame, Lack, Outcome, Task};
 use std::alloc::AllocError;
@@ -54,20 +55,34 @@ fn right_side(frame: &mut Frame, children: &[u32]) -> Outcome
     Outcome::Moved
 }
 
-/// The task Test: the left side of an `and` or `or` decides, or the right side is evaluated.
-pub fn test(frame: &mut Frame, children: &[u32], kind: &NodeKind) -> Outcome
+/// The task Test of node n: the left side of an `and` or `or` decides, or the right side is evaluated.
+pub fn test(core: &Core, frame: &mut Frame, n: u32) -> Outcome
     requires { 0 < length frame.old.tasks }
-    ensures { within frame.old (spec.test_task (relieved frame.old) children.now kind.now) ≡ Some (result, frame.new) }
+    ensures { within frame.old (at_node (slice_get core.now.nodes n) (λ x. spec.test_task (relieved frame.old) x.children x.kind)) ≡ Some (result, frame.new) }
 {
-    match kind {
-        NodeKind::And => test_and(frame, children),
-        NodeKind::Or => test_or(frame, children),
+    let Some(node) = core.node_at(n) else {
+        return Outcome::Lacks(Lack::Value);
+    };
+    match &node.kind {
+        NodeKind::And => test_and(frame, node.children.as_slice()),
+        NodeKind::Or => test_or(frame, node.children.as_slice()),
         _ => Outcome::Lacks(Lack::Value),
     }
 }
 
-/// The task Branch: one of the two branches is evaluated.
-pub fn branch(frame: &mut Frame, children: &[u32]) -> Outcome
+/// The task Branch of node n: one of the two branches is evaluated.
+pub fn branch(core: &Core, frame: &mut Frame, n: u32) -> Outcome
+    requires { 0 < length frame.old.tasks }
+    ensures { within frame.old (at_node (slice_get core.now.nodes n) (λ x. spec.branch_task (relieved frame.old) x.children)) ≡ Some (result, frame.new) }
+{
+    match core.node_at(n) {
+        Some(node) => take_branch(frame, node.children.as_slice()),
+        None => Outcome::Lacks(Lack::Value),
+    }
+}
+
+// One of the two branches is evaluated.
+fn take_branch(frame: &mut Frame, children: &[u32]) -> Outcome
     requires { 0 < length frame.old.tasks }
     ensures { within frame.old (spec.branch_task (relieved frame.old) children.now) ≡ Some (result, frame.new) }
 {
@@ -85,7 +100,19 @@ pub fn branch(frame: &mut Frame, children: &[u32]) -> Outcome
 
 /// The task Loop of node n: the body is evaluated and its value dropped, and then comes the whole again; or the value is
 /// None.
-pub fn turn(frame: &mut Frame, n: u32, children: &[u32]) -> Result<Outcome, AllocError>
+pub fn go_round(core: &Core, frame: &mut Frame, n: u32) -> Result<Outcome, AllocError>
+    requires { 0 < length frame.old.tasks }
+    ensures ok { IfOk result (λ o. within frame.old (at_node (slice_get core.now.nodes n) (λ x. spec.loop_task (relieved frame.old) n x.children)) ≡ Some (o, frame.new)) }
+    ensures err { OnErr result (frame.new ≡ frame.old) }
+{
+    match core.node_at(n) {
+        Some(node) => turn(frame, n, node.children.as_slice()),
+        None => Ok(Outcome::Lacks(Lack::Value)),
+    }
+}
+
+// A turn of the `while` with these children, or its end.
+fn turn(frame: &mut Frame, n: u32, children: &[u32]) -> Result<Outcome, AllocError>
     requires { 0 < length frame.old.tasks }
     ensures ok { IfOk result (λ o. within frame.old (spec.loop_task (relieved frame.old) n children.now) ≡ Some (o, frame.new)) }
     ensures err { OnErr result (frame.new ≡ frame.old) }

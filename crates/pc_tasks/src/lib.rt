@@ -5,10 +5,11 @@
 mod apply;
 mod choices;
 mod evaluation;
+mod fields;
 mod frames;
 mod identity;
 mod inside;
 mod operators;
 
 pub use frames::push_value;
-pub use inside::is_inside;
+pub use inside::{is_inside, run_inside};
