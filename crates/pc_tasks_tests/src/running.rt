@@ -38,7 +38,12 @@ fn counts_of(frame: &Frame) -> Counts {
         stack: frame.stack.len(),
         tasks: frame.tasks.len(),
         first: frame.tasks.top().copied(),
-        held: frame.slots.as_slice().iter().filter(|slot| slot.is_some()).count(),
+        held: frame
+            .slots
+            .as_slice()
+            .iter()
+            .filter(|slot| slot.is_some())
+            .count(),
     }
 }
 
@@ -110,7 +115,7 @@ pub fn run(alloc: Global, running: &mut Running) -> Option<Ended> {
                 break;
             }
             Err(_) => {
-                ended.refused += 1;
+                ended.refused = ended.refused.saturating_add(1);
                 if counts_of(&running.frame) != before {
                     return None;
                 }

@@ -17,7 +17,8 @@ use pc_tree::File;
 use std::alloc::Global;
 
 fn tokens_of(alloc: Global, text: &[u8]) -> Result<List<Token>, LexFault>
-    ensures { IfOk result (λ ts. EndsWithEnd ts × Ascends (starts ts)) }
+    ensures end { IfOk result EndsWithEnd }
+    ensures ascend { IfOk result (λ ts. Ascends (starts ts)) }
 {
     if text.len() > 1_048_576 {
         return Err(LexFault::Memory);
