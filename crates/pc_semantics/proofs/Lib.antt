@@ -1,3 +1,4 @@
+mod Ends
 mod Maps
 mod Parts
 mod Computed

@@ -1,7 +1,8 @@
-ghost use Rattle.std.specs.Prelude.{◌≡◌, ◌∷◌, [], length, drop, slice_get, option_copied, OnOk, OnErr, IfErr};
+ghost use Rattle.std.specs.Prelude.{◌≡◌, ◌-◌, ◌<◌, ◌∷◌, ◌++◌, [], length, drop, reverse, slice_get, slice_set, option_copied, Some, OnOk, OnErr, IfErr};
 
-use std::alloc::{AllocFailed, Global};
+use std::alloc::{AllocError, AllocFailed, Global};
 use std::marker::Model;
+use std::mem;
 
 /// A stack. It is seen as a list, the top first.
 #[derive(Debug, Drop)]
@@ -57,4 +58,80 @@ impl<T> Stack<T> {
     {
         self.items.last()
     }
+    /// The value at a place, counted from the top. `None` exactly where there is none.
+    pub fn peek(&self, place: usize) -> Option<&T>
+        ensures { option_copied result ≡ slice_get self.now place }
+    {
+        let count = self.items.len();
+        if place < count {
+            self.items.get(count - 1 - place)
+        } else {
+            None
+        }
+    }
+
+    /// Puts another value in place of the top, and answers the one before. It takes no memory.
+    pub fn replace_top(&mut self, value: T) -> T
+        requires { 0 < length self.old }
+        ensures new { self.new ≡ value ∷ drop 1 self.old }
+        ensures top { slice_get self.old 0 ≡ Some result }
+    {
+        replace_last(&mut self.items, value)
+    }
+
+    /// Puts another value in a place, counted from the top, and answers the one before. It takes no memory.
+    pub fn replace(&mut self, place: usize, value: T) -> T
+        requires { place < length self.old }
+        ensures new { self.new ≡ slice_set self.old place value }
+        ensures old { slice_get self.old place ≡ Some result }
+    {
+        replace_from_end(&mut self.items, place, value)
+    }
+
+    /// Puts values on the stack, of which the first becomes the top. An `Err` changes nothing.
+    pub fn push_all(&mut self, values: &[T]) -> Result<(), AllocError>
+    where
+        T: Copy + Drop,
+        ensures ok { OnOk result (self.new ≡ values.now ++ self.old) }
+        ensures err { OnErr result (self.new ≡ self.old) }
+    {
+        append_reversed(&mut self.items, values)
+    }
+}
+
+// The values behind the others, the last one first. An `Err` changes nothing.
+fn append_reversed<T: Copy + Drop>(items: &mut Vec<T>, values: &[T]) -> Result<(), AllocError>
+    ensures ok { OnOk result (items.new.items ≡ items.old.items ++ reverse values.now) }
+    ensures err { OnErr result (items.new.items ≡ items.old.items) }
+{
+    let before = items.len();
+    let mut left = values.len();
+    'values: while left > 0 {
+        left -= 1;
+        if items.push(values[left]).is_err() {
+            items.truncate(before);
+            return Err(AllocError);
+        }
+    }
+    Ok(())
+}
+
+// Another value in place of the last one.
+fn replace_last<T>(items: &mut Vec<T>, value: T) -> T
+    requires { 0 < length items.old.items }
+    ensures new { items.new.items ≡ slice_set items.old.items (length items.old.items - 1) value }
+    ensures last { slice_get items.old.items (length items.old.items - 1) ≡ Some result }
+{
+    let place = items.len() - 1;
+    mem::replace(&mut items[place], value)
+}
+
+// Another value in a place, counted from the last one.
+fn replace_from_end<T>(items: &mut Vec<T>, place: usize, value: T) -> T
+    requires { place < length items.old.items }
+    ensures new { items.new.items ≡ slice_set items.old.items (length items.old.items - 1 - place) value }
+    ensures old { slice_get items.old.items (length items.old.items - 1 - place) ≡ Some result }
+{
+    let place = items.len() - 1 - place;
+    mem::replace(&mut items[place], value)
 }
