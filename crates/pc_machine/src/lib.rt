@@ -1,0 +1,4 @@
+//! The machine that runs a core. Each of its steps is the definition's, in `pc_semantics`: `Machine::step` says so.
+#![tactic(auto)]
+
+mod actors;
