@@ -2,3 +2,6 @@
 #![tactic(auto)]
 
 mod actors;
+mod frames;
+mod plan;
+mod state;
