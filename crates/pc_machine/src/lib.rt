@@ -2,6 +2,8 @@
 #![tactic(auto)]
 
 mod actors;
+mod calls;
 mod frames;
+mod lookups;
 mod plan;
 mod state;
