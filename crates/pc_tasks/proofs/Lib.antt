@@ -1,0 +1,2 @@
+mod Anyone
+mod Tasks

@@ -1,0 +1,146 @@
+//! Tasks that look at a truth value and go one way or another.
+ghost use Rattle.std.specs.Prelude.{◌≡◌, ◌<◌, length, drop, slice_get, Some, IfOk, OnErr};
+ghost use Rattle.pc_semantics.specs.Around.{Goes, with_stack, pop};
+ghost use Rattle.pc_semantics.specs.Choices as spec;
+ghost use Rattle.pc_semantics.specs.Tasks.{at_node};
+ghost use Rattle.pc_tasks.specs.Inside.{relieved, within};
+
+use crate::frames::go_on_with;
+use pc_core::{Core, NodeKind};
+use pc_heap::Value;
+use pc_semantics::{Frame, Lack, Outcome, Task};
+use std::alloc::AllocError;
+
+// The left side of an `and`: where it is false it is the value.
+fn test_and(frame: &mut Frame, children: &[u32]) -> Outcome
+    requires { 0 < length frame.old.tasks }
+    ensures { within frame.old (pop (relieved frame.old) (spec.truth (spec.test_and children.now))) ≡ Some (result, frame.new) }
+{
+    let Some(Value::Truth(truth)) = frame.stack.top() else {
+        return Outcome::Lacks(Lack::Value);
+    };
+    if !*truth {
+        let _ = frame.tasks.pop();
+        return Outcome::Moved;
+    }
+    right_side(frame, children)
+}
+
+// The left side of an `or`: where it is true it is the value.
+fn test_or(frame: &mut Frame, children: &[u32]) -> Outcome
+    requires { 0 < length frame.old.tasks }
+    ensures { within frame.old (pop (relieved frame.old) (spec.truth (spec.test_or children.now))) ≡ Some (result, frame.new) }
+{
+    let Some(Value::Truth(truth)) = frame.stack.top() else {
+        return Outcome::Lacks(Lack::Value);
+    };
+    if *truth {
+        let _ = frame.tasks.pop();
+        return Outcome::Moved;
+    }
+    right_side(frame, children)
+}
+
+// The value on top goes, and the right side is evaluated.
+fn right_side(frame: &mut Frame, children: &[u32]) -> Outcome
+    requires value { 0 < length frame.old.stack }
+    requires task { 0 < length frame.old.tasks }
+    ensures { within frame.old (spec.right_side (with_stack (relieved frame.old) (drop 1 frame.old.stack)) children.now) ≡ Some (result, frame.new) }
+{
+    let [_, right] = children else {
+        return Outcome::Lacks(Lack::Value);
+    };
+    let _ = frame.stack.pop();
+    let _ = frame.tasks.replace_top(Task::Eval(*right));
+    Outcome::Moved
+}
+
+/// The task Test of node n: the left side of an `and` or `or` decides, or the right side is evaluated.
+pub fn test(core: &Core, frame: &mut Frame, n: u32) -> Outcome
+    requires { 0 < length frame.old.tasks }
+    ensures { within frame.old (at_node (slice_get core.now.nodes n) (λ x. spec.test_task (relieved frame.old) x.children x.kind)) ≡ Some (result, frame.new) }
+{
+    let Some(node) = core.node_at(n) else {
+        return Outcome::Lacks(Lack::Value);
+    };
+    match &node.kind {
+        NodeKind::And => test_and(frame, node.children.as_slice()),
+        NodeKind::Or => test_or(frame, node.children.as_slice()),
+        _ => Outcome::Lacks(Lack::Value),
+    }
+}
+
+/// The task Branch of node n: one of the two branches is evaluated.
+pub fn branch(core: &Core, frame: &mut Frame, n: u32) -> Outcome
+    requires { 0 < length frame.old.tasks }
+    ensures { within frame.old (at_node (slice_get core.now.nodes n) (λ x. spec.branch_task (relieved frame.old) x.children)) ≡ Some (result, frame.new) }
+{
+    match core.node_at(n) {
+        Some(node) => take_branch(frame, node.children.as_slice()),
+        None => Outcome::Lacks(Lack::Value),
+    }
+}
+
+// One of the two branches is evaluated.
+fn take_branch(frame: &mut Frame, children: &[u32]) -> Outcome
+    requires { 0 < length frame.old.tasks }
+    ensures { within frame.old (spec.branch_task (relieved frame.old) children.now) ≡ Some (result, frame.new) }
+{
+    let Some(Value::Truth(truth)) = frame.stack.top() else {
+        return Outcome::Lacks(Lack::Value);
+    };
+    let [_, then, otherwise] = children else {
+        return Outcome::Lacks(Lack::Value);
+    };
+    let next = if *truth { *then } else { *otherwise };
+    let _ = frame.stack.pop();
+    let _ = frame.tasks.replace_top(Task::Eval(next));
+    Outcome::Moved
+}
+
+/// The task Loop of node n: the body is evaluated and its value dropped, and then comes the whole again; or the value is
+/// None.
+pub fn go_round(core: &Core, frame: &mut Frame, n: u32) -> Result<Outcome, AllocError>
+    requires { 0 < length frame.old.tasks }
+    ensures ok { IfOk result (λ o. within frame.old (at_node (slice_get core.now.nodes n) (λ x. spec.loop_task (relieved frame.old) n x.children)) ≡ Some (o, frame.new)) }
+    ensures err { OnErr result (frame.new ≡ frame.old) }
+{
+    match core.node_at(n) {
+        Some(node) => turn(frame, n, node.children.as_slice()),
+        None => Ok(Outcome::Lacks(Lack::Value)),
+    }
+}
+
+// A turn of the `while` with these children, or its end.
+fn turn(frame: &mut Frame, n: u32, children: &[u32]) -> Result<Outcome, AllocError>
+    requires { 0 < length frame.old.tasks }
+    ensures ok { IfOk result (λ o. within frame.old (spec.loop_task (relieved frame.old) n children.now) ≡ Some (o, frame.new)) }
+    ensures err { OnErr result (frame.new ≡ frame.old) }
+{
+    let Some(Value::Truth(truth)) = frame.stack.top() else {
+        return Ok(Outcome::Lacks(Lack::Value));
+    };
+    let [_, body] = children else {
+        return Ok(Outcome::Lacks(Lack::Value));
+    };
+    if *truth {
+        go_on_with(frame, &[Task::Eval(*body), Task::Discard, Task::Eval(n)])?;
+        let _ = frame.stack.pop();
+    } else {
+        let _ = frame.stack.replace_top(Value::Prim(0));
+        let _ = frame.tasks.pop();
+    }
+    Ok(Outcome::Moved)
+}
+
+/// The task Discard: the top goes.
+pub fn discard(frame: &mut Frame) -> Outcome
+    requires { 0 < length frame.old.tasks }
+    ensures { within frame.old (pop (relieved frame.old) (λ v g. Goes g)) ≡ Some (result, frame.new) }
+{
+    if frame.stack.pop().is_none() {
+        return Outcome::Lacks(Lack::Value);
+    }
+    let _ = frame.tasks.pop();
+    Outcome::Moved
+}

@@ -1,0 +1,150 @@
+//! Reading and writing fields, and storing in slots.
+ghost use Rattle.std.specs.Prelude.{◌≡◌, ◌<◌, length, slice_get, Some, IfOk, OnErr};
+ghost use Rattle.pc_semantics.specs.Around.{pop};
+ghost use Rattle.pc_semantics.specs.Fields as spec;
+ghost use Rattle.pc_semantics.specs.Tasks.{at_node};
+ghost use Rattle.pc_tasks.specs.Inside.{seeing, relieved, within, ended};
+
+use pc_core::{Core, NodeKind};
+use pc_heap::{Heap, Value};
+use pc_semantics::{Frame, Lack, Outcome};
+use std::alloc::{AllocError, Global};
+
+// The field of this name of the object on top is read.
+fn read(
+    alloc: Global,
+    core: &Core,
+    heap: &Heap,
+    frame: &mut Frame,
+    name: u32,
+) -> Result<Outcome, AllocError>
+    requires { 0 < length frame.old.tasks }
+    ensures ok { IfOk result (λ o. within frame.old (pop (relieved frame.old) (spec.get_from core.now (seeing heap.now.objects) name)) ≡ Some (o, frame.new)) }
+    ensures err { OnErr result (frame.new ≡ frame.old) }
+{
+    let address = match frame.stack.top() {
+        Some(Value::At(address)) => *address,
+        Some(_) => return Ok(Outcome::Lacks(Lack::Object)),
+        None => return Ok(Outcome::Lacks(Lack::Value)),
+    };
+    let Some(entity) = heap.class_of(address) else {
+        return Ok(Outcome::Lacks(Lack::Object));
+    };
+    let Some(field) = core.field(entity, name) else {
+        return Ok(Outcome::Lacks(Lack::Field));
+    };
+    let Some(value) = heap.get(address, field) else {
+        return Ok(Outcome::Lacks(Lack::Field));
+    };
+    let value = value.copy(alloc)?;
+    let _ = frame.stack.replace_top(value);
+    let _ = frame.tasks.pop();
+    Ok(Outcome::Moved)
+}
+
+/// The task Get of node n: the origin goes, and the value of its field comes.
+pub fn get(
+    alloc: Global,
+    core: &Core,
+    heap: &Heap,
+    frame: &mut Frame,
+    n: u32,
+) -> Result<Outcome, AllocError>
+    requires { 0 < length frame.old.tasks }
+    ensures ok { IfOk result (λ o. within frame.old (at_node (slice_get core.now.nodes n) (λ x. spec.get_task core.now (seeing heap.now.objects) (relieved frame.old) x.kind)) ≡ Some (o, frame.new)) }
+    ensures err { OnErr result (frame.new ≡ frame.old) }
+{
+    let Some(node) = core.node_at(n) else {
+        return Ok(Outcome::Lacks(Lack::Value));
+    };
+    match &node.kind {
+        NodeKind::Field(name) => read(alloc, core, heap, frame, *name),
+        _ => Ok(Outcome::Lacks(Lack::Value)),
+    }
+}
+
+// The value on top is put into the slot, and the one before comes, or None.
+#[tactic(auto, using(std::proofs::lemmas::List::set_past, std::proofs::lemmas::Option::slice_get_past))]
+fn store_in(frame: &mut Frame, slot: u32) -> Outcome
+    requires { 0 < length frame.old.tasks }
+    ensures { within frame.old (pop (relieved frame.old) (spec.store slot)) ≡ Some (result, frame.new) }
+{
+    if frame.stack.len() == 0 {
+        return Outcome::Lacks(Lack::Value);
+    }
+    let place = slot as usize;
+    let value = frame.stack.replace_top(Value::Prim(0));
+    if place < frame.slots.len() {
+        if let Some(before) = frame.slots.replace(place, Some(value)) {
+            let _ = frame.stack.replace_top(before);
+        }
+    }
+    let _ = frame.tasks.pop();
+    Outcome::Moved
+}
+
+/// The task Store of node n: the value goes into the slot, and the one before comes, or None.
+pub fn store(core: &Core, frame: &mut Frame, n: u32) -> Outcome
+    requires { 0 < length frame.old.tasks }
+    ensures { within frame.old (at_node (slice_get core.now.nodes n) (λ x. spec.store_task (relieved frame.old) x.kind)) ≡ Some (result, frame.new) }
+{
+    let Some(node) = core.node_at(n) else {
+        return Outcome::Lacks(Lack::Value);
+    };
+    match &node.kind {
+        NodeKind::Define(slot) => store_in(frame, *slot),
+        NodeKind::Assign(slot) => store_in(frame, *slot),
+        _ => Outcome::Lacks(Lack::Value),
+    }
+}
+
+// The field of this name of the object on top gets the value below it.
+fn write(core: &Core, heap: &mut Heap, frame: &mut Frame, name: u32) -> Outcome
+    requires { 0 < length frame.old.tasks }
+    ensures end { ended heap.old.objects frame.old (pop (relieved frame.old) (λ o g. pop g (spec.put_into core.now (seeing heap.old.objects) name o))) ≡ Some (result, heap.new.objects, frame.new) }
+    ensures room { heap.new.room ≡ heap.old.room }
+{
+    if frame.stack.len() < 2 {
+        return Outcome::Lacks(Lack::Value);
+    }
+    let Some(Value::At(address)) = frame.stack.top() else {
+        return Outcome::Lacks(Lack::Object);
+    };
+    let address = *address;
+    let Some(entity) = heap.class_of(address) else {
+        return Outcome::Lacks(Lack::Object);
+    };
+    let Some(field) = core.field(entity, name) else {
+        return Outcome::Lacks(Lack::Field);
+    };
+    let value = frame.stack.replace(1, Value::Prim(0));
+    match heap.set(address, field, value) {
+        Ok(before) => {
+            let _ = frame.stack.pop();
+            if let Some(before) = before {
+                let _ = frame.stack.replace_top(before);
+            }
+            let _ = frame.tasks.pop();
+            Outcome::Moved
+        }
+        Err(value) => {
+            let _ = frame.stack.replace(1, value);
+            Outcome::Lacks(Lack::Field)
+        }
+    }
+}
+
+/// The task Put of node n: the origin and the value go, the field gets the value, and the one before comes, or None.
+pub fn put(core: &Core, heap: &mut Heap, frame: &mut Frame, n: u32) -> Outcome
+    requires { 0 < length frame.old.tasks }
+    ensures end { ended heap.old.objects frame.old (at_node (slice_get core.now.nodes n) (λ x. spec.put_task core.now (seeing heap.old.objects) (relieved frame.old) x.kind)) ≡ Some (result, heap.new.objects, frame.new) }
+    ensures room { heap.new.room ≡ heap.old.room }
+{
+    let Some(node) = core.node_at(n) else {
+        return Outcome::Lacks(Lack::Value);
+    };
+    match &node.kind {
+        NodeKind::SetField(name) => write(core, heap, frame, *name),
+        _ => Outcome::Lacks(Lack::Value),
+    }
+}

@@ -1,0 +1,129 @@
+//! What operators give.
+ghost use Rattle.std.specs.Prelude.{◌≡◌, ◌/◌, ◌%◌, ◌++◌, IfOk};
+ghost use Rattle.pc_semantics.specs.declared.frames.Frame.{Frame};
+ghost use Rattle.pc_semantics.specs.Operators as spec;
+ghost use Rattle.pc_tasks.specs.Applied.{applied_to};
+
+use crate::identity::same_truth;
+use pc_caps::List;
+use pc_heap::Value;
+use pc_tree::Op;
+use std::alloc::{AllocError, Global};
+
+/// How many bytes a text may have.
+const TEXT_LIMIT: usize = 4096;
+
+/// What an operator makes of its operands.
+#[derive(Drop)]
+pub enum Applied {
+    /// This value.
+    Gives(Value),
+    /// Nothing: it asks for a value of another kind.
+    OtherKind,
+    /// A text that would be longer than a text may be.
+    TooLong,
+}
+
+// A quotient or remainder by 0 is 0.
+fn quotient(left: u64, right: u64) -> u64
+    ensures { result ≡ spec.over right (left / right) }
+{
+    if right == 0 { 0 } else { left / right }
+}
+
+fn remainder(left: u64, right: u64) -> u64
+    ensures { result ≡ spec.over right (left % right) }
+{
+    if right == 0 { 0 } else { left % right }
+}
+
+// An operator on two numbers.
+fn of_numbers(op: Op, left: u64, right: u64) -> Option<Value>
+    ensures { result ≡ spec.of_numbers op left right }
+{
+    match op {
+        Op::Add => Some(Value::Num(left.wrapping_add(right))),
+        Op::Sub => Some(Value::Num(left.wrapping_sub(right))),
+        Op::Mul => Some(Value::Num(left.wrapping_mul(right))),
+        Op::Div => Some(Value::Num(quotient(left, right))),
+        Op::Rem => Some(Value::Num(remainder(left, right))),
+        Op::Eq => Some(Value::Truth(left == right)),
+        Op::Ne => Some(Value::Truth(left != right)),
+        Op::Lt => Some(Value::Truth(left < right)),
+        Op::Le => Some(Value::Truth(left <= right)),
+        Op::Gt => Some(Value::Truth(left > right)),
+        Op::Ge => Some(Value::Truth(left >= right)),
+        Op::And | Op::Or | Op::Xor | Op::Is | Op::Isnt => None,
+    }
+}
+
+// An operator on two truth values.
+fn of_truths(op: Op, left: bool, right: bool) -> Option<Value>
+    ensures { result ≡ spec.of_truths op left right }
+{
+    match op {
+        Op::Eq => Some(Value::Truth(same_truth(left, right))),
+        Op::Ne | Op::Xor => Some(Value::Truth(!same_truth(left, right))),
+        _ => None,
+    }
+}
+
+// Both texts in one.
+fn joined(alloc: Global, left: &[u8], right: &[u8]) -> Result<Applied, AllocError>
+    ensures { IfOk result (λ r. (f : Frame) → applied_to f r ≡ spec.joined f (left.now ++ right.now)) }
+{
+    let length = left.len() + right.len();
+    if length > TEXT_LIMIT {
+        return Ok(Applied::TooLong);
+    }
+    let mut bytes = Vec::with_capacity(alloc, length)?;
+    bytes.extend_from_slice(left)?;
+    bytes.extend_from_slice(right)?;
+    Ok(Applied::Gives(Value::Text(List::from_vec(bytes))))
+}
+
+// An operator on two texts.
+fn of_texts(alloc: Global, op: Op, left: &[u8], right: &[u8]) -> Result<Applied, AllocError>
+    ensures { IfOk result (λ r. (f : Frame) → applied_to f r ≡ spec.of_texts f op left.now right.now) }
+{
+    match op {
+        Op::Add => joined(alloc, left, right),
+        Op::Eq => Ok(Applied::Gives(Value::Truth(left == right))),
+        Op::Ne => Ok(Applied::Gives(Value::Truth(left != right))),
+        _ => Ok(Applied::OtherKind),
+    }
+}
+
+// A value, where there is one.
+fn given(value: Option<Value>) -> Applied
+    ensures { (f : Frame) → applied_to f result ≡ spec.gives f value }
+{
+    match value {
+        Some(value) => Applied::Gives(value),
+        None => Applied::OtherKind,
+    }
+}
+
+/// A binary operator on two values.
+pub fn binary(alloc: Global, op: Op, left: &Value, right: &Value) -> Result<Applied, AllocError>
+    ensures { IfOk result (λ r. (f : Frame) → applied_to f r ≡ spec.binary f op left.now right.now) }
+{
+    match (left, right) {
+        (Value::Num(left), Value::Num(right)) => Ok(given(of_numbers(op, *left, *right))),
+        (Value::Truth(left), Value::Truth(right)) => Ok(given(of_truths(op, *left, *right))),
+        (Value::Text(left), Value::Text(right)) => {
+            of_texts(alloc, op, left.as_slice(), right.as_slice())
+        }
+        (_, _) => Ok(Applied::OtherKind),
+    }
+}
+
+/// `not` of a value.
+pub fn negated(value: &Value) -> Applied
+    ensures { (f : Frame) → applied_to f result ≡ spec.negated f value.now }
+{
+    match value {
+        Value::Truth(truth) => Applied::Gives(Value::Truth(!*truth)),
+        _ => Applied::OtherKind,
+    }
+}
