@@ -1,5 +1,5 @@
 -- What a plan means, as the move of a task.
-use Rattle.std.specs.Prelude.{ℕ, ◌<◌, ◌≤◌, List, [], ◌∷◌, length, drop, Option, Some, None, slice_get}
+use Rattle.std.specs.Prelude.{ℕ, ◌<◌, ◌≤◌, List, [], ◌∷◌, length, drop, Option, Some, None, nat_eq, nat_lt, ◌&&◌, if◌then◌else◌, slice_get}
 use Rattle.pc_heap.specs.Objects.{new_object, next_address}
 use Rattle.pc_heap.specs.Heaps.{field_limit}
 use Rattle.pc_heap.specs.declared.value.Value.{Value}
@@ -71,6 +71,11 @@ Fits (Changes c) n = Suits c n
 Fits (Makes count entity fields g) n = (fields ≤ field_limit) × (0 < length g.slots)
 Fits (Spawns count entity fields m) n = (fields ≤ field_limit) × (count ≤ n)
 Fits (Sends count receiver m) n = (0 < count) × (count ≤ n)
+
+-- The actor whose own object a value is, where it is one of so many actors.
+abbrev pub receiver_in : Value → ℕ → Option ℕ
+receiver_in (At a) actors = if nat_eq a.serial 0 && nat_lt a.maker actors then Some a.maker else None
+receiver_in v actors = None
 
 -- How the plan of actor i ends, and the configuration behind it.
 abbrev pub planned_frames : Configuration → ℕ → Actor → Plan → List Frame → Outcome × Configuration

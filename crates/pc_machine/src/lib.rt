@@ -4,6 +4,8 @@
 mod actors;
 mod calls;
 mod frames;
+mod invocations;
 mod lookups;
 mod plan;
 mod state;
+mod strings;

@@ -1,5 +1,5 @@
 //! What a core and a heap say of entities, and copies of arguments.
-ghost use Rattle.std.specs.Prelude.{◌≡◌, ◌≤◌, [], length, drop, slice_get, option_copied, Some, None, MatchOption, IfSome, OnSome, IfOk};
+ghost use Rattle.std.specs.Prelude.{◌≡◌, ◌+◌, ◌-◌, ◌<◌, ◌≤◌, [], length, drop, slice_get, option_copied, Some, None, MatchOption, IfSome, OnSome, IfOk};
 ghost use Rattle.pc_semantics.specs.Around as around;
 ghost use Rattle.pc_semantics.specs.Configurations.{fields_in};
 
@@ -40,6 +40,19 @@ pub fn arguments_on(stack: &Stack<Value>, count: usize) -> Option<&[Value]>
     ensures enough { OnSome result (count ≤ length stack.now) }
 {
     stack.topmost(count)
+}
+
+/// The values of so many arguments but one, below the receiver on top. `None` exactly where there are not so many.
+pub fn arguments_below(stack: &Stack<Value>, count: usize) -> Option<&[Value]>
+    requires some { 0 < count }
+    requires top { 0 < length stack.now }
+    ensures values { MatchOption result (around.popped (count - 1) (drop 1 stack.now) [] ≡ None) (λ values. around.popped (count - 1) (drop 1 stack.now) [] ≡ Some (values.now, drop count stack.now)) }
+    ensures len { IfSome result (λ values. length values.now + 1 ≡ count) }
+    ensures enough { OnSome result (count ≤ length stack.now) }
+{
+    let values = stack.topmost(count)?;
+    let (_, below) = values.split_last()?;
+    Some(below)
 }
 
 // Copies of values, as the arguments of a message.
