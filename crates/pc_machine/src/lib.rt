@@ -7,5 +7,7 @@ mod frames;
 mod invocations;
 mod lookups;
 mod plan;
+mod planning;
+mod returns;
 mod state;
 mod strings;
