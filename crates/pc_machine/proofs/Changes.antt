@@ -7,7 +7,7 @@ use Rattle.pc_semantics.specs.declared.actors.Actor.{Actor}
 use Rattle.pc_semantics.specs.declared.frames.Frame.{Frame}
 use Rattle.pc_semantics.specs.declared.mailbox.Message.{Message}
 use Rattle.pc_caps.specs.Gets.{get_within}
-use Rattle.pc_machine.specs.Changed.{changed, mailed, unmailed, frames_of, messages_in}
+use Rattle.pc_machine.specs.Changed.{changed, framed, mailed, unmailed, frames_of, messages_in}
 
 -- a write of what stands there, changed
 pub set_changed : {T : Type 0} → (xs : List T) (i : ℕ) (x : T) (g : T → T) → i < length xs → x ≡ get_or xs i x → set xs i (g x) ≡ changed xs i g
@@ -74,3 +74,49 @@ messages_less xs i a e some =
 pub there_with : {T : Type 0} → (o : Option T) (P : T → Type 0) → IsSomeAnd o P → (x : T) × (o ≡ Some x) × P x
 there_with None P h = absurd h
 there_with (Some x) P h = (x, refl, h)
+
+-- ---- frames
+
+-- an actor that has a frame is there
+pub is_there : (xs : List Actor) (i : ℕ) → 0 < length (frames_of xs i) → i < length xs
+is_there [] i l = absurd (omega arith)
+is_there (x ∷ xs) zero l = omega arith
+is_there (x ∷ xs) (suc i) l = let m = is_there xs i l in omega (arith, m)
+
+-- frames that are taken out, and others put in
+framed_twice : (xs : List Actor) (i : ℕ) (fs gs : List Frame) → changed (changed xs i (framed fs)) i (framed gs) ≡ changed xs i (framed gs)
+framed_twice [] i fs gs = refl
+framed_twice (x ∷ xs) zero fs gs = refl
+framed_twice (x ∷ xs) (suc i) fs gs = ap (λ ys. x ∷ ys) (framed_twice xs i fs gs)
+
+framed_same : (xs : List Actor) (i : ℕ) → changed xs i (framed (frames_of xs i)) ≡ xs
+framed_same [] i = refl
+framed_same (x ∷ xs) zero = refl
+framed_same (x ∷ xs) (suc i) = ap (λ ys. x ∷ ys) (framed_same xs i)
+
+pub swapped : (xs ys zs : List Actor) (i : ℕ) (fs gs hs : List Frame) → ys ≡ changed xs i (framed fs) → zs ≡ changed ys i (framed gs) → gs ≡ hs → zs ≡ changed xs i (framed hs)
+swapped xs ys zs i fs gs hs first second same = second ∙ ap (λ ws. changed ws i (framed gs)) first ∙ framed_twice xs i fs gs ∙ ap (λ ks. changed xs i (framed ks)) same
+
+pub swapped_back : (xs ys zs : List Actor) (i : ℕ) (fs gs : List Frame) → ys ≡ changed xs i (framed fs) → zs ≡ changed ys i (framed gs) → gs ≡ frames_of xs i → zs ≡ xs
+swapped_back xs ys zs i fs gs first second same = swapped xs ys zs i fs gs (frames_of xs i) first second same ∙ framed_same xs i
+
+-- the place is still there
+pub still_there : (xs ys : List Actor) (i : ℕ) (g : Actor → Actor) → ys ≡ changed xs i g → i < length xs → i < length ys
+still_there xs ys i g e l = omega (arith, ap length e, length_changed xs i g, l)
+
+-- ---- messages and frames
+
+pub frames_mailed : (xs : List Actor) (i j : ℕ) (m : Message) → frames_of (changed xs j (mailed m)) i ≡ frames_of xs i
+frames_mailed [] i j m = refl
+frames_mailed (x ∷ xs) zero zero m = refl
+frames_mailed (x ∷ xs) zero (suc j) m = refl
+frames_mailed (x ∷ xs) (suc i) zero m = refl
+frames_mailed (x ∷ xs) (suc i) (suc j) m = frames_mailed xs i j m
+
+-- a message that is sent before the frames change is sent behind it
+pub mailed_framed : (xs : List Actor) (i j : ℕ) (m : Message) (fs : List Frame) → changed (changed xs j (mailed m)) i (framed fs) ≡ changed (changed xs i (framed fs)) j (mailed m)
+mailed_framed [] i j m fs = refl
+mailed_framed (x ∷ xs) zero zero m fs = refl
+mailed_framed (x ∷ xs) zero (suc j) m fs = refl
+mailed_framed (x ∷ xs) (suc i) zero m fs = refl
+mailed_framed (x ∷ xs) (suc i) (suc j) m fs = ap (λ ys. x ∷ ys) (mailed_framed xs i j m fs)

@@ -1,3 +1,4 @@
 mod Changes
 mod Stacked
 mod Popped
+mod Planned

@@ -1,2 +1,3 @@
 pub mod Changed
 pub mod Plans
+pub mod States

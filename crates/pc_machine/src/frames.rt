@@ -81,15 +81,27 @@ fn finish(frame: &mut Frame, count: usize)
     frame.stack.discard(count);
 }
 
-/// The first task of a frame goes, and a value takes the place of the topmost ones.
+// The first task of a frame goes, and a value takes the place of the topmost ones.
 #[tactic(auto, using(crate::proofs::Stacked::drop_last))]
-pub fn place_value(frame: &mut Frame, count: usize, value: Value)
+fn place_value(frame: &mut Frame, count: usize, value: Value)
     requires some { 0 < count }
     requires enough { count ≤ length frame.old.stack }
     ensures { frame.new ≡ pushed (after_call count frame.old) value }
 {
     finish(frame, count - 1);
     let _ = frame.stack.replace_top(value);
+}
+
+/// The running frame goes on with a value in the place of the topmost ones. It takes no memory.
+pub fn place_top(alloc: Global, frames: &mut Stack<Frame>, count: usize, value: Value)
+    requires running { 0 < length frames.old }
+    requires some { 0 < count }
+    requires enough { IfSome (slice_get frames.old 0) (λ f. count ≤ length f.stack) }
+    ensures { frames.new ≡ given count value frames.old }
+{
+    let mut frame = frames.replace_top(blank(alloc));
+    place_value(&mut frame, count, value);
+    let _ = frames.replace_top(frame);
 }
 
 // The same where the value may take no value's place.

@@ -6,6 +6,7 @@ mod calls;
 mod frames;
 mod invocations;
 mod lookups;
+mod moves;
 mod plan;
 mod planning;
 mod returns;
