@@ -1,4 +1,5 @@
 mod Changes
 mod Stacked
 mod Popped
+mod Peopling
 mod Planned

@@ -72,6 +72,11 @@ Fits (Makes count entity fields g) n = (fields ≤ field_limit) × (0 < length g
 Fits (Spawns count entity fields m) n = (fields ≤ field_limit) × (count ≤ n)
 Fits (Sends count receiver m) n = (0 < count) × (count ≤ n)
 
+-- The plan reaches no actor but one of so many.
+abbrev pub Reaches : Plan → ℕ → Type 0
+Reaches (Sends count receiver m) actors = receiver < actors
+Reaches p actors = Unit {0}
+
 -- The actor whose own object a value is, where it is one of so many actors.
 abbrev pub receiver_in : Value → ℕ → Option ℕ
 receiver_in (At a) actors = if nat_eq a.serial 0 && nat_lt a.maker actors then Some a.maker else None
