@@ -3,3 +3,4 @@ mod Stacked
 mod Popped
 mod Peopling
 mod Planned
+mod Stepped

@@ -54,7 +54,7 @@ module _ (c : Configuration) (i : ℕ) (r : Running c.actors i) where
   planned_is p = ap (planned_by c i p) r.here ∙ ap (planned_frames c i r.actor p) r.frames
 
   -- the actor goes on with frames
-  goes_on : (fs : List Frame) → changed c.actors i (framed fs) ≡ (with_frames c i r.actor fs).actors
+  pub goes_on : (fs : List Frame) → changed c.actors i (framed fs) ≡ (with_frames c i r.actor fs).actors
   goes_on fs = changed_set c.actors i r.actor (framed fs) r.here
 
   change_made : (ch : Change) → made c i r.actor r.below (change_move ch r.frame) ≡ (Moved, with_frames c i r.actor (frames_changed ch (r.frame ∷ r.below)))

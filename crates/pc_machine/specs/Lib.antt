@@ -1,3 +1,5 @@
 pub mod Changed
 pub mod Plans
 pub mod States
+pub mod Taken
+pub mod Ran

@@ -4,6 +4,7 @@
 mod actors;
 mod calls;
 mod frames;
+mod inside;
 mod invocations;
 mod lookups;
 mod moves;
@@ -12,3 +13,4 @@ mod planning;
 mod returns;
 mod state;
 mod strings;
+mod take;
