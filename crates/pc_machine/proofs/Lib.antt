@@ -4,3 +4,5 @@ mod Popped
 mod Peopling
 mod Planned
 mod Stepped
+mod Allowed
+mod Kept
