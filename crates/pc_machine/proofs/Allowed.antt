@@ -1,6 +1,6 @@
 -- What a task's move may name: a write's object stands, a new object has the next address of its actor, and a message goes to
 -- an actor.
-use Rattle.std.proofs.Common.{◌≡◌, ℕ, ◌-◌, ◌<◌, Bool, true, false, cond, List, [], ◌∷◌, ◌++◌, Option, Some, None, refl, sym, ap, ◌∙◌, arith}
+use Rattle.std.proofs.Common.{◌≡◌, ℕ, ◌-◌, ◌<◌, Bool, true, false, cond, List, [], ◌∷◌, ◌++◌, Option, Some, None, refl, sym, ap, ◌∙◌, subst, arith}
 use Rattle.std.specs.Prelude.{nat_eq, nat_lt, ◌&&◌, is_some, IsSome, slice_get, length}
 use Rattle.std.specs.FinMap.{get}
 use borrow.Author.Tests.{ltb-true}
@@ -30,6 +30,9 @@ use Rattle.pc_semantics.specs.Fields.{get_value, get_field, get_of, get_from, pu
 use Rattle.pc_semantics.specs.Operators.{gives, joined, of_numbers, of_truths, of_texts, with_number, with_truth, with_text, binary, negated, compared}
 use Rattle.pc_semantics.specs.Tasks.{at_node, task_move}
 use Rattle.pc_tasks.specs.Inside.{first_move, relieved}
+use Rattle.pc_machine.specs.declared.plan.Plan.{Plan}
+use Rattle.pc_machine.specs.declared.plan.Plan.TheVariants as plan
+use Rattle.pc_machine.specs.Plans.{move_of, Reaches}
 
 abbrev pub Allowed : Around → Move → Type 0
 Allowed around (Writes at k v f) = IsSome (get around.objects at)
@@ -314,3 +317,11 @@ module _ (core : CoreData) (around : Around) where
   pub first_allowed : (f : Frame) (o : Option Task) → Allowed around (first_move core around f o)
   first_allowed f None = tt
   first_allowed f (Some t) = task_allowed (relieved f) t
+
+-- A plan that is a task's move reaches no one but an actor.
+pub reached : (core : CoreData) (around : Around) (f : Frame) (o : Option Task) (p : Plan) → move_of around p f ≡ first_move core around f o → Reaches p around.actors
+reached core around f o (plan.Sends count receiver m) e = subst (Allowed around) (sym e) (first_allowed core around f o)
+reached core around f o (plan.Lacks l) e = tt
+reached core around f o (plan.Changes ch) e = tt
+reached core around f o (plan.Makes count entity fields g) e = tt
+reached core around f o (plan.Spawns count entity fields m) e = tt

@@ -3,3 +3,4 @@ pub mod Plans
 pub mod States
 pub mod Taken
 pub mod Ran
+pub mod Machines

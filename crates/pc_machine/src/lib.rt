@@ -1,6 +1,7 @@
 //! The machine that runs a core. Each of its steps is the definition's, in `pc_semantics`: `Machine::step` says so.
 #![tactic(auto)]
 
+mod access;
 mod actors;
 mod calls;
 mod frames;
@@ -12,5 +13,6 @@ mod plan;
 mod planning;
 mod returns;
 mod state;
+mod step;
 mod strings;
 mod take;
