@@ -1,0 +1,84 @@
+-- Writings one after the other.
+use Rattle.std.proofs.Common.{◌≡◌, ℕ, ◌+◌, ◌<◌, ◌≤◌, List, ◌∷◌, ◌++◌, length, get_or, take, drop, Option, Some, None, Result, Ok, Err, sym, ap, ◌∙◌, subst, arith, append_assoc}
+use Rattle.std.proofs.Math.Seq.{take-append-add, take-append_seam, take-length}
+use Rattle.std.specs.Prelude.{IsErrAnd}
+use Rattle.std.proofs.lemmas.List.{take-append-drop, drop_more}
+use Rattle.std.proofs.lemmas.List.Concat.{flat_map-append}
+use Rattle.std.proofs.KnownBytes.{Appends-nil, Appends-trans}
+use Rattle.std.specs.Io.KnownBytes.{Appends, Keeps}
+use Rattle.pc_io.specs.Count.{one_more}
+use Rattle.pc_io.specs.Sink.{Rose, GrowsByPrefix}
+use Rattle.pc_semantics.specs.Text.{line_end, lines}
+use Rattle.pc_run.specs.declared.report.RunFault.{RunFault}
+use Rattle.pc_run.specs.declared.report.RunFault.TheVariants.{Sink, TooLong, Memory}
+use Rattle.pc_run.specs.Writing.{Change, change, WriteStops, Wrote}
+
+-- ---- prefixes
+
+-- The first bytes of a are the first of what begins with a.
+grows_more : (w x : Option (List ℕ)) (a b : List ℕ) → GrowsByPrefix w x a → GrowsByPrefix w x (a ++ b)
+grows_more w x a b (n, h) =
+    let front = take n a in
+    let all : front ++ (drop n a ++ b) ≡ a ++ b = sym (append_assoc front (drop n a) b) ∙ ap (λ l. l ++ b) (take-append-drop n a) in
+    let same : front ≡ take (length front) (a ++ b) = sym (take-append_seam front (drop n a ++ b)) ∙ ap (take (length front)) all in
+    (length front, subst (Appends w x) same h)
+
+-- What was written whole, and the first bytes of what followed.
+grows_on : (w x y : Option (List ℕ)) (a b : List ℕ) → Appends w x a → GrowsByPrefix x y b → GrowsByPrefix w y (a ++ b)
+grows_on w x y a b h (n, k) = (length a + n, subst (Appends w y) (sym (take-append-add a b n)) (Appends-trans w x y a (take n b) h k))
+
+-- All of a is a prefix of what begins with a.
+pub grows_whole : (w x : Option (List ℕ)) (a b : List ℕ) → Appends w x a → GrowsByPrefix w x (a ++ b)
+grows_whole w x a b h = (length a, subst (Appends w x) (sym (take-append_seam a b)) h)
+
+-- What was kept grew by nothing.
+pub grows_none : (w x : Option (List ℕ)) (a : List ℕ) → Keeps w x → GrowsByPrefix w x a
+grows_none None x a h = (0, tt)
+grows_none (Some w) None a h = absurd h
+grows_none (Some w) (Some x) a h = (0, h ∙ Appends-nil (Some w))
+
+pub grows_same : (w : Option (List ℕ)) (a : List ℕ) → GrowsByPrefix w w a
+grows_same w a = (0, Appends-nil w)
+
+-- ---- counts
+
+rose_before : (f g h : ℕ) → f ≤ g → Rose g h → Rose f h
+rose_before f g h l r = omega (arith, l, r)
+
+-- ---- writings
+
+-- A writing that stopped would have stopped so with more to write.
+pub stops_more : (a b : List ℕ) (out : Change) (e : RunFault) → WriteStops a out e → WriteStops (a ++ b) out e
+stops_more a b out Sink h = (h.0, grows_more out.before out.now a b h.1)
+stops_more a b out (TooLong n) h = absurd h
+stops_more a b out Memory h = grows_more out.before out.now a b h
+
+module _ (w x y : Option (List ℕ)) (f g h : ℕ) (a b : List ℕ) (front : Appends w x a) (later : f ≤ g) where
+  -- It stopped behind a.
+  pub stops_on : (e : RunFault) → WriteStops b (change x y g h) e → WriteStops (a ++ b) (change w y f h) e
+  stops_on Sink s = (rose_before f g h later s.0, grows_on w x y a b front s.1)
+  stops_on (TooLong n) s = absurd s
+  stops_on Memory s = grows_on w x y a b front s
+
+  pub wrote_on : (r : Result (Unit {0}) RunFault) → Wrote b (change x y g h) r → Wrote (a ++ b) (change w y f h) r
+  wrote_on (Ok u) s = Appends-trans w x y a b front s
+  wrote_on (Err e) s = stops_on e s
+
+-- ---- an end by `?`
+
+pub ended_by : (text : List ℕ) (out : Change) (e : RunFault) (r : Result (Unit {0}) RunFault) → IsErrAnd r (λ x. x ≡ e) → WriteStops text out e → Wrote text out r
+ended_by text out e (Ok u) is s = absurd is
+ended_by text out e (Err x) is s = subst (WriteStops text out) (sym is) s
+
+-- ---- texts
+
+-- the lines up to a place, and those behind it
+pub lines_parts : (texts : List (List ℕ)) (i : ℕ) → lines (take i texts) ++ lines (drop i texts) ≡ lines texts
+lines_parts texts i = sym (flat_map-append (λ t. t ++ line_end) (take i texts) (drop i texts)) ∙ ap lines (take-append-drop i texts)
+
+-- the same, with the line at that place
+pub lines_next : (texts : List (List ℕ)) (i : ℕ) (line : List ℕ) → i < length texts → line ≡ get_or texts i line → lines (take i texts) ++ (line ++ line_end) ++ lines (drop (i + 1) texts) ≡ lines texts
+lines_next texts i line l is =
+    let next : drop i texts ≡ line ∷ drop (i + 1) texts = drop_more texts i line l ∙ ap (λ x. x ∷ drop (i + 1) texts) (sym is) in
+    append_assoc (lines (take i texts)) (line ++ line_end) (lines (drop (i + 1) texts))
+    ∙ ap (λ rest. lines (take i texts) ++ lines rest) (sym next) ∙ lines_parts texts i

@@ -1,0 +1,27 @@
+-- What became of a sink.
+use Rattle.std.specs.Prelude.{ℕ, List, Option, Result, MatchResult}
+use Rattle.std.specs.Io.KnownBytes.{Appends}
+use Rattle.pc_io.specs.Sink.{Rose, GrowsByPrefix}
+use Rattle.pc_run.specs.declared.report.RunFault.{RunFault}
+use Rattle.pc_run.specs.declared.report.RunFault.TheVariants.{Sink, TooLong, Memory}
+
+-- What a sink told and how often it had failed, before a call and behind it.
+pub record Change : Type 0 where
+  pub before : Option (List ℕ)
+  pub now : Option (List ℕ)
+  pub faults_before : ℕ
+  pub faults_now : ℕ
+
+abbrev pub change : Option (List ℕ) → Option (List ℕ) → ℕ → ℕ → Change
+change before now faults_before faults_now =
+    record { before = before; now = now; faults_before = faults_before; faults_now = faults_now }
+
+-- The writing of a text stopped: the sink failed, or memory ran out. A prefix of the text was written.
+abbrev pub WriteStops : List ℕ → Change → RunFault → Type 0
+WriteStops text out Sink = Rose out.faults_before out.faults_now × GrowsByPrefix out.before out.now text
+WriteStops text out (TooLong n) = ⊥
+WriteStops text out Memory = GrowsByPrefix out.before out.now text
+
+-- How the writing of a text ended.
+abbrev pub Wrote : List ℕ → Change → Result (Unit {0}) RunFault → Type 0
+Wrote text out result = MatchResult result (λ _. Appends out.before out.now text) (WriteStops text out)
