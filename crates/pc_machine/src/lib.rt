@@ -12,6 +12,7 @@ mod moves;
 mod plan;
 mod planning;
 mod returns;
+mod start;
 mod state;
 mod step;
 mod strings;
