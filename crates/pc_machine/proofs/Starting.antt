@@ -1,20 +1,19 @@
 -- Where the program of a core begins.
-use Rattle.std.proofs.Common.{◌≡◌, ℕ, ◌+◌, ◌<◌, ◌≤◌, Bool, true, false, cond, List, [], ◌∷◌, length, Option, Some, None, refl, sym, ap, ◌∙◌, subst, arith}
+use Rattle.std.proofs.Common.{◌≡◌, ℕ, ◌+◌, ◌<◌, Bool, true, false, cond, List, [], ◌∷◌, length, Option, Some, None, refl, sym, ap, ◌∙◌, arith}
 use Rattle.std.specs.Prelude.{map, position, is_some, IsSome, slice_get, replicate, not}
 use Rattle.std.specs.List.{position_or_len}
-use Rattle.std.specs.FinMap.{empty, get, insert, len, entries, put, get-empty, get-insert, same_map, len-empty, len-entries, entries-insert}
+use Rattle.std.specs.FinMap.{empty, get, insert, len, entries, put, get-insert, same_map, len-empty, len-entries, entries-insert}
 use Rattle.std.specs.Ordering.{eq_by_cmp}
 use Rattle.std.proofs.lemmas.List.{length-map}
 use Rattle.pc_heap.specs.Addresses.{addresses_total}
 use Rattle.pc_heap.specs.Heaps.{object_limit}
-use Rattle.pc_heap.specs.Objects.{address_cmp, ObjectMap, field_at, field_in, new_object, next_address, object_in, with_field, with_value}
+use Rattle.pc_heap.specs.Objects.{address_cmp, ObjectMap, field_at, field_in, next_address, object_in, with_field, with_value}
 use Rattle.pc_heap.specs.declared.value.Address.{Address}
 use Rattle.pc_heap.specs.declared.value.Object.{Object}
 use Rattle.pc_heap.specs.declared.value.Value.{Value}
 use Rattle.pc_heap.specs.declared.value.Value.TheVariants.{At}
 use Rattle.pc_core.specs.CoreData.{CoreData}
 use Rattle.pc_core.specs.Formed.{Formed}
-use Rattle.pc_core.specs.declared.declarations.EntityDef.{EntityDef}
 use Rattle.pc_semantics.specs.Configurations.{own_address, environment_address, environment, blank_object, fields_in, start, start_of, main_create}
 use Rattle.pc_machine.specs.States.{Peopled, IsPeopled}
 use Rattle.pc_machine.proofs.Peopling.{exact_addresses, len_grows, peopled_actor, peopled_none, peopled_object}

@@ -94,7 +94,9 @@ fn make(
 {
     state.heap.reserve(alloc, actor, fields)?;
     let mut callee = frame;
-    let _ = callee.slots.replace(0, Some(Value::At(state.heap.reserved())));
+    let _ = callee
+        .slots
+        .replace(0, Some(Value::At(state.heap.reserved())));
     let change = Change::Enters {
         count,
         frame: callee,
@@ -178,6 +180,13 @@ pub fn make_move(
             count,
             receiver,
             message,
-        } => send(alloc, state, actor as usize, count, receiver as usize, message),
+        } => send(
+            alloc,
+            state,
+            actor as usize,
+            count,
+            receiver as usize,
+            message,
+        ),
     }
 }

@@ -18,6 +18,7 @@ use std::alloc::{AllocError, Global};
 
 /// The numbers of the entities of the environment and of the stream.
 const ENVIRONMENT: u32 = 4;
+
 const STREAM: u32 = 5;
 
 // The place of a text among these.
@@ -40,7 +41,9 @@ fn name_of(core: &Core, text: &[u8]) -> Option<u32>
 fn place_named(entities: &[EntityDef], name: &[u8]) -> Option<usize>
     ensures { result ≡ position (λ x. bytes_eq name.now x.name) entities.now }
 {
-    entities.iter().position(|entity| name == entity.name.as_slice())
+    entities
+        .iter()
+        .position(|entity| name == entity.name.as_slice())
 }
 
 // The number of the entity of this name.

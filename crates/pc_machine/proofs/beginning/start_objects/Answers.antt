@@ -1,5 +1,5 @@
 use Rattle.pc_machine.proofs.Starting.{few_none, few_first, few_third, has_out, is_start}
-use Rattle.pc_machine.proofs.start.start_objects.Goals as goal
+use Rattle.pc_machine.proofs.beginning.start_objects.Goals as goal
 
 pub add_object-requires : goal.add_object-requires
 add_object-requires c = few_none c.args.core.now c.args.main c.new-heap.result.objects c.new-heap.ensures.objects
