@@ -1,6 +1,6 @@
 -- What a task's move may name: a write's object stands, a new object has the next address of its actor, and a message goes to
 -- an actor.
-use Rattle.std.proofs.Common.{◌≡◌, ℕ, ◌-◌, ◌<◌, Bool, true, false, cond, List, [], ◌∷◌, ◌++◌, Option, Some, None, refl, sym, ap, ◌∙◌, subst, arith}
+use Rattle.std.proofs.Common.{◌≡◌, ℕ, ◌-◌, ◌<◌, Bool, true, false, cond, List, [], ◌∷◌, ◌++◌, Option, Some, None, refl, sym, ap, subst}
 use Rattle.std.specs.Prelude.{nat_eq, nat_lt, ◌&&◌, is_some, IsSome, slice_get, length}
 use Rattle.std.specs.FinMap.{get}
 use borrow.Author.Tests.{ltb-true}
@@ -22,12 +22,12 @@ use Rattle.pc_core.specs.declared.nodes.NodeKind.TheVariants as node
 use Rattle.pc_semantics.specs.declared.frames.Frame.{Frame}
 use Rattle.pc_semantics.specs.declared.frames.Task.{Task}
 use Rattle.pc_semantics.specs.declared.frames.Task.TheVariants as task
-use Rattle.pc_semantics.specs.Around.{Around, Move, Stuck, Overflows, Goes, Writes, Makes, Spawns, Enters, Sends, Leaves, with_top, pop, popped, with_popped, pop_arguments, entity_of, pushed}
-use Rattle.pc_semantics.specs.Calls.{counted, begin_new, make_of, make_task, spawn_of, spawn_task, enter, send, invoke_kind, text_of, is_string, push_text, string_of, invoke_found, invoke_method, invoke_on, invoke_task, leave_object, leave, return_task}
-use Rattle.pc_semantics.specs.Choices.{truth, apply_task, right_side, test_and, test_or, test_task, branch, branch_task, turn, loop_task}
+use Rattle.pc_semantics.specs.Around.{Around, Move, Writes, Makes, Sends, with_top, popped, with_popped, entity_of}
+use Rattle.pc_semantics.specs.Calls.{counted, begin_new, make_of, make_task, spawn_of, spawn_task, enter, send, invoke_kind, text_of, is_string, push_text, invoke_found, invoke_method, invoke_on, invoke_task, leave_object, leave, return_task}
+use Rattle.pc_semantics.specs.Choices.{truth, apply_task, right_side, test_and, test_or, test_task, branch, turn}
 use Rattle.pc_semantics.specs.Evaluation.{push_slot, take_slot, first_then, evaluate, evaluate_node}
-use Rattle.pc_semantics.specs.Fields.{get_value, get_field, get_of, get_from, put_value, put_field, put_of, put_into, store, get_task, put_task, store_task}
-use Rattle.pc_semantics.specs.Operators.{gives, joined, of_numbers, of_truths, of_texts, with_number, with_truth, with_text, binary, negated, compared}
+use Rattle.pc_semantics.specs.Fields.{get_value, get_field, get_of, get_from, put_value, put_field, put_of, put_into, get_task, put_task, store_task}
+use Rattle.pc_semantics.specs.Operators.{gives, of_numbers, of_truths, of_texts, binary, negated}
 use Rattle.pc_semantics.specs.Tasks.{at_node, task_move}
 use Rattle.pc_tasks.specs.Inside.{first_move, relieved}
 use Rattle.pc_machine.specs.declared.plan.Plan.{Plan}

@@ -1,14 +1,13 @@
 -- A step keeps that the makers of objects are actors.
-use Rattle.std.proofs.Common.{◌≡◌, ℕ, zero, suc, ◌+◌, ◌<◌, ◌≤◌, List, [], ◌∷◌, ◌++◌, length, Option, Some, None, Ok, Err, refl, sym, ap, ◌∙◌, subst, arith, length-append}
-use Rattle.std.specs.Prelude.{slice_get, slice_set, IsSome, Result, IfOk, OnErr}
+use Rattle.std.proofs.Common.{◌≡◌, ℕ, zero, suc, ◌+◌, ◌<◌, List, [], ◌∷◌, ◌++◌, length, Option, Some, None, Ok, Err, refl, sym, ap, subst, length-append}
+use Rattle.std.specs.Prelude.{slice_get, slice_set, Result, IfOk, OnErr}
 use Rattle.std.specs.declared.alloc.AllocError.{AllocError}
-use Rattle.std.specs.FinMap.{get, insert, len}
+use Rattle.std.specs.FinMap.{get, len}
 use Rattle.std.proofs.lemmas.List.{length-set}
 use Rattle.pc_caps.specs.Gets.{get_below}
 use Rattle.pc_heap.specs.Heaps.{object_limit}
-use Rattle.pc_heap.specs.Objects.{ObjectMap, with_field, object_in, next_address}
+use Rattle.pc_heap.specs.Objects.{ObjectMap, with_field, object_in}
 use Rattle.pc_heap.specs.declared.value.Address.{Address}
-use Rattle.pc_heap.specs.declared.value.Object.{Object}
 use Rattle.pc_heap.specs.declared.value.Value.{Value}
 use Rattle.pc_heap.specs.declared.value.Value.TheVariants.{Num, Truth, Text, Prim, At}
 use Rattle.pc_core.specs.CoreData.{CoreData}
@@ -18,9 +17,9 @@ use Rattle.pc_semantics.specs.declared.frames.Frame.{Frame}
 use Rattle.pc_semantics.specs.declared.frames.Task.{Task}
 use Rattle.pc_semantics.specs.declared.mailbox.Message.{Message}
 use Rattle.pc_semantics.specs.declared.outcome.Outcome.{Outcome}
-use Rattle.pc_semantics.specs.Configurations.{Configuration, with_frames, own_address}
-use Rattle.pc_semantics.specs.Around.{Around, Move, Stuck, Overflows, Goes, Writes, Makes, Spawns, Enters, Sends, Leaves, with_tasks}
-use Rattle.pc_semantics.specs.Step.{around, begin_method, begun, deliver, delivered, left, made, printed_text, run_frames, run_task, step, step_of, take, take_first}
+use Rattle.pc_semantics.specs.Configurations.{Configuration, with_frames}
+use Rattle.pc_semantics.specs.Around.{Move, Stuck, Overflows, Goes, Writes, Makes, Spawns, Enters, Sends, Leaves, with_tasks}
+use Rattle.pc_semantics.specs.Step.{around, begin_method, begun, delivered, made, printed_text, run_frames, run_task, step, step_of, take, take_first}
 use Rattle.pc_machine.specs.States.{Peopled, IsPeopled}
 use Rattle.pc_machine.proofs.Allowed.{Allowed, task_allowed}
 use Rattle.pc_machine.proofs.Peopling.{peopled_actor, peopled_again, peopled_object}

@@ -6,3 +6,4 @@ mod Planned
 mod Stepped
 mod Allowed
 mod Kept
+mod Starting

@@ -1,13 +1,11 @@
 -- What comes of a plan.
-use Rattle.std.proofs.Common.{◌≡◌, ℕ, zero, suc, ◌<◌, ◌≤◌, List, [], ◌∷◌, ◌++◌, length, set, Option, Some, None, refl, sym, ap, ◌∙◌, subst, arith}
-use Rattle.std.specs.Prelude.{slice_get, IfSome}
+use Rattle.std.proofs.Common.{◌≡◌, ℕ, zero, suc, ◌<◌, List, [], ◌∷◌, ◌++◌, length, Option, Some, None, refl, sym, ap, ◌∙◌, arith}
+use Rattle.std.specs.Prelude.{slice_get}
 use Rattle.std.specs.FinMap.{insert}
 use Rattle.std.proofs.lemmas.List.{length-set}
-use Rattle.std.proofs.lemmas.Option.{same_Some, none-some}
-use Rattle.pc_caps.specs.Gets.{get_within, get_set_same}
+use Rattle.pc_caps.specs.Gets.{get_within}
 use Rattle.pc_heap.specs.Objects.{ObjectMap, next_address, new_object}
 use Rattle.pc_heap.specs.declared.value.Address.{Address}
-use Rattle.pc_heap.specs.declared.value.Value.{Value}
 use Rattle.pc_heap.specs.declared.value.Value.TheVariants.{At}
 use Rattle.pc_semantics.specs.declared.actors.Actor.{Actor}
 use Rattle.pc_semantics.specs.declared.frames.Frame.{Frame}
@@ -15,8 +13,8 @@ use Rattle.pc_semantics.specs.declared.mailbox.Message.{Message}
 use Rattle.pc_semantics.specs.declared.outcome.Outcome.{Outcome}
 use Rattle.pc_semantics.specs.declared.outcome.Lack.{Lack}
 use Rattle.pc_semantics.specs.declared.outcome.Outcome.TheVariants.{Moved, Lacks}
-use Rattle.pc_semantics.specs.Configurations.{Configuration, own_address, with_frames, with_objects}
-use Rattle.pc_semantics.specs.Around.{pushed, with_slot, none}
+use Rattle.pc_semantics.specs.Configurations.{Configuration, own_address, with_frames}
+use Rattle.pc_semantics.specs.Around.{with_slot, none}
 use Rattle.pc_semantics.specs.Step.{around, made, delivered}
 use Rattle.pc_machine.specs.declared.plan.Change.{Change}
 use Rattle.pc_machine.specs.declared.plan.Change.TheVariants.{Gives, Enters, Leaves}
@@ -24,8 +22,8 @@ use Rattle.pc_machine.specs.declared.plan.Plan.{Plan}
 use Rattle.pc_machine.specs.declared.plan.Plan.TheVariants.{Changes, Makes, Spawns, Sends}
 use Rattle.pc_machine.specs.declared.plan.Plan.TheVariants as plan
 use Rattle.pc_machine.specs.Changed.{changed, framed, mailed, frames_in, frames_of}
-use Rattle.pc_machine.specs.Plans.{after_call, given, frames_changed, change_move, move_of, planned, planned_by, planned_frames}
-use Rattle.pc_machine.proofs.Changes.{changed_set, length_changed, is_there, frames_mailed, mailed_framed}
+use Rattle.pc_machine.specs.Plans.{given, frames_changed, change_move, move_of, planned, planned_by, planned_frames}
+use Rattle.pc_machine.proofs.Changes.{changed_set, is_there, frames_mailed, mailed_framed}
 
 -- ---- an actor that runs
 

@@ -13,7 +13,7 @@ use Rattle.pc_semantics.specs.declared.frames.Frame.{Frame}
 use Rattle.pc_semantics.specs.declared.mailbox.Message.{Message}
 use Rattle.pc_semantics.specs.declared.outcome.Outcome.{Outcome}
 use Rattle.pc_semantics.specs.declared.outcome.Outcome.TheVariants.{Moved}
-use Rattle.pc_semantics.specs.Configurations.{Configuration, own_address, with_frames, with_objects}
+use Rattle.pc_semantics.specs.Configurations.{Configuration, own_address, with_frames}
 use Rattle.pc_semantics.specs.Around.{first_frame}
 use Rattle.pc_semantics.specs.Step.{begin_method, begun, printed_text, run_frames, step, step_of, take, take_first}
 use Rattle.pc_tasks.specs.Inside.{IsInside}

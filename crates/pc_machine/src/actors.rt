@@ -1,5 +1,5 @@
 //! The actors of a machine, with a count of the messages that wait for them.
-ghost use Rattle.std.specs.Prelude.{◌≡◌, ◌+◌, ◌<◌, ◌^◌, ◌-◌, ◌++◌, ◌∷◌, [], length, take, slice_get, option_copied, IsSomeAnd, OnOk, OnErr};
+ghost use Rattle.std.specs.Prelude.{◌≡◌, ◌+◌, ◌<◌, ◌^◌, ◌-◌, ◌++◌, ◌∷◌, [], length, take, slice_get, option_copied, IsSomeAnd, IfOk, OnOk, OnErr};
 ghost use Rattle.pc_machine.specs.Changed.{changed, framed, mailed, unmailed, frames_of, messages_in};
 
 use pc_semantics::{Actor, Frame, Mailbox, Message, Stack};
@@ -58,17 +58,15 @@ impl Actors {
         self.all.get(actor)
     }
 
-    /// Puts an actor for whom one message waits behind the others. An `Err` changes nothing.
-    pub fn add(&mut self, alloc: Global, message: Message) -> Result<(), AllocError>
-        requires { messages_in self.old + 1 < 2 ^ 32 }
-        ensures ok { OnOk result (self.new ≡ self.old ++ record { mailbox = message ∷ []; frames = [] } ∷ []) }
+    /// Puts an actor behind the others. An `Err` changes nothing.
+    pub fn add(&mut self, actor: Actor) -> Result<(), AllocError>
+        requires { messages_in self.old + length actor.mailbox < 2 ^ 32 }
+        ensures ok { OnOk result (self.new ≡ self.old ++ actor ∷ []) }
         ensures err { OnErr result (self.new ≡ self.old) }
     {
-        let mut mailbox = Mailbox::new(alloc);
-        mailbox.deliver(message)?;
-        let frames = Stack::new(alloc);
-        self.all.push(Actor { mailbox, frames })?;
-        self.waiting += 1;
+        let waiting = actor.mailbox.len() as u32;
+        self.all.push(actor)?;
+        self.waiting += waiting;
         Ok(())
     }
 
@@ -110,6 +108,26 @@ impl Actors {
             self.waiting -= last.mailbox.len() as u32;
         }
     }
+}
+
+/// An actor that has nothing to do. It takes no memory.
+pub fn idle_actor(alloc: Global) -> Actor
+    ensures { result ≡ record { mailbox = []; frames = [] } }
+{
+    Actor {
+        mailbox: Mailbox::new(alloc),
+        frames: Stack::new(alloc),
+    }
+}
+
+/// An actor for whom one message waits.
+pub fn waiting_actor(alloc: Global, message: Message) -> Result<Actor, AllocError>
+    ensures { IfOk result (λ actor. actor ≡ record { mailbox = message ∷ []; frames = [] }) }
+{
+    let mut mailbox = Mailbox::new(alloc);
+    mailbox.deliver(message)?;
+    let frames = Stack::new(alloc);
+    Ok(Actor { mailbox, frames })
 }
 
 // A message behind those that wait for an actor of these.

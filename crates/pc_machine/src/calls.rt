@@ -42,12 +42,7 @@ fn plan_object(
 }
 
 /// What the task Make of a node is about to do.
-pub fn plan_make(
-    alloc: Global,
-    core: &Core,
-    frame: &Frame,
-    node: &Node,
-) -> Result<Plan, AllocError>
+pub fn plan_make(alloc: Global, core: &Core, frame: &Frame, node: &Node) -> Result<Plan, AllocError>
     ensures means { IfOk result (λ plan. (around : Around) → move_of around plan frame.now ≡ make_task core.now around (with_tasks frame.now (drop 1 frame.now.tasks)) node.now.children node.now.kind) }
     ensures fits { IfOk result (λ plan. Fits plan (length frame.now.stack)) }
 {

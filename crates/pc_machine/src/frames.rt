@@ -62,7 +62,10 @@ pub fn begin_frame(
 {
     let count = method.slots as usize;
     let mut slots = argument_slots(alloc, count, this, arguments)?;
-    add_empty(&mut slots, count.saturating_sub(1).saturating_sub(arguments.len()))?;
+    add_empty(
+        &mut slots,
+        count.saturating_sub(1).saturating_sub(arguments.len()),
+    )?;
     let mut tasks = Stack::new(alloc);
     tasks.push(Task::Eval(body))?;
     Ok(Frame {
@@ -173,11 +176,7 @@ fn push_on(frame: &mut Frame, value: Value) -> Result<(), AllocError>
 
 // The running frame ends, and leaves a value to the one below.
 #[tactic(auto, using(pc_caps::specs::Gets::set_back))]
-fn leave(
-    alloc: Global,
-    frames: &mut Stack<Frame>,
-    value: Value,
-) -> Result<(), AllocError>
+fn leave(alloc: Global, frames: &mut Stack<Frame>, value: Value) -> Result<(), AllocError>
     requires { 0 < length frames.old }
     ensures ok { OnOk result (frames.new ≡ ended (Some value) frames.old) }
     ensures err { OnErr result (frames.new ≡ frames.old) }

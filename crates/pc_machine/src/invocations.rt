@@ -48,7 +48,9 @@ fn receiver_of(value: &Value, actors: usize) -> Option<u32>
     ensures { result ≡ receiver_in value.now actors }
 {
     match value {
-        Value::At(address) if address.serial == 0 && (address.maker as usize) < actors => Some(address.maker),
+        Value::At(address) if address.serial == 0 && (address.maker as usize) < actors => Some(
+            address.maker,
+        ),
         _ => None,
     }
 }

@@ -1,13 +1,16 @@
-//! The machine that runs a core. Each of its steps is the definition's, in `pc_semantics`: `Machine::step` says so.
+//! The machine that runs a core. What it does is the definition's: where a program begins, each step of an actor, and what
+//! an actor is about to touch are those of `pc_semantics`, exactly.
 #![tactic(auto)]
 
 mod access;
 mod actors;
+mod beginning;
 mod calls;
 mod frames;
 mod inside;
 mod invocations;
 mod lookups;
+mod machine;
 mod moves;
 mod plan;
 mod planning;
@@ -16,3 +19,6 @@ mod state;
 mod step;
 mod strings;
 mod take;
+
+pub use machine::{Machine, start};
+pub use pc_semantics::{Access, Lack, Outcome};

@@ -8,7 +8,7 @@ ghost use Rattle.pc_machine.specs.Changed.{changed, framed, frames_of, messages_
 ghost use Rattle.pc_machine.specs.Plans.{given, frames_changed, planned, Fits, Reaches, Suits};
 ghost use Rattle.pc_machine.specs.States.{configuration_of, IsPeopled};
 
-use crate::actors::Actors;
+use crate::actors::{Actors, waiting_actor};
 use crate::frames::{change_frames, place_top};
 use crate::plan::{Change, Plan};
 use crate::state::State;
@@ -94,7 +94,9 @@ fn make(
 {
     state.heap.reserve(alloc, actor, fields)?;
     let mut callee = frame;
-    let _ = callee.slots.replace(0, Some(Value::At(state.heap.reserved())));
+    let _ = callee
+        .slots
+        .replace(0, Some(Value::At(state.heap.reserved())));
     let change = Change::Enters {
         count,
         frame: callee,
@@ -125,7 +127,7 @@ fn spawn(
 {
     let number = state.actors.len() as u32;
     state.heap.reserve(alloc, number, fields)?;
-    state.actors.add(alloc, message)?;
+    state.actors.add(waiting_actor(alloc, message)?)?;
     let value = Value::At(state.heap.reserved());
     let change = Change::Gives { count, value };
     match change_actor(alloc, &mut state.actors, actor as usize, change) {
@@ -178,6 +180,13 @@ pub fn make_move(
             count,
             receiver,
             message,
-        } => send(alloc, state, actor as usize, count, receiver as usize, message),
+        } => send(
+            alloc,
+            state,
+            actor as usize,
+            count,
+            receiver as usize,
+            message,
+        ),
     }
 }

@@ -1,8 +1,7 @@
-use Rattle.std.proofs.Common.{◌≡◌, ◌∙◌, ap, sym, set}
-use Rattle.std.specs.Prelude.{List, Option}
-use Rattle.pc_semantics.specs.declared.actors.Actor.{Actor}
+use Rattle.std.proofs.Common.{◌∙◌, ap, sym, set}
+use Rattle.std.specs.Prelude.{List}
 use Rattle.pc_semantics.specs.declared.frames.Frame.{Frame}
-use Rattle.pc_machine.specs.Changed.{changed, framed, frames_in, frames_of}
+use Rattle.pc_machine.specs.Changed.{framed, frames_in}
 use Rattle.pc_machine.proofs.Changes.{get_there, set_changed}
 use Rattle.pc_machine.proofs.actors.swap_frames_of.Goals as goal
 

@@ -1,9 +1,8 @@
-use Rattle.std.proofs.Common.{◌≡◌, ◌<◌, ◌∙◌, ap, sym, subst, length, drop}
+use Rattle.std.proofs.Common.{◌≡◌, ◌<◌, ◌∙◌, ap, subst, length, drop}
 use Rattle.std.specs.Prelude.{List, IfSome, slice_get}
 use Rattle.pc_heap.specs.Objects.{ObjectMap}
 use Rattle.pc_semantics.specs.declared.actors.Actor.{Actor}
 use Rattle.pc_semantics.specs.declared.frames.Frame.{Frame}
-use Rattle.pc_semantics.specs.Configurations.{Configuration}
 use Rattle.pc_tasks.specs.Inside.{IsInside}
 use Rattle.pc_machine.specs.Changed.{framed, frames_of}
 use Rattle.pc_machine.specs.Ran.{Ran}

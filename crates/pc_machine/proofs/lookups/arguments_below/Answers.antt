@@ -1,8 +1,5 @@
-use Rattle.std.proofs.Common.{◌≡◌, ◌+◌, ◌-◌, ◌≤◌, ◌<◌, length, Some, None, [], drop, ap, sym, subst, inl, inr, ⊎_elim, ◌∙◌, refl, Option, Bor, arith}
-use Rattle.std.specs.Prelude.{MatchOption, List}
+use Rattle.std.proofs.Common.{◌<◌, length, sym, inl, inr, ◌∙◌, refl}
 use Rattle.std.proofs.lemmas.Bool.{cases_lt, true≢false}
-use Rattle.pc_heap.specs.declared.value.Value.{Value}
-use Rattle.pc_semantics.specs.Around as around
 use Rattle.pc_machine.proofs.Popped.{below_is, below_short}
 use Rattle.pc_machine.proofs.lookups.arguments_below.Goals as goal
 

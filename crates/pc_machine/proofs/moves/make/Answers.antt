@@ -1,8 +1,7 @@
-use Rattle.std.proofs.Common.{◌≡◌, ◌∙◌, ap, Option, Some}
+use Rattle.std.proofs.Common.{◌≡◌, ◌∙◌, ap, Option}
 use Rattle.std.specs.Prelude.{List}
 use Rattle.std.specs.FinMap.{insert}
 use Rattle.pc_heap.specs.Objects.{ObjectMap, new_object, next_address}
-use Rattle.pc_heap.specs.declared.value.Address.{Address}
 use Rattle.pc_heap.specs.declared.value.Value.{Value}
 use Rattle.pc_semantics.specs.declared.frames.Frame.{Frame}
 use Rattle.pc_semantics.specs.declared.outcome.Outcome.{Outcome}

@@ -1,5 +1,5 @@
-use Rattle.std.proofs.Common.{◌≡◌, ◌∙◌, ap, sym, length, subst}
-use Rattle.std.specs.Prelude.{List}
+use Rattle.std.proofs.Common.{◌≡◌, ◌∙◌, ap, sym, length}
+use Rattle.std.specs.Prelude.{[], ◌∷◌, ◌++◌}
 use Rattle.std.specs.FinMap.{insert}
 use Rattle.pc_heap.specs.Objects.{ObjectMap, new_object, next_address}
 use Rattle.pc_heap.specs.declared.value.Address.{Address}
@@ -25,4 +25,4 @@ returns-in-Ok-clause-ok c =
     c.make.ensures.objects ∙ ap (λ (m : ObjectMap). insert m c.make.result (new_object c.args.entity c.args.fields)) same
     ∙ ap (λ (a : Address). insert now.objects a (new_object c.args.entity c.args.fields)) made in
     ap (λ (m : ObjectMap). let o : Outcome × Configuration = (Moved, amended now m c.change_actor.new.actors) in o) objects
-    ∙ spawned now c.args.actor c.args.count c.args.entity c.args.fields c.args.message c.reserved.result c.add.new.self c.change_actor.new.actors c.requires.running (reserved ∙ own) c.in_ok-add.ensures.ok c.in-Ok.ensures.ok
+    ∙ spawned now c.args.actor c.args.count c.args.entity c.args.fields c.args.message c.reserved.result c.add.new.self c.change_actor.new.actors c.requires.running (reserved ∙ own) (c.in_ok-add.ensures.ok ∙ ap (λ (a : Actor). now.actors ++ a ∷ []) c.in_ok-waiting_actor.ensures) c.in-Ok.ensures.ok

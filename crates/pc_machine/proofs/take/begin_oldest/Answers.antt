@@ -1,5 +1,5 @@
-use Rattle.std.proofs.Common.{◌≡◌, ◌<◌, ◌∙◌, [], ap, sym, subst, length}
-use Rattle.std.specs.Prelude.{List, ◌∷◌, Option, IsSomeAnd, slice_get}
+use Rattle.std.proofs.Common.{◌≡◌, ◌∙◌, [], ap, sym, subst}
+use Rattle.std.specs.Prelude.{List, ◌∷◌, Option, IsSomeAnd}
 use Rattle.pc_semantics.specs.declared.frames.Frame.{Frame}
 use Rattle.pc_semantics.specs.declared.actors.Actor.{Actor}
 use Rattle.pc_caps.specs.Gets.{get_below}
