@@ -1,0 +1,80 @@
+//! A run: all turns are taken, and then its text is written.
+ghost use Rattle.std.specs.Prelude.{◌≡◌, ◌≤◌, length};
+ghost use Rattle.std.specs.FinMap.{len};
+ghost use Rattle.pc_sched.specs.Limits.{turn_limit};
+ghost use Rattle.pc_sched.specs.Schedules.{total};
+ghost use Rattle.pc_semantics.specs.Configurations.{start};
+ghost use Rattle.pc_semantics.specs.Text.{waiting};
+ghost use Rattle.pc_run.specs.Ends.{NeverLacks, IsAnswer, Leaves, Writes};
+ghost use Rattle.pc_run.specs.Spreading.{spread};
+
+use crate::counts::{Counts, Progress};
+use crate::report::{Report, RunFault};
+use crate::turns::take_turns;
+use crate::writing::{put_summary, put_texts};
+use pc_io::Sink;
+use pc_machine::Machine;
+use pc_sched::Turn;
+use std::alloc::Global;
+
+// The numbers of a run whose steps were taken.
+fn report_of(machine: &Machine<'_>, counts: Counts) -> Report
+    ensures { result ≡ record {
+        moved = counts.moved;
+        skipped = counts.skipped;
+        actors = length machine.now.configuration.actors;
+        objects = len machine.now.configuration.objects;
+        waiting = waiting machine.now.configuration;
+    } }
+{
+    Report {
+        moved: counts.moved,
+        skipped: counts.skipped,
+        actors: machine.actors(),
+        objects: machine.objects(),
+        waiting: machine.waiting(),
+    }
+}
+
+/// Lets a machine that was just started take all turns, and then writes what was printed, each text with a line end by one
+/// call of `put`, and the line of the run's numbers by one more. The times of the turns sum to at most 1,000,000, and over
+/// no list of actors does a step of the core lack anything. It takes no memory for the turns, whatever their times.
+///
+/// # Errors
+/// - `TooLong(n)` where the n-th step of the turns, counted from 1, would make a text that is too long. The texts that were
+///   printed before it are written, without the numbers.
+/// - `Sink` only where the sink's count of failures rose in this call, or stands at its last value. A prefix of the text was
+///   written, and nothing behind the piece that failed.
+/// - `Memory` at want of memory. A prefix of the text was written.
+pub fn run<O: Sink>(
+    alloc: Global,
+    machine: &mut Machine<'_>,
+    turns: &[Turn],
+    out: &mut O,
+) -> Result<Report, RunFault>
+    requires started { machine.old.configuration ≡ start machine.old.core }
+    requires few { total turns.now ≤ turn_limit }
+    requires never_lacks { NeverLacks machine.old.core }
+
+    // A report has the numbers of the run, and a fault has its cause.
+    ensures answers { IsAnswer machine.old.core (spread turns.now) (O.faults out.old) (O.faults out.new) result }
+
+    // The run's text is written, or a prefix of it.
+    ensures writes { Writes machine.old.core (spread turns.now) (O.written out.old) (O.written out.new) result }
+    ensures later { O.faults out.old ≤ O.faults out.new }
+
+    // The machine is behind the steps of the turns.
+    ensures leaves { Leaves machine.old.core (spread turns.now) machine.new.configuration result }
+    ensures core { machine.new.core ≡ machine.old.core }
+{
+    let progress = take_turns(machine, turns)?;
+    put_texts(alloc, machine.printed().as_slice(), out)?;
+    match progress {
+        Progress::Going(counts) => {
+            let report = report_of(machine, counts);
+            put_summary(alloc, report, out)?;
+            Ok(report)
+        }
+        Progress::TooLong(step) => Err(RunFault::TooLong(step)),
+    }
+}
