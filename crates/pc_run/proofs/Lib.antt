@@ -1,3 +1,4 @@
 mod Written
 mod Growing
 mod Stepping
+mod Whole

@@ -74,7 +74,7 @@ module _ (core : CoreData) (list : List ℕ) (c : Configuration) (k : Counts) (l
   is_begun = (length u.taken, behind_taken ∙ ap (after core) (sym (take-append_seam u.taken left) ∙ ap (take (length u.taken)) (sym u.list_is)))
 
   -- All steps together lead where those that are left lead.
-  behind_all : run_from core c left ≡ after core list
+  pub behind_all : run_from core c left ≡ after core list
   behind_all = u.behind left ∙ ap (after core) (sym u.list_is)
 
 -- ---- one step
