@@ -1,5 +1,5 @@
 -- A run goes on by a step.
-use Rattle.std.proofs.Common.{◌≡◌, ℕ, suc, ◌+◌, ◌-◌, ◌<◌, ◌≤◌, Bool, List, [], ◌∷◌, ◌++◌, length, get_or, take, drop, replicate, cond, Option, Some, None, refl, sym, ap, ◌∙◌, subst, arith, append_assoc, append-nil, length-append, zero-add, add_assoc}
+use Rattle.std.proofs.Common.{◌≡◌, ℕ, suc, ◌+◌, ◌-◌, ◌<◌, ◌≤◌, Bool, List, [], ◌∷◌, ◌++◌, length, get_or, take, drop, replicate, cond, refl, sym, ap, ◌∙◌, subst, arith, append_assoc, append-nil, length-append, zero-add}
 use Rattle.std.specs.Prelude.{Result, Ok, Err, OnErr}
 use Rattle.std.specs.List.{count_by}
 use Rattle.std.specs.FinMap.{len}
@@ -22,7 +22,6 @@ use Rattle.pc_semantics.specs.Step.{step}
 use Rattle.pc_semantics.specs.Text.{ended_at, end_of, is_moved, is_skipped, waiting}
 use Rattle.pc_run.specs.declared.counts.Counts.{Counts}
 use Rattle.pc_run.specs.declared.counts.Progress.{Progress}
-use Rattle.pc_run.specs.declared.counts.Progress.TheVariants.{Going, TooLong}
 use Rattle.pc_run.specs.Counting.{counted}
 use Rattle.pc_run.specs.Ends.{NeverLacks, IsBegun}
 use Rattle.pc_run.specs.Spreading.{spread}

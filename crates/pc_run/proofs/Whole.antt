@@ -1,5 +1,5 @@
 -- From the steps and the writing to the run.
-use Rattle.std.proofs.Common.{◌≡◌, ℕ, ◌+◌, ◌≤◌, List, [], ◌++◌, length, take, Option, Some, None, Result, Ok, Err, refl, sym, ap, ◌∙◌, subst, arith, append-nil, add-zero}
+use Rattle.std.proofs.Common.{◌≡◌, ℕ, ◌≤◌, List, [], ◌++◌, length, Option, Result, Ok, Err, sym, ap, ◌∙◌, subst, append-nil, add-zero}
 use Rattle.std.specs.Prelude.{IsErrAnd}
 use Rattle.std.specs.List.{count_by}
 use Rattle.std.specs.FinMap.{len}
@@ -7,18 +7,16 @@ use Rattle.std.specs.Io.KnownBytes.{Appends}
 use Rattle.std.proofs.Math.Seq.{take-length}
 use Rattle.pc_core.specs.CoreData.{CoreData}
 use Rattle.pc_io.specs.Sink.{GrowsByPrefix}
-use Rattle.pc_semantics.specs.declared.outcome.Outcome.{Outcome}
-use Rattle.pc_semantics.specs.declared.outcome.Outcome.TheVariants as outcome
 use Rattle.pc_semantics.specs.Configurations.{Configuration}
 use Rattle.pc_semantics.specs.Runs.{after, outcomes}
-use Rattle.pc_semantics.specs.Text.{end_of, is_moved, is_skipped, lines, run_text, text_behind, waiting}
+use Rattle.pc_semantics.specs.Text.{is_moved, is_skipped, lines, run_text, text_behind, waiting}
 use Rattle.pc_run.specs.declared.counts.Counts.{Counts}
 use Rattle.pc_run.specs.declared.counts.Progress.{Progress}
 use Rattle.pc_run.specs.declared.counts.Progress.TheVariants as progress
 use Rattle.pc_run.specs.declared.report.Report.{Report}
 use Rattle.pc_run.specs.declared.report.RunFault.{RunFault}
 use Rattle.pc_run.specs.declared.report.RunFault.TheVariants.{Sink, TooLong, Memory}
-use Rattle.pc_run.specs.Ends.{IsBegun, Leaves, Writes}
+use Rattle.pc_run.specs.Ends.{Leaves, Writes}
 use Rattle.pc_run.specs.Reports.{report_of, summary_of}
 use Rattle.pc_run.specs.Underway.{Underway, Reached}
 use Rattle.pc_run.specs.Writing.{Change, change, WriteStops}
