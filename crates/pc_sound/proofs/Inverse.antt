@@ -83,8 +83,11 @@ says_is t ty n e =
     record { ty = sym (ap (λ (q : Said). q.ty) is); live = sym (ap (λ (q : Said). q.live) is); set = sym (ap (λ (q : Said). q.set) is) }
 
 -- The same of an equal type and equal masks.
-said_as : (t : Note) (v w : Option Ty) (n m : Masks) → v ≡ w → n ≡ m → Some (says_of w m) ≡ Some (said_by t) → Says t v n
+pub said_as : (t : Note) (v w : Option Ty) (n m : Masks) → v ≡ w → n ≡ m → Some (says_of w m) ≡ Some (said_by t) → Says t v n
 said_as t v w n m e g h = subst (λ (k : Masks). Says t v k) (sym g) (subst (λ (o : Option Ty). Says t o m) (sym e) (says_is t w m h))
+
+pub said_type : (t : Note) (v w : Ty) (n m : Masks) → v ≡ w → n ≡ m → Some (says_of (Some w) m) ≡ Some (said_by t) → Says t (Some v) n
+said_type t v w n m e g h = said_as t (Some v) (Some w) n m (ap Some e) g h
 
 -- ---- slots
 

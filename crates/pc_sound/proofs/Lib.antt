@@ -19,3 +19,4 @@ pub mod Finish
 pub mod StoreTask
 pub mod Origins
 pub mod GetTask
+pub mod PutTask
