@@ -20,3 +20,4 @@ pub mod StoreTask
 pub mod Origins
 pub mod GetTask
 pub mod PutTask
+pub mod ApplyTask
