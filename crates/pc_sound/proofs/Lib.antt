@@ -19,3 +19,4 @@ pub mod ReturnTask
 pub mod Takes
 pub mod Declarations
 pub mod Needed
+pub mod Starts

@@ -64,8 +64,7 @@ module _ (core : CoreData) (ann : Ann) (needs : Needs core ann) (around : Around
   value_left v (g ∷ gs) w gives typed =
       let is : w.0 ≡ own = same_Some w.0 own (sym w.1 ∙ at) in
       let low : Lower core (Some own.result) w.3 = subst (λ (x : Method). Lower core (Some x.result) w.3) is w.4 in
-      let k = w.5.0 in
-      (
+      let k = w.5.0 in (
         (
           record {
             own = k.own;
