@@ -47,7 +47,7 @@ argument_at core objects (v ∷ vs) (p ∷ ps) rest (suc i) k l = let m : i < le
 
 -- ---- bodies
 
-only_one : (cs : List ℕ) (c : ℕ) → one_child cs ≡ Some c → cs ≡ c ∷ []
+pub only_one : (cs : List ℕ) (c : ℕ) → one_child cs ≡ Some c → cs ≡ c ∷ []
 only_one [] c e = absurd (none-some c e)
 only_one (a ∷ []) c e = ap (λ (n : ℕ). n ∷ []) (same_Some a c e)
 only_one (a ∷ b ∷ cs) c e = absurd (none-some c e)

@@ -21,3 +21,15 @@ pub mod Origins
 pub mod GetTask
 pub mod PutTask
 pub mod ApplyTask
+pub mod InverseCalls
+pub mod Popped
+pub mod Callers
+pub mod MakeTask
+pub mod SpawnTask
+pub mod InvokeTask
+pub mod ReturnTask
+pub mod Takes
+pub mod Declarations
+pub mod Needed
+pub mod Starts
+pub mod AllTasks
