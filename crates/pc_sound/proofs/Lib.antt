@@ -33,3 +33,4 @@ pub mod Declarations
 pub mod Needed
 pub mod Starts
 pub mod AllTasks
+pub mod Sound

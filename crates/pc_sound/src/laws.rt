@@ -10,3 +10,13 @@ pub fn start_is_typed()
 pub fn moves_keep_types()
     ensures { law.MovesKeepTypes }
 {}
+
+/// A step from a well-typed configuration leads to one, and lacks nothing.
+pub fn steps_keep_types()
+    ensures { law.StepsKeepTypes }
+{}
+
+/// What has a valid annotation never lacks anything, over every schedule.
+pub fn accepted_never_lacks()
+    ensures { law.AcceptedNeverLacks }
+{}
