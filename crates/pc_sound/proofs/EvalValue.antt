@@ -1,5 +1,5 @@
 -- Eval at literals, `this` and slots.
-use Rattle.std.specs.Prelude.{◌≡◌, ◌≢◌, ℕ, zero, suc, ◌<◌, ◌≤◌, Bool, true, false, ◌&&◌, cond, List, [], ◌∷◌, length, Option, Some, None, slice_get, slice_set, refl}
+use Rattle.std.specs.Prelude.{◌≡◌, ◌≢◌, ℕ, ◌<◌, ◌≤◌, Bool, true, false, ◌&&◌, cond, List, ◌∷◌, length, Option, Some, None, slice_get, slice_set, refl}
 use Rattle.std.proofs.Common.{inl, ap, sym, subst, ◌∙◌, arith, length-set}
 use Rattle.std.proofs.lemmas.Option.{same_Some}
 use Rattle.std.proofs.lemmas.Bool.{and_parts}
@@ -11,39 +11,34 @@ use Rattle.pc_caps.specs.Tables.{plain, unalias}
 use Rattle.pc_caps.specs.declared.capability.Cap.{Cap}
 use Rattle.pc_caps.specs.declared.capability.Form.{Form}
 use Rattle.pc_caps.specs.declared.capability.Form.TheVariants as form
-use Rattle.pc_core.specs.declared.declarations.EntityDef.{EntityDef}
 use Rattle.pc_core.specs.declared.declarations.Method.{Method}
-use Rattle.pc_core.specs.declared.nodes.Node.{Node}
 use Rattle.pc_core.specs.declared.nodes.NodeKind.{NodeKind}
 use Rattle.pc_core.specs.declared.nodes.NodeKind.TheVariants as nodes
 use Rattle.pc_core.specs.declared.nodes.Slot.{Slot}
 use Rattle.pc_core.specs.CoreData.{CoreData}
-use Rattle.pc_core.specs.Nodes.{NamesPrimitive, NamesSlot, NamesFit}
+use Rattle.pc_core.specs.Nodes.{NamesFit}
 use Rattle.pc_ann.specs.declared.mask.Mask.{Mask}
-use Rattle.pc_ann.specs.declared.annotation.Note.{Note}
 use Rattle.pc_ann.specs.declared.annotation.Ann.{Ann}
 use Rattle.pc_ann.specs.Masks.{without_number}
 use Rattle.pc_ann.specs.MaskLaws.{first_bits, within_bits, without_number_bits}
 use Rattle.pc_semantics.specs.declared.frames.Frame.{Frame}
 use Rattle.pc_semantics.specs.Around.{Around, Goes, pushed, entity_of}
 use Rattle.pc_semantics.specs.Evaluation.{push_slot, take_slot}
-use Rattle.pc_rules.specs.Parts.{Ty, fields_in, field_count, all_fields, full, constructs, slot_of, reachable, before}
+use Rattle.pc_rules.specs.Parts.{Ty, fields_in, field_count, all_fields, full, constructs, reachable, before}
 use Rattle.pc_rules.specs.Fields.{is_this}
 use Rattle.pc_rules.specs.Values.{this_form}
-use Rattle.pc_rules.specs.Rules.{said_by}
 use Rattle.pc_rules.specs.Threads.{false_true}
-use Rattle.pc_sound.specs.Types.{sees, Finished, OfKind, OfType, OfSome, LowerType, held_in}
+use Rattle.pc_sound.specs.Types.{sees, Finished, OfType, OfSome, LowerType, held_in}
 use Rattle.pc_sound.specs.Tasks.{Within, EvalOk, TasksOk}
 use Rattle.pc_sound.specs.Frames.{HasFields, SlotsOk}
 use Rattle.pc_sound.specs.Typed.{ObjectsOk}
 use Rattle.pc_sound.specs.Moves.{MoveOk, Runs}
 use Rattle.pc_sound.proofs.Needs.{Needs}
-use Rattle.pc_sound.proofs.Basic.{within_same, within_trans, of_lower, some_lower}
+use Rattle.pc_sound.proofs.Basic.{within_trans, of_lower, some_lower}
 use Rattle.pc_sound.proofs.Growth.{class_is}
 use Rattle.pc_sound.proofs.Notes.{slot_at}
 use Rattle.pc_sound.proofs.Tables.{unalias_sees}
-use Rattle.pc_sound.proofs.Running.{fewer_slots, go_ok, push_ok}
-use Rattle.pc_sound.proofs.EvalChildren.{within_is}
+use Rattle.pc_sound.proofs.Running.{go_ok, push_ok}
 use Rattle.pc_sound.proofs.Inverse.{Says, Used, ThisRule, LocalRule, ConsumeRule}
 
 -- ---- the object of a constructor
@@ -56,11 +51,14 @@ all_set core ann needs objects count ok d set (At a) is w k =
     let fits = (ok.each a o k.1).0 in
     let total : field_count core d ≡ length o.fields = ap fields_in (ap (slice_get core.entities) (sym of) ∙ fits.is_entity) ∙ sym fits.room in
     let few : length fits.entity.fields ≤ 64 = (needs.formed.entities o.entity fits.entity fits.is_entity).few_fields in
-    let room : length o.fields ≡ length fits.entity.fields = fits.room in
-    (o, k.1, λ i l.
-    let below : i < field_count core d = omega (arith, total, l) in
-    let small : i < 64 = omega (arith, few, room, l) in
-    k.2 i (w i ((first_bits (field_count core d) i).1 (below, small))))
+    let room : length o.fields ≡ length fits.entity.fields = fits.room in (
+      o,
+      k.1,
+      λ i l.
+          let below : i < field_count core d = omega (arith, total, l) in
+          let small : i < 64 = omega (arith, few, room, l) in
+          k.2 i (w i ((first_bits (field_count core d) i).1 (below, small))),
+    )
 all_set core ann needs objects count ok d set (Num n) is w k = tt
 all_set core ann needs objects count ok d set (Truth b) is w k = tt
 all_set core ann needs objects count ok d set (Text s) is w k = tt

@@ -18,10 +18,10 @@ use Rattle.pc_ann.specs.declared.annotation.Note.{Note}
 use Rattle.pc_ann.specs.declared.annotation.Ann.{Ann}
 use Rattle.pc_ann.specs.declared.annotation.Rule.{Rule}
 use Rattle.pc_ann.specs.declared.annotation.Rule.TheVariants as rule
-use Rattle.pc_ann.specs.Masks.{has, without_number, meet, within, same}
+use Rattle.pc_ann.specs.Masks.{has, without_number, within, same}
 use Rattle.pc_rules.specs.declared.said.Said.{Said}
 use Rattle.pc_rules.specs.Parts.{Ty, Masks, says_of, reads_as, readable, slot_of, reachable, before, through, type_of, one_child, two_children, three_children, two_types, last_child}
-use Rattle.pc_rules.specs.Values.{literal_says, this_form, this_says, used, local_says, consume_says}
+use Rattle.pc_rules.specs.Values.{this_form, this_says, used}
 use Rattle.pc_rules.specs.Operators.{both_read_as, meet_masks, lazy_masks, lazy_says}
 use Rattle.pc_rules.specs.Control.{without_items, joined, branch_masks, branch_types, is_condition, loop_masks, recovered, seq_says, if_says, while_says, recover_says}
 use Rattle.pc_rules.specs.Rules.{says, said_by}

@@ -1,17 +1,16 @@
 -- The task Put: a field is written.
-use Rattle.std.specs.Prelude.{◌≡◌, ◌≢◌, ◌⊎◌, ℕ, ◌<◌, Bool, true, false, ◌&&◌, ◌||◌, not, cond, List, [], ◌∷◌, length, Option, Some, None, slice_get, slice_set, refl}
-use Rattle.std.proofs.Common.{inl, inr, ap, sym, subst, ◌∙◌, arith}
+use Rattle.std.specs.Prelude.{◌≡◌, ◌⊎◌, ℕ, Bool, true, false, ◌&&◌, ◌||◌, not, cond, List, [], ◌∷◌, Option, Some, None, slice_get, slice_set, refl}
+use Rattle.std.proofs.Common.{inl, inr, ap, sym, subst, ◌∙◌}
 use Rattle.std.proofs.lemmas.Option.{same_Some, none-some}
 use Rattle.std.proofs.lemmas.Bool.{and_parts}
 use Rattle.std.proofs.lemmas.Bool.Decides.{eqb_tells}
 use Rattle.std.specs.FinMap.{get}
 use Rattle.pc_heap.specs.Objects.{ObjectMap, with_field, with_value}
-use Rattle.pc_heap.specs.declared.value.Address.{Address}
 use Rattle.pc_heap.specs.declared.value.Object.{Object}
 use Rattle.pc_heap.specs.declared.value.Value.{Value}
 use Rattle.pc_heap.specs.declared.value.Value.TheVariants.{At}
 use Rattle.pc_caps.specs.Gets.{get_within, get_set_same, get_set_other}
-use Rattle.pc_caps.specs.Tables.{plain, taken, may_write}
+use Rattle.pc_caps.specs.Tables.{taken, may_write}
 use Rattle.pc_caps.specs.declared.capability.Form.{Form}
 use Rattle.pc_caps.specs.declared.capability.Form.TheVariants as form
 use Rattle.pc_core.specs.declared.declarations.FieldInfo.{FieldInfo}
@@ -40,19 +39,19 @@ use Rattle.pc_rules.specs.Threads.{kept, kept_otherwise, false_true}
 use Rattle.pc_sound.specs.Types.{OfType, OfSome, Answers, StackOk}
 use Rattle.pc_sound.specs.Tasks as tasks
 use Rattle.pc_sound.specs.Tasks.{Within, want_of, FinishOk, TasksOk}
-use Rattle.pc_sound.specs.Frames.{HasFields, ThisOk, FramesOk}
+use Rattle.pc_sound.specs.Frames.{HasFields, ThisOk}
 use Rattle.pc_sound.specs.Typed as typed
-use Rattle.pc_sound.specs.Moves.{WriteOk, MoveOk, Runs}
+use Rattle.pc_sound.specs.Moves.{MoveOk, Runs}
 use Rattle.pc_sound.proofs.Needs.{Needs}
 use Rattle.pc_sound.proofs.Basic.{within_trans, of_lower, some_lower}
-use Rattle.pc_sound.proofs.Growth.{Extends, this_kept, slots_kept, stack_kept, wait_kept, some_kept}
+use Rattle.pc_sound.proofs.Growth.{Extends, this_kept, slots_kept, stack_kept, wait_kept}
 use Rattle.pc_sound.proofs.Heaps.{get_here, written, write_extends}
 use Rattle.pc_sound.proofs.Tables.{taken_sees, taken_plain}
 use Rattle.pc_sound.proofs.Steps.{Keeps}
 use Rattle.pc_sound.proofs.Running.{fewer_slots, fewer_set, go_in}
-use Rattle.pc_sound.proofs.Inverse.{pair_is, TwoTypes, types_are, Says, said_as, said_type}
+use Rattle.pc_sound.proofs.Inverse.{pair_is, types_are, Says, said_as, said_type}
 use Rattle.pc_sound.proofs.Origins.{FieldAt, field_at, Origin, origin_of, origin_at, value_there, set_value, OwnOrigin, own_origin}
-use Rattle.pc_sound.proofs.Finish.{TwoTops, two_tops, by_tops, own_is, rule_is, at_this, typed_at}
+use Rattle.pc_sound.proofs.Finish.{two_tops, by_tops, own_is, rule_is, at_this, typed_at}
 use Rattle.pc_sound.proofs.StoreTask.{goes_lower}
 
 -- ---- what the rules say
@@ -209,13 +208,17 @@ module _ (core : CoreData) (ann : Ann) (needs : Needs core ann) (around : Around
         let k : HasFields around.objects r.held.set (At o.address) = subst (HasFields around.objects r.held.set) o.is has_them in
         let same : k.0 ≡ o.object = same_Some k.0 o.object (sym k.1 ∙ o.stands) in
         let there : get new o.address ≡ Some (with_field o.object i w) = ap (λ (h : ObjectMap). get h o.address) (written around.objects o.address i w o.object o.stands) ∙ get_here around.objects o.address (with_field o.object i w) in
-        let at : HasFields new set (At o.address) = (with_field o.object i w, there, λ j b.
-            elim (eqb_tells j i) [
-              | inl p ↦ (w, ap (slice_get (slice_set o.object.fields i (Some w))) p.1 ∙ get_set_same o.object.fields i (Some w) o.room)
-              | inr p ↦ let was : IsIn r.held.set j = elim ((with_number_bits r.held.set i j).0 (less j b)) [ inl here ↦ absurd (p.1 here.0) | inr was ↦ was ] in
-                  let y = k.2 j was in
-                  (y.0, get_set_other o.object.fields i (Some w) j p.1 ∙ ap (λ (z : Object). slice_get z.fields j) (sym same) ∙ y.1)
-            ]) in
+        let at : HasFields new set (At o.address) = (
+          with_field o.object i w,
+          there,
+          λ j b.
+              elim (eqb_tells j i) [
+                | inl p ↦ (w, ap (slice_get (slice_set o.object.fields i (Some w))) p.1 ∙ get_set_same o.object.fields i (Some w) o.room)
+                | inr p ↦ let was : IsIn r.held.set j = elim ((with_number_bits r.held.set i j).0 (less j b)) [ inl here ↦ absurd (p.1 here.0) | inr was ↦ was ] in
+                    let y = k.2 j was in
+                    (y.0, get_set_other o.object.fields i (Some w) j p.1 ∙ ap (λ (z : Object). slice_get z.fields j) (sym same) ∙ y.1)
+              ],
+        ) in
         subst (HasFields new set) (sym o.is) at
 
   -- One number more in both masks.

@@ -1,8 +1,4 @@
 -- From a valid annotation to every step of every schedule.
-use Rattle.pc_core.specs.CoreData.{CoreData}
-use Rattle.pc_core.specs.Formed.{Formed}
-use Rattle.pc_ann.specs.declared.annotation.Ann.{Ann}
-use Rattle.pc_rules.specs.Valid.{Valid}
 use Rattle.pc_semantics.specs.Configurations.{start}
 use Rattle.pc_semantics.specs.Runs.{after}
 use Rattle.pc_sound.specs.Laws.{StepsKeepTypes, AcceptedNeverLacks}
