@@ -20,3 +20,4 @@ pub mod Takes
 pub mod Declarations
 pub mod Needed
 pub mod Starts
+pub mod Whole
