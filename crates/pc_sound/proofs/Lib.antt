@@ -20,4 +20,3 @@ pub mod Takes
 pub mod Declarations
 pub mod Needed
 pub mod Starts
-pub mod Whole
