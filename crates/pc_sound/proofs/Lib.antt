@@ -33,4 +33,3 @@ pub mod Declarations
 pub mod Needed
 pub mod Starts
 pub mod AllTasks
-pub mod Sound
