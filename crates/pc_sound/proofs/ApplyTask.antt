@@ -1,8 +1,8 @@
 -- The task Apply: operators, `not`, `is` and `isnt`.
-use Rattle.std.specs.Prelude.{◌≡◌, ◌⊎◌, ℕ, Bool, true, false, not, ◌&&◌, ◌||◌, cond, List, ◌++◌, length, Option, Some, None, nat_lt, refl}
+use Rattle.std.specs.Prelude.{◌≡◌, ℕ, Bool, true, false, not, ◌&&◌, ◌||◌, cond, List, ◌++◌, length, Option, Some, None, nat_lt, refl}
 use Rattle.std.proofs.Common.{inl, inr, ap, sym, subst, ◌∙◌}
 use Rattle.std.proofs.lemmas.Option.{same_Some, none-some}
-use Rattle.std.proofs.lemmas.Bool.{and_parts}
+use Rattle.std.proofs.lemmas.Bool.{and_parts, or_cases}
 use Rattle.pc_heap.specs.declared.value.Value.{Value}
 use Rattle.pc_heap.specs.declared.value.Value.TheVariants.{Num, Truth, Text}
 use Rattle.pc_caps.specs.declared.capability.Form.TheVariants as form
@@ -33,8 +33,9 @@ use Rattle.pc_sound.specs.Tasks.{applies, FinishOk, TasksOk}
 use Rattle.pc_sound.specs.Moves.{MoveOk, Runs}
 use Rattle.pc_sound.proofs.Needs.{Needs}
 use Rattle.pc_sound.proofs.Values.{is_number, is_truth, is_text}
+use Rattle.pc_sound.proofs.Begin.{only_one}
 use Rattle.pc_sound.proofs.Steps.{Keeps}
-use Rattle.pc_sound.proofs.Inverse.{one_is, TwoTypes, types_are, Says, says_is, read_is}
+use Rattle.pc_sound.proofs.Inverse.{TwoTypes, types_are, Says, says_is, read_is}
 use Rattle.pc_sound.proofs.Finish.{one_top, two_tops, by_top, by_tops, done_ok, rule_is, at_this, read_at}
 
 -- ---- what operators give
@@ -98,10 +99,6 @@ asked ann x t behind k a test is e =
     let q = kept (a && test v.0) (value_says k ann x (before t)) (said_by t) v.2 in
     let p = and_parts a (test v.0) q.0 in
     record { vs = v.0; types = types_are ann x.children v.0 v.1; operator = p.0; reads = p.1; says = value_is ann x t behind k is q.1 }
-
-either : (a b : Bool) → (a || b) ≡ true → (a ≡ true) ⊎ (b ≡ true)
-either true b e = inl refl
-either false b e = inr e
 
 -- ---- the task
 
@@ -215,9 +212,9 @@ module _ (core : CoreData) (ann : Ann) (needs : Needs core ann) (around : Around
 
         equal_ok : is_equality o ≡ true → comparable vs ≡ true → Says e.note (Some (2, form.Val)) e.behind → MoveOk core ann around fs (binary (with_stack f rest) o v w)
         equal_ok a h s =
-            elim (either (both_read_as 1 vs) (both_read_as 2 vs || both_read_as 3 vs) h) [
+            elim (or_cases (both_read_as 1 vs) (both_read_as 2 vs || both_read_as 3 vs) h) [
               | inl one ↦ equal_numbers a one s
-              | inr more ↦ elim (either (both_read_as 2 vs) (both_read_as 3 vs) more) [
+              | inr more ↦ elim (or_cases (both_read_as 2 vs) (both_read_as 3 vs) more) [
                 | inl two ↦ equal_truths a two s
                 | inr three ↦ equal_texts a three s
               ]
@@ -271,7 +268,7 @@ module _ (core : CoreData) (ann : Ann) (needs : Needs core ann) (around : Around
       let c = bind_some (one_child e.node.children) _ (said_by e.note) q in
       let v = bind_some (type_of ann c.0) _ (said_by e.note) c.2 in
       let k = kept (reads_as 2 v.0) (value_says 2 ann e.node (before e.note)) (said_by e.note) v.2 in
-      let t = one_top core ann needs around f fs r applies n e c.0 (one_is e.node.children c.0 c.1) in
+      let t = one_top core ann needs around f fs r applies n e c.0 (only_one e.node.children c.0 c.1) in
       let b = is_truth core ann needs around.objects v.0.1 t.top (read_at core ann around c.0 v.0 2 t.top v.1 (read_is 2 v.0 k.0).0 t.answers.0) in
       by_top core ann needs around f fs r applies n e t.top t.below (λ v g. negated g v) t.is
       (subst (λ (x : Value). MoveOk core ann around fs (negated (with_stack f t.below) x)) (sym b.1) (truth_ok t.below t.ok other (not b.0) (value_is ann e.node e.note e.behind 2 e.is_behind k.1)))

@@ -38,8 +38,9 @@ use Rattle.pc_sound.specs.Moves.{MoveOk, Runs}
 use Rattle.pc_sound.proofs.Needs.{Needs}
 use Rattle.pc_sound.proofs.Basic.{of_lower}
 use Rattle.pc_sound.proofs.Tables.{view_sees, view_plain}
+use Rattle.pc_sound.proofs.Begin.{only_one}
 use Rattle.pc_sound.proofs.Steps.{Keeps}
-use Rattle.pc_sound.proofs.Inverse.{one_is, Says, said_type}
+use Rattle.pc_sound.proofs.Inverse.{Says, said_type}
 use Rattle.pc_sound.proofs.Origins.{FieldAt, field_at, Origin, origin_of, origin_at, value_there, set_value, OwnOrigin, own_origin}
 use Rattle.pc_sound.proofs.Finish.{one_top, by_top, done_ok, own_is, rule_is, at_this, typed_at}
 
@@ -84,7 +85,7 @@ module _ (core : CoreData) (ann : Ann) (x : Node) (t : Note) (behind : Masks) (i
       let ty : ◌≡◌ {A = Ty} (g.0.1.entity, v.0) y.0 = same_Some (g.0.1.entity, v.0) y.0 v.2 in
       record {
         child = c.0;
-        children = one_is x.children c.0 c.1;
+        children = only_one x.children c.0 c.1;
         origin = o.0;
         is_origin = o.1;
         index = g.0.0;

@@ -26,13 +26,9 @@ use Rattle.pc_rules.specs.Operators.{both_read_as, meet_masks, lazy_masks, lazy_
 use Rattle.pc_rules.specs.Control.{without_items, joined, branch_masks, branch_types, is_condition, loop_masks, recovered, seq_says, if_says, while_says, recover_says}
 use Rattle.pc_rules.specs.Rules.{says, said_by}
 use Rattle.pc_rules.specs.Threads.{kept, false_true}
+use Rattle.pc_sound.proofs.Begin.{only_one}
 
 -- ---- children
-
-pub one_is : (cs : List ℕ) (c : ℕ) → one_child cs ≡ Some c → cs ≡ c ∷ []
-one_is [] c e = absurd (none-some c e)
-one_is (a ∷ []) c e = ap (λ (n : ℕ). n ∷ []) (same_Some a c e)
-one_is (a ∷ b ∷ cs) c e = absurd (none-some c e)
 
 pub pair_is : (cs : List ℕ) (c : ℕ × ℕ) → two_children cs ≡ Some c → cs ≡ c.0 ∷ c.1 ∷ []
 pair_is [] c e = absurd (none-some c e)
@@ -355,7 +351,7 @@ module _ (core : CoreData) (ann : Ann) (x : Node) (t : Note) where
       let v = bind_some (type_of ann c.0) _ (said_by t) c.2 in
       let f = bind_some (recovered k v.0.1) _ (said_by t) v.2 in
       let n = bind_some (through ann x.children (before t)) _ (said_by t) f.2 in
-      record { child = c.0; children = one_is x.children c.0 c.1; value = v.0; is_value = v.1; form = f.0; is_form = f.1; behind = n.0; is_behind = n.1; says = says_is t (Some (v.0.0, f.0)) n.0 n.2 }
+      record { child = c.0; children = only_one x.children c.0 c.1; value = v.0; is_value = v.1; form = f.0; is_form = f.1; behind = n.0; is_behind = n.1; says = says_is t (Some (v.0.0, f.0)) n.0 n.2 }
 
   pub recover_rule : (r : Rule) (k : Option Cap) → says core ann x (before t) r (nodes.Recover k) ≡ Some (said_by t) → RecoverRule k
   recover_rule rule.Recover k e = recover_is k e

@@ -9,6 +9,8 @@ pub mod Steps
 pub mod Tables
 pub mod Values
 pub mod Running
+pub mod Places
+pub mod AllFields
 pub mod Inverse
 pub mod EvalChildren
 pub mod EvalValue
@@ -33,3 +35,4 @@ pub mod Declarations
 pub mod Needed
 pub mod Starts
 pub mod AllTasks
+pub mod Sound

@@ -52,7 +52,7 @@ use Rattle.pc_sound.proofs.Running.{fewer_slots, fewer_set, go_in}
 use Rattle.pc_sound.proofs.Inverse.{pair_is, types_are, Says, said_as, said_type}
 use Rattle.pc_sound.proofs.Origins.{FieldAt, field_at, Origin, origin_of, origin_at, value_there, set_value, OwnOrigin, own_origin}
 use Rattle.pc_sound.proofs.Finish.{two_tops, by_tops, own_is, rule_is, at_this, typed_at}
-use Rattle.pc_sound.proofs.StoreTask.{goes_lower}
+use Rattle.pc_sound.proofs.Places.{goes_lower}
 
 -- ---- what the rules say
 
@@ -230,7 +230,7 @@ module _ (core : CoreData) (ann : Ann) (needs : Needs core ann) (around : Around
   put_ok name is q v w rest has gets ok =
       let t : OfType core around.objects q.origin_ty v = typed_at core ann around q.origin q.origin_ty v q.is_origin has.0 in
       let o = origin_at core ann needs around.objects around.actors r.objects q.origin_ty name q.index q.field v (field_at core q.origin_ty.0 name q.index q.field q.is_field) t in
-      let fits : OfType core around.objects (typed.field_type q.field) w = of_lower core ann needs around.objects q.value_ty (typed.field_type q.field) w (goes_lower core ann needs q.value_ty (place q.field) q.goes) (typed_at core ann around q.value q.value_ty w q.is_value gets.0) in
+      let fits : OfType core around.objects (typed.field_type q.field) w = of_lower core ann needs around.objects q.value_ty (typed.field_type q.field) w (goes_lower core needs.formed q.value_ty (place q.field) q.goes) (typed_at core ann around q.value q.value_ty w q.is_value gets.0) in
       let was = value_there core ann needs around.objects around.actors r.objects q.origin_ty.0 name q.index q.field v o (t.finished (taken_sees q.origin_ty.1 q.field.cap q.old q.is_old)) in
       let old : OfType core around.objects (q.field.entity, q.old) was.0 = of_lower core ann needs around.objects (typed.field_type q.field) (q.field.entity, q.old) was.0 (inl refl, taken_plain q.origin_ty.1 q.field.cap q.old q.is_old) (o.fits.fields q.index q.field was.0 o.is_field was.1) in
       let less : Within e.follows.set r.held.set = within_trans e.follows.set e.note.set_after r.held.set e.follows.set_left (subst (λ (m : Mask). Within m r.held.set) (sym q.says.set) e.set) in
@@ -256,7 +256,7 @@ module _ (core : CoreData) (ann : Ann) (needs : Needs core ann) (around : Around
       let o : Origin core around.objects r.held.own.entity name q.index q.field v = subst (λ (u : Value). Origin core around.objects r.held.own.entity name q.index q.field u) (sym this) (origin_of core ann needs around.objects around.actors r.objects r.held.own.entity name q.index q.field r.held.this at r.held.this_ok.kind r.held.this_ok.is_entity) in
       let born : constructs r.held.own.kind ≡ true = ap (λ (m : Method). constructs m.kind) (sym own) ∙ q.origin.constructs in
       let has_them : HasFields around.objects r.held.set v = subst (λ (u : Value). HasFields around.objects r.held.set u) (sym this) (r.held.this_ok.fields born) in
-      let fits : OfType core around.objects (typed.field_type q.field) w = of_lower core ann needs around.objects q.value_ty (typed.field_type q.field) w (goes_lower core ann needs q.value_ty (place q.field) q.goes) (typed_at core ann around q.value q.value_ty w q.is_value gets.0) in
+      let fits : OfType core around.objects (typed.field_type q.field) w = of_lower core ann needs around.objects q.value_ty (typed.field_type q.field) w (goes_lower core needs.formed q.value_ty (place q.field) q.goes) (typed_at core ann around q.value q.value_ty w q.is_value gets.0) in
       let old = get_within o.object.fields q.index o.room in
       let more : Within e.follows.set (with_number r.held.set q.index) = λ j b. more_set q.index j (subst (λ (m : Mask). IsIn m j) q.says.set (e.follows.set_left j b)) in
       let kept_this : ThisOk core (new r.held.own.entity name q.index q.field v w o fits) r.held.own r.held.set r.held.this = this_kept around.objects (new r.held.own.entity name q.index q.field v w o fits) (extends r.held.own.entity name q.index q.field v w o fits) core r.held.own r.held.set r.held.this r.held.this_ok in
