@@ -263,6 +263,9 @@ module _ (core : CoreData) (ann : Ann) (needs : Needs core ann) (around : Around
   same_rule rule.Identity b other q = same_is b other q
   same_rule u b other q = absurd (none-some (said_by e.note) q)
 
+  negated_ok : (g : Frame) (v : Value) (b : Bool) → v ≡ Truth b → MoveOk core ann around fs (Goes (pushed g (Truth (not b)))) → MoveOk core ann around fs (negated g v)
+  negated_ok g v b is k = subst (λ (x : Value). MoveOk core ann around fs (negated g x)) (sym is) k
+
   not_is : (is_this e.node.kind ≡ true → ⊥) → not_says ann e.node (before e.note) ≡ Some (said_by e.note) → MoveOk core ann around fs (apply_task f nodes.Not)
   not_is other q =
       let c = bind_some (one_child e.node.children) _ (said_by e.note) q in
@@ -271,7 +274,7 @@ module _ (core : CoreData) (ann : Ann) (needs : Needs core ann) (around : Around
       let t = one_top core ann needs around f fs r applies n e c.0 (only_one e.node.children c.0 c.1) in
       let b = is_truth core ann needs around.objects v.0.1 t.top (read_at core ann around c.0 v.0 2 t.top v.1 (read_is 2 v.0 k.0).0 t.answers.0) in
       by_top core ann needs around f fs r applies n e t.top t.below (λ v g. negated g v) t.is
-      (subst (λ (x : Value). MoveOk core ann around fs (negated (with_stack f t.below) x)) (sym b.1) (truth_ok t.below t.ok other (not b.0) (value_is ann e.node e.note e.behind 2 e.is_behind k.1)))
+      (negated_ok (with_stack f t.below) t.top b.0 b.1 (truth_ok t.below t.ok other (not b.0) (value_is ann e.node e.note e.behind 2 e.is_behind k.1)))
 
   not_rule : (u : Rule) → (is_this e.node.kind ≡ true → ⊥) → says core ann e.node (before e.note) u nodes.Not ≡ Some (said_by e.note) → MoveOk core ann around fs (apply_task f nodes.Not)
   not_rule rule.Logic other q = not_is other q

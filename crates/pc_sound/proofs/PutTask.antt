@@ -106,6 +106,16 @@ old_own i g s (Some f) true e h = inr (h, f, e, ap (λ (o : Option Form). o >>= 
 abbrev both : Mask → Mask → Masks
 both a b = (a, b)
 
+-- A field that may be written, and to which the value goes.
+written_is : (core : CoreData) (v o : Ty) (name : ℕ) (f : FieldInfo) → written_field core v o name ≡ Some f → (i : ℕ) × (field_of core o.0 name ≡ Some (i, f)) × (goes_to core v (place f) ≡ true)
+written_is core v o name f e =
+    let g = bind_some (field_of core o.0 name) _ f e in
+    let k = kept (writes core v o.1 g.0.1) (Some g.0.1) f g.2 in
+    let p = and_parts (not g.0.1.fixed) (goes_to core v (place g.0.1) && may_write o.1 v.1 g.0.1.cap) k.0 in
+    let q = and_parts (goes_to core v (place g.0.1)) (may_write o.1 v.1 g.0.1.cap) p.1 in
+    let is : g.0.1 ≡ f = same_Some g.0.1 f k.1 in
+    (g.0.0, subst (λ (z : FieldInfo). field_of core o.0 name ≡ Some (g.0.0, z)) is g.1, subst (λ (z : FieldInfo). goes_to core v (place z) ≡ true) is q.0)
+
 module _ (core : CoreData) (ann : Ann) (x : Node) (t : Note) (behind : Masks) (is_behind : through ann x.children (before t) ≡ Some behind) (name : ℕ) where
   write_is : write_says core ann x name (before t) ≡ Some (said_by t) → PutRule core ann x t behind name
   write_is e =
@@ -114,11 +124,7 @@ module _ (core : CoreData) (ann : Ann) (x : Node) (t : Note) (behind : Masks) (i
       let n = bind_some (through ann x.children (before t)) _ (said_by t) y.2 in
       let w = bind_some (written_field core v.0.0 v.0.1 name) _ y.0 y.1 in
       let o = bind_some (taken v.0.1.1 w.0.cap) _ y.0 w.2 in
-      let g = bind_some (field_of core v.0.1.0 name) _ w.0 w.1 in
-      let k = kept (writes core v.0.0 v.0.1.1 g.0.1) (Some g.0.1) w.0 g.2 in
-      let p = and_parts (not g.0.1.fixed) (goes_to core v.0.0 (place g.0.1) && may_write v.0.1.1 v.0.0.1 g.0.1.cap) k.0 in
-      let q = and_parts (goes_to core v.0.0 (place g.0.1)) (may_write v.0.1.1 v.0.0.1 g.0.1.cap) p.1 in
-      let field : w.0 ≡ g.0.1 = sym (same_Some g.0.1 w.0 k.1) in
+      let g = written_is core v.0.0 v.0.1 name w.0 w.1 in
       let is : behind ≡ n.0 = same_Some behind n.0 (sym is_behind ∙ n.1) in
       let ty : ◌≡◌ {A = Ty} (w.0.entity, o.0) y.0 = same_Some (w.0.entity, o.0) y.0 o.2 in
       let ts = types_are ann x.children v.0 v.1 in
@@ -130,13 +136,13 @@ module _ (core : CoreData) (ann : Ann) (x : Node) (t : Note) (behind : Masks) (i
         is_value = ts.left_type;
         origin_ty = v.0.1;
         is_origin = ts.right_type;
-        index = g.0.0;
-        field = g.0.1;
+        index = g.0;
+        field = w.0;
         is_field = g.1;
-        goes = q.0;
+        goes = g.2;
         old = o.0;
-        is_old = subst (λ (z : FieldInfo). taken v.0.1.1 z.cap ≡ Some o.0) field o.1;
-        says = subst (λ (z : FieldInfo). Says t (Some (z.entity, o.0)) behind) field (said_type t (w.0.entity, o.0) y.0 behind n.0 ty is n.2);
+        is_old = o.1;
+        says = said_type t (w.0.entity, o.0) y.0 behind n.0 ty is n.2;
       }
 
   own_write_is : incomplete core ann x ≡ true → own_write_says core ann x name (before t) ≡ Some (said_by t) → OwnPutRule core ann x t behind name
