@@ -1,10 +1,9 @@
 -- Eval at nodes that look at what they evaluate: `and`, `or`, `if`, `while`, sequences, recover and bodies; and at those of
 -- which all children are evaluated first.
-use Rattle.std.specs.Prelude.{◌≡◌, ℕ, Bool, true, false, cond, List, [], ◌∷◌, ◌++◌, Option, Some, None, nat_eq, slice_get, refl}
+use Rattle.std.specs.Prelude.{◌≡◌, ℕ, Bool, true, false, cond, List, [], ◌∷◌, ◌++◌, Option, Some, None, slice_get, refl}
 use Rattle.std.proofs.Common.{inl, ap, sym, subst, ◌∙◌, append_assoc}
 use Rattle.std.proofs.lemmas.Option.{same_Some}
-use Rattle.std.specs.Int.{bit_at}
-use Rattle.std.proofs.lemmas.Bool.{and_parts, eqb-true}
+use Rattle.std.proofs.lemmas.Bool.{and_parts}
 use Rattle.pc_caps.specs.Gets.{get_below}
 use Rattle.pc_caps.specs.Order.{is_below}
 use Rattle.pc_caps.specs.declared.capability.Cap.{Cap}
@@ -17,10 +16,9 @@ use Rattle.pc_core.specs.declared.nodes.NodeKind.{NodeKind}
 use Rattle.pc_core.specs.declared.nodes.NodeKind.TheVariants as nodes
 use Rattle.pc_core.specs.CoreData.{CoreData}
 use Rattle.pc_core.specs.Words.{Each}
-use Rattle.pc_ann.specs.declared.mask.Mask.{Mask}
 use Rattle.pc_ann.specs.declared.annotation.Note.{Note}
 use Rattle.pc_ann.specs.declared.annotation.Ann.{Ann}
-use Rattle.pc_ann.specs.Masks.{meet, same}
+use Rattle.pc_ann.specs.Masks.{meet}
 use Rattle.pc_ann.specs.MaskLaws.{meet_bits, within_bits}
 use Rattle.pc_sub.specs.Sub.{is_sub}
 use Rattle.pc_sub.specs.Above.{is_sub_iff}
@@ -33,6 +31,7 @@ use Rattle.pc_rules.specs.Parts.{Ty, Masks, readable, lower, all_fields, before,
 use Rattle.pc_rules.specs.Fields.{is_this}
 use Rattle.pc_rules.specs.Control.{joined, gives, result_ok, body_says}
 use Rattle.pc_rules.specs.Rules.{said_by}
+use Rattle.pc_rules.specs.Agreeing.{same_mask}
 use Rattle.pc_rules.specs.Homes.{home, home_method, home_body}
 use Rattle.pc_rules.specs.Threads.{false_true}
 use Rattle.pc_sound.specs.Types.{LowerType, Lower, Want, wanted}
@@ -45,12 +44,6 @@ use Rattle.pc_sound.proofs.Begin.{BodyRule, body_inverse}
 use Rattle.pc_sound.proofs.Running.{tasks_ok}
 use Rattle.pc_sound.proofs.EvalChildren.{within_is, items_less, First, first_of_them, type_is, child_ok, whole_ok, evaluations_ok, items_ok}
 use Rattle.pc_sound.proofs.Inverse.{LazyRule, IfRule, WhileRule, SeqRule, RecoverRule, read_is, condition_is}
-
--- ---- masks
-
--- Equal masks have the same numbers, from the second to the first.
-same_back : (a b : Mask) → same a b ≡ true → Within b a
-same_back a b e i h = subst (λ (n : ℕ). nat_eq (bit_at n i) 1 ≡ true) (sym (eqb-true a.0 b.0 e)) h
 
 -- ---- types
 
@@ -278,7 +271,7 @@ module _ (core : CoreData) (ann : Ann) (needs : Needs core ann) (around : Around
         let b = first_of_them ann q.body [] q.behind q.behind_body q.is_body in
         let end : q.behind_body ≡ after b.note = sym (same_Some (after b.note) q.behind_body b.rest) in
         let live : Within e.note.live_before b.note.live_after = within_trans e.note.live_before q.behind_body.0 b.note.live_after ((within_bits e.note.live_before q.behind_body.0).0 q.keeps_live) (within_is q.behind_body.0 b.note.live_after (ap (λ (m : Masks). m.0) end)) in
-        let set : Within e.note.set_before b.note.set_after = within_trans e.note.set_before q.behind_body.1 b.note.set_after (same_back q.behind_body.1 e.note.set_before q.keeps_set) (within_is q.behind_body.1 b.note.set_after (ap (λ (m : Masks). m.1) end)) in
+        let set : Within e.note.set_before b.note.set_after = within_trans e.note.set_before q.behind_body.1 b.note.set_after (within_is e.note.set_before q.behind_body.1 (sym (same_mask q.behind_body.1 e.note.set_before q.keeps_set))) (within_is q.behind_body.1 b.note.set_after (ap (λ (m : Masks). m.1) end)) in
         let again : EvalOk core ann f.method b.note.live_after b.note.set_after r.held.wants n (λ l s g. TasksOk core ann f.method f.tasks l s g) = record {
           node = e.node;
           is_node = e.is_node;
