@@ -24,7 +24,13 @@ pub use top::{
 };
 
 #[cfg(test)]
+mod call_cases;
+#[cfg(test)]
 mod cases;
+#[cfg(test)]
+mod field_cases;
+#[cfg(test)]
+mod flow_cases;
 #[cfg(test)]
 mod name_cases;
 #[cfg(test)]
