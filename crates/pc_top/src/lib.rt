@@ -2,7 +2,6 @@
 #![tactic(auto)]
 
 mod check;
-mod command;
 mod core_faults;
 mod derivation;
 mod faults;
