@@ -48,8 +48,7 @@ use Rattle.pc_sound.proofs.Running.{fewer_slots, fewer_set, frame_in}
 -- What a note leaves is there where what its children leave is.
 pub left_within : (o : Option Masks) (b c : Masks) (live set l s : Mask) → o ≡ Some b → o ≡ Some c → live ≡ c.0 → set ≡ c.1 → Within b.0 l → Within b.1 s → Within live l × Within set s
 left_within o b c live set l s e g is_live is_set wl ws =
-    let same : b ≡ c = same_Some b c (sym e ∙ g) in
-    (
+    let same : b ≡ c = same_Some b c (sym e ∙ g) in (
       λ i h. wl i (subst (λ (p : Masks). IsIn p.0 i) (sym same) (subst (λ (p : Mask). IsIn p i) is_live h)),
       λ i h. ws i (subst (λ (p : Masks). IsIn p.1 i) (sym same) (subst (λ (p : Mask). IsIn p i) is_set h)),
     )

@@ -1,10 +1,8 @@
 -- Test, Branch, Loop and Discard.
-use Rattle.std.specs.Prelude.{◌≡◌, ℕ, Bool, true, false, List, [], ◌∷◌, length, Option, Some, None, slice_get, refl}
+use Rattle.std.specs.Prelude.{◌≡◌, ℕ, Bool, true, false, List, [], ◌∷◌, length, Option, Some, slice_get, refl}
 use Rattle.std.proofs.Common.{inl, ap, sym, subst, ◌∙◌, arith}
-use Rattle.pc_heap.specs.Objects.{ObjectMap}
 use Rattle.pc_heap.specs.declared.value.Value.{Value}
 use Rattle.pc_heap.specs.declared.value.Value.TheVariants.{Truth, Prim}
-use Rattle.pc_caps.specs.declared.capability.Form.{Form}
 use Rattle.pc_caps.specs.declared.capability.Form.TheVariants as form
 use Rattle.pc_core.specs.declared.nodes.Node.{Node}
 use Rattle.pc_core.specs.declared.nodes.NodeKind.{NodeKind}
@@ -15,14 +13,14 @@ use Rattle.pc_ann.specs.declared.annotation.Ann.{Ann}
 use Rattle.pc_semantics.specs.declared.frames.Frame.{Frame}
 use Rattle.pc_semantics.specs.declared.frames.Task.{Task}
 use Rattle.pc_semantics.specs.declared.frames.Task.TheVariants as task
-use Rattle.pc_semantics.specs.Around.{Around, Move, Goes, with_stack, pushed, doing, with_top, none}
+use Rattle.pc_semantics.specs.Around.{Around, Move, Goes, with_stack, pushed, with_top, none}
 use Rattle.pc_semantics.specs.Tasks.{at_node}
 use Rattle.pc_semantics.specs.Choices.{truth, right_side, test_and, test_or, test_task, branch, branch_task, turn, loop_task}
 use Rattle.pc_rules.specs.Parts.{Ty}
 use Rattle.pc_rules.specs.Fields.{is_this}
 use Rattle.pc_rules.specs.Threads.{false_true}
 use Rattle.pc_sound.specs.Types.{OfType, OfSome, Want, wanted, StackOk}
-use Rattle.pc_sound.specs.Tasks.{TruthOnTop, Follows, is_lazy, TestOk, BranchOk, LoopOk, DiscardOk, EvalOk, TasksOk}
+use Rattle.pc_sound.specs.Tasks.{TruthOnTop, is_lazy, TestOk, BranchOk, LoopOk, DiscardOk, EvalOk, TasksOk}
 use Rattle.pc_sound.specs.Frames.{FramesOk}
 use Rattle.pc_sound.specs.Moves.{MoveOk, Runs}
 use Rattle.pc_sound.proofs.Needs.{Needs}

@@ -1,14 +1,12 @@
 -- Eval at nodes that look at what they evaluate: `and`, `or`, `if`, `while`, sequences, recover and bodies; and at those of
 -- which all children are evaluated first.
-use Rattle.std.specs.Prelude.{◌≡◌, ℕ, Bool, true, false, ◌&&◌, cond, List, [], ◌∷◌, ◌++◌, Option, Some, None, nat_eq, slice_get, refl}
+use Rattle.std.specs.Prelude.{◌≡◌, ℕ, Bool, true, false, cond, List, [], ◌∷◌, ◌++◌, Option, Some, None, slice_get, refl}
 use Rattle.std.proofs.Common.{inl, ap, sym, subst, ◌∙◌, append_assoc}
 use Rattle.std.proofs.lemmas.Option.{same_Some}
-use Rattle.std.specs.Int.{bit_at}
-use Rattle.std.proofs.lemmas.Bool.{and_parts, eqb-true}
+use Rattle.std.proofs.lemmas.Bool.{and_parts}
 use Rattle.pc_caps.specs.Gets.{get_below}
 use Rattle.pc_caps.specs.Order.{is_below}
 use Rattle.pc_caps.specs.declared.capability.Cap.{Cap}
-use Rattle.pc_caps.specs.declared.capability.Form.{Form}
 use Rattle.pc_caps.specs.declared.capability.Form.TheVariants as form
 use Rattle.pc_core.specs.declared.declarations.Method.{Method}
 use Rattle.pc_core.specs.declared.declarations.MethodKind.{MethodKind}
@@ -18,10 +16,9 @@ use Rattle.pc_core.specs.declared.nodes.NodeKind.{NodeKind}
 use Rattle.pc_core.specs.declared.nodes.NodeKind.TheVariants as nodes
 use Rattle.pc_core.specs.CoreData.{CoreData}
 use Rattle.pc_core.specs.Words.{Each}
-use Rattle.pc_ann.specs.declared.mask.Mask.{Mask}
 use Rattle.pc_ann.specs.declared.annotation.Note.{Note}
 use Rattle.pc_ann.specs.declared.annotation.Ann.{Ann}
-use Rattle.pc_ann.specs.Masks.{meet, within, same}
+use Rattle.pc_ann.specs.Masks.{meet}
 use Rattle.pc_ann.specs.MaskLaws.{meet_bits, within_bits}
 use Rattle.pc_sub.specs.Sub.{is_sub}
 use Rattle.pc_sub.specs.Above.{is_sub_iff}
@@ -30,29 +27,23 @@ use Rattle.pc_semantics.specs.declared.frames.Task.{Task}
 use Rattle.pc_semantics.specs.declared.frames.Task.TheVariants as task
 use Rattle.pc_semantics.specs.Around.{Around, Goes, doing}
 use Rattle.pc_semantics.specs.Evaluation.{evaluations, children_first, first_then, items}
-use Rattle.pc_rules.specs.Parts.{Ty, Masks, readable, lower, constructs, all_fields, full, before, after, through, type_of}
+use Rattle.pc_rules.specs.Parts.{Ty, Masks, readable, lower, all_fields, before, after, through, type_of}
 use Rattle.pc_rules.specs.Fields.{is_this}
-use Rattle.pc_rules.specs.Control.{joined_types, joined, gives, result_ok, body_says}
+use Rattle.pc_rules.specs.Control.{joined, gives, result_ok, body_says}
 use Rattle.pc_rules.specs.Rules.{said_by}
+use Rattle.pc_rules.specs.Agreeing.{same_mask}
 use Rattle.pc_rules.specs.Homes.{home, home_method, home_body}
 use Rattle.pc_rules.specs.Threads.{false_true}
 use Rattle.pc_sound.specs.Types.{LowerType, Lower, Want, wanted}
-use Rattle.pc_sound.specs.Tasks.{Within, want_of, stacked, Follows, EvalOk, BodyOk, is_lazy, TestOk, BranchOk, LoopOk, ReturnOk, TasksOk}
+use Rattle.pc_sound.specs.Tasks.{Within, want_of, stacked, EvalOk, is_lazy, ReturnOk, TasksOk}
 use Rattle.pc_sound.specs.Moves.{MoveOk, Runs}
 use Rattle.pc_sound.proofs.Needs.{Needs, IsChild}
-use Rattle.pc_sound.proofs.Basic.{within_same, within_trans, lower_same, trans_lower, eval_more, tasks_more}
-use Rattle.pc_sound.proofs.Notes.{same_within}
+use Rattle.pc_sound.proofs.Basic.{within_trans, lower_same, trans_lower, eval_more, tasks_more}
 use Rattle.pc_sound.proofs.Tables.{below_sees, recovered_sees}
 use Rattle.pc_sound.proofs.Begin.{BodyRule, body_inverse}
 use Rattle.pc_sound.proofs.Running.{tasks_ok}
 use Rattle.pc_sound.proofs.EvalChildren.{within_is, items_less, First, first_of_them, type_is, child_ok, whole_ok, evaluations_ok, items_ok}
 use Rattle.pc_sound.proofs.Inverse.{LazyRule, IfRule, WhileRule, SeqRule, RecoverRule, read_is, condition_is}
-
--- ---- masks
-
--- Equal masks have the same numbers, from the second to the first.
-same_back : (a b : Mask) → same a b ≡ true → Within b a
-same_back a b e i h = subst (λ (n : ℕ). nat_eq (bit_at n i) 1 ≡ true) (sym (eqb-true a.0 b.0 e)) h
 
 -- ---- types
 
@@ -134,10 +125,13 @@ module _ (core : CoreData) (ann : Ann) (needs : Needs core ann) (around : Around
         record {
           own = r.held.own;
           is_own = r.held.is_own;
-          result = λ fun.
-              (want_of core ann q.child, r.held.wants, refl,
-              subst (λ (o : Option Ty). Lower core o (Some r.held.own.result)) ty
-              (result_lower core ann needs r.held.own.kind r.held.own.result q.note.ty fun (subst (λ (y : Method). result_ok core y.kind y.result q.note.ty ≡ true) is q.result)));
+          result = λ fun. (
+            want_of core ann q.child,
+            r.held.wants,
+            refl,
+            subst (λ (o : Option Ty). Lower core o (Some r.held.own.result)) ty
+                (result_lower core ann needs r.held.own.kind r.held.own.result q.note.ty fun (subst (λ (y : Method). result_ok core y.kind y.result q.note.ty ≡ true) is q.result)),
+          );
           fields = λ new.
               within_trans (all_fields core r.held.own.entity) t.set_after u.note.set_after
               ((within_bits (all_fields core r.held.own.entity) t.set_after).0 (needs.valid.sets f.method r.held.own r.held.is_own new n t body is_note))
@@ -277,7 +271,7 @@ module _ (core : CoreData) (ann : Ann) (needs : Needs core ann) (around : Around
         let b = first_of_them ann q.body [] q.behind q.behind_body q.is_body in
         let end : q.behind_body ≡ after b.note = sym (same_Some (after b.note) q.behind_body b.rest) in
         let live : Within e.note.live_before b.note.live_after = within_trans e.note.live_before q.behind_body.0 b.note.live_after ((within_bits e.note.live_before q.behind_body.0).0 q.keeps_live) (within_is q.behind_body.0 b.note.live_after (ap (λ (m : Masks). m.0) end)) in
-        let set : Within e.note.set_before b.note.set_after = within_trans e.note.set_before q.behind_body.1 b.note.set_after (same_back q.behind_body.1 e.note.set_before q.keeps_set) (within_is q.behind_body.1 b.note.set_after (ap (λ (m : Masks). m.1) end)) in
+        let set : Within e.note.set_before b.note.set_after = within_trans e.note.set_before q.behind_body.1 b.note.set_after (within_is e.note.set_before q.behind_body.1 (sym (same_mask q.behind_body.1 e.note.set_before q.keeps_set))) (within_is q.behind_body.1 b.note.set_after (ap (λ (m : Masks). m.1) end)) in
         let again : EvalOk core ann f.method b.note.live_after b.note.set_after r.held.wants n (λ l s g. TasksOk core ann f.method f.tasks l s g) = record {
           node = e.node;
           is_node = e.is_node;

@@ -1,23 +1,20 @@
 -- The task Eval, at each kind of node.
-use Rattle.std.specs.Prelude.{◌≡◌, ℕ, Bool, true, false, List, ◌∷◌, length, Option, Some, slice_get, refl}
+use Rattle.std.specs.Prelude.{◌≡◌, ℕ, Bool, true, false, List, length, Option, Some, slice_get, refl}
 use Rattle.std.proofs.Common.{inl, inr, ap, sym, subst, ◌∙◌}
 use Rattle.pc_core.specs.declared.nodes.Node.{Node}
 use Rattle.pc_core.specs.declared.nodes.NodeKind.{NodeKind}
 use Rattle.pc_core.specs.declared.nodes.NodeKind.TheVariants as nodes
 use Rattle.pc_core.specs.CoreData.{CoreData}
 use Rattle.pc_core.specs.Nodes.{HasArity}
-use Rattle.pc_ann.specs.declared.mask.Mask.{Mask}
-use Rattle.pc_ann.specs.declared.annotation.Note.{Note}
 use Rattle.pc_ann.specs.declared.annotation.Ann.{Ann}
 use Rattle.pc_semantics.specs.declared.frames.Frame.{Frame}
 use Rattle.pc_semantics.specs.declared.frames.Task.TheVariants as task
 use Rattle.pc_semantics.specs.Around.{Around}
-use Rattle.pc_semantics.specs.Evaluation.{children_first, evaluate, evaluate_node}
+use Rattle.pc_semantics.specs.Evaluation.{evaluate, evaluate_node}
 use Rattle.pc_rules.specs.Parts.{Masks, before, through}
-use Rattle.pc_rules.specs.Rules.{says, said_by, Meets}
+use Rattle.pc_rules.specs.Rules.{says, said_by}
 use Rattle.pc_rules.specs.OneRule.{body_rule}
 use Rattle.pc_rules.specs.Threads.{Threaded, is_branch, threads, false_true}
-use Rattle.pc_sound.specs.Types.{Want}
 use Rattle.pc_sound.specs.Tasks.{stacked, EvalOk, BodyOk, FinishOk, reads, writes, stores, makes, spawns, invokes, applies, is_lazy, TasksOk}
 use Rattle.pc_sound.specs.Moves.{MoveOk, Runs}
 use Rattle.pc_sound.proofs.Needs.{Needs}

@@ -1,80 +1,49 @@
 -- Eval at literals, `this` and slots.
-use Rattle.std.specs.Prelude.{◌≡◌, ◌≢◌, ℕ, zero, suc, ◌<◌, ◌≤◌, Bool, true, false, ◌&&◌, cond, List, [], ◌∷◌, length, Option, Some, None, slice_get, slice_set, refl}
+use Rattle.std.specs.Prelude.{◌≡◌, ◌≢◌, ℕ, ◌<◌, Bool, true, false, ◌&&◌, cond, List, ◌∷◌, Option, Some, None, slice_get, slice_set, refl}
 use Rattle.std.proofs.Common.{inl, ap, sym, subst, ◌∙◌, arith, length-set}
 use Rattle.std.proofs.lemmas.Option.{same_Some}
 use Rattle.std.proofs.lemmas.Bool.{and_parts}
-use Rattle.pc_heap.specs.Objects.{ObjectMap}
 use Rattle.pc_heap.specs.declared.value.Value.{Value}
-use Rattle.pc_heap.specs.declared.value.Value.TheVariants.{Num, Truth, Text, Prim, At}
+use Rattle.pc_heap.specs.declared.value.Value.TheVariants.{Num, Truth, Text, Prim}
 use Rattle.pc_caps.specs.Gets.{get_set_other}
 use Rattle.pc_caps.specs.Tables.{plain, unalias}
 use Rattle.pc_caps.specs.declared.capability.Cap.{Cap}
 use Rattle.pc_caps.specs.declared.capability.Form.{Form}
 use Rattle.pc_caps.specs.declared.capability.Form.TheVariants as form
-use Rattle.pc_core.specs.declared.declarations.EntityDef.{EntityDef}
 use Rattle.pc_core.specs.declared.declarations.Method.{Method}
-use Rattle.pc_core.specs.declared.nodes.Node.{Node}
 use Rattle.pc_core.specs.declared.nodes.NodeKind.{NodeKind}
 use Rattle.pc_core.specs.declared.nodes.NodeKind.TheVariants as nodes
 use Rattle.pc_core.specs.declared.nodes.Slot.{Slot}
 use Rattle.pc_core.specs.CoreData.{CoreData}
-use Rattle.pc_core.specs.Nodes.{NamesPrimitive, NamesSlot, NamesFit}
+use Rattle.pc_core.specs.Nodes.{NamesFit}
 use Rattle.pc_ann.specs.declared.mask.Mask.{Mask}
-use Rattle.pc_ann.specs.declared.annotation.Note.{Note}
 use Rattle.pc_ann.specs.declared.annotation.Ann.{Ann}
 use Rattle.pc_ann.specs.Masks.{without_number}
-use Rattle.pc_ann.specs.MaskLaws.{first_bits, within_bits, without_number_bits}
+use Rattle.pc_ann.specs.MaskLaws.{within_bits, without_number_bits}
 use Rattle.pc_semantics.specs.declared.frames.Frame.{Frame}
-use Rattle.pc_semantics.specs.Around.{Around, Goes, pushed, entity_of}
+use Rattle.pc_semantics.specs.Around.{Around, Goes, pushed}
 use Rattle.pc_semantics.specs.Evaluation.{push_slot, take_slot}
-use Rattle.pc_rules.specs.Parts.{Ty, fields_in, field_count, all_fields, full, constructs, slot_of, reachable, before}
+use Rattle.pc_rules.specs.Parts.{Ty, all_fields, full, constructs, reachable, before}
 use Rattle.pc_rules.specs.Fields.{is_this}
 use Rattle.pc_rules.specs.Values.{this_form}
-use Rattle.pc_rules.specs.Rules.{said_by}
 use Rattle.pc_rules.specs.Threads.{false_true}
-use Rattle.pc_sound.specs.Types.{sees, Finished, OfKind, OfType, OfSome, LowerType, held_in}
+use Rattle.pc_sound.specs.Types.{sees, Finished, OfType, OfSome, held_in}
 use Rattle.pc_sound.specs.Tasks.{Within, EvalOk, TasksOk}
-use Rattle.pc_sound.specs.Frames.{HasFields, SlotsOk}
-use Rattle.pc_sound.specs.Typed.{ObjectsOk}
+use Rattle.pc_sound.specs.Frames.{SlotsOk}
 use Rattle.pc_sound.specs.Moves.{MoveOk, Runs}
 use Rattle.pc_sound.proofs.Needs.{Needs}
-use Rattle.pc_sound.proofs.Basic.{within_same, within_trans, of_lower, some_lower}
-use Rattle.pc_sound.proofs.Growth.{class_is}
+use Rattle.pc_sound.proofs.Basic.{within_trans, of_lower, some_lower}
 use Rattle.pc_sound.proofs.Notes.{slot_at}
-use Rattle.pc_sound.proofs.Tables.{unalias_sees}
-use Rattle.pc_sound.proofs.Running.{fewer_slots, go_ok, push_ok}
-use Rattle.pc_sound.proofs.EvalChildren.{within_is}
+use Rattle.pc_sound.proofs.AllFields.{all_set}
+use Rattle.pc_sound.proofs.Places.{taken_lower}
+use Rattle.pc_sound.proofs.Running.{go_ok, push_ok}
 use Rattle.pc_sound.proofs.Inverse.{Says, Used, ThisRule, LocalRule, ConsumeRule}
-
--- ---- the object of a constructor
-
--- Where all fields that the entity has are set, the object is finished.
-pub all_set : (core : CoreData) (ann : Ann) (needs : Needs core ann) (objects : ObjectMap) (count : ℕ) → ObjectsOk core objects count → (d : ℕ) (set : Mask) (v : Value) → entity_of objects v ≡ Some d → Within (all_fields core d) set → HasFields objects set v → Finished objects v
-all_set core ann needs objects count ok d set (At a) is w k =
-    let o = k.0 in
-    let of : o.entity ≡ d = same_Some o.entity d (sym (class_is objects a o k.1) ∙ is) in
-    let fits = (ok.each a o k.1).0 in
-    let total : field_count core d ≡ length o.fields = ap fields_in (ap (slice_get core.entities) (sym of) ∙ fits.is_entity) ∙ sym fits.room in
-    let few : length fits.entity.fields ≤ 64 = (needs.formed.entities o.entity fits.entity fits.is_entity).few_fields in
-    let room : length o.fields ≡ length fits.entity.fields = fits.room in
-    (o, k.1, λ i l.
-    let below : i < field_count core d = omega (arith, total, l) in
-    let small : i < 64 = omega (arith, few, room, l) in
-    k.2 i (w i ((first_bits (field_count core d) i).1 (below, small))))
-all_set core ann needs objects count ok d set (Num n) is w k = tt
-all_set core ann needs objects count ok d set (Truth b) is w k = tt
-all_set core ann needs objects count ok d set (Text s) is w k = tt
-all_set core ann needs objects count ok d set (Prim p) is w k = tt
 
 -- ---- forms
 
 form_cases : (b : Bool) (f : Form) → sees (cond b f form.Tag) ≡ true → (b ≡ true) × (sees f ≡ true)
 form_cases true f h = (refl, h)
 form_cases false f h = absurd (false_true h)
-
--- The form that no place holds sees as much as the place.
-pub taken_lower : (core : CoreData) (i : ℕ × Cap) → LowerType core (held_in i) (i.0, unalias i.1)
-taken_lower core i = (inl refl, λ h. sym (unalias_sees i.1) ∙ h)
 
 pub not_zero : (s : ℕ) → 0 < s → 0 ≢ s
 not_zero s l e = absurd (omega (arith, l, e))
@@ -114,9 +83,8 @@ module _ (core : CoreData) (ann : Ann) (needs : Needs core ann) (around : Around
   finished_this : (b : Bool) → constructs r.held.own.kind ≡ b → full core r.held.own.entity e.note.set_before ≡ true → sees (plain r.held.own.receiver) ≡ true → Finished around.objects r.held.this
   finished_this false is all h = r.held.this_ok.finished is h
   finished_this true is all h =
-      all_set core ann needs around.objects around.actors r.objects r.held.own.entity r.held.set r.held.this r.held.this_ok.is_entity
+      all_set core ann needs around.objects around.actors r.held.set r.held.own.entity r.held.this r.objects (r.held.this_ok.fields is) r.held.this_ok.is_entity
       (within_trans (all_fields core r.held.own.entity) e.note.set_before r.held.set ((within_bits (all_fields core r.held.own.entity) e.note.set_before).0 all) e.set)
-      (r.held.this_ok.fields is)
 
   seen_this : (slot : Slot × (ℕ × Cap)) → slot.1 ≡ (r.held.own.entity, r.held.own.receiver) → sees (this_form core e.node r.held.own.entity slot e.note.set_before) ≡ true → Finished around.objects r.held.this
   seen_this slot is h =

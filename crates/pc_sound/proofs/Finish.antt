@@ -1,8 +1,7 @@
 -- A node whose children are evaluated: what they left on the stack, and what follows the node.
-use Rattle.std.specs.Prelude.{◌≡◌, ℕ, Bool, true, List, [], ◌∷◌, Option, Some, None, slice_get}
+use Rattle.std.specs.Prelude.{◌≡◌, ℕ, Bool, true, List, [], ◌∷◌, Option, Some, slice_get}
 use Rattle.std.proofs.Common.{ap, sym, subst, ◌∙◌}
 use Rattle.pc_heap.specs.declared.value.Value.{Value}
-use Rattle.pc_core.specs.declared.declarations.Method.{Method}
 use Rattle.pc_core.specs.declared.nodes.Node.{Node}
 use Rattle.pc_core.specs.declared.nodes.NodeKind.{NodeKind}
 use Rattle.pc_core.specs.CoreData.{CoreData}
@@ -12,7 +11,7 @@ use Rattle.pc_ann.specs.declared.annotation.Ann.{Ann}
 use Rattle.pc_semantics.specs.declared.frames.Frame.{Frame}
 use Rattle.pc_semantics.specs.Around.{Around, Move, Goes, with_stack, pushed, with_top}
 use Rattle.pc_semantics.specs.Tasks.{at_node}
-use Rattle.pc_rules.specs.Parts.{Ty, Masks, before, type_of}
+use Rattle.pc_rules.specs.Parts.{Ty, before, type_of}
 use Rattle.pc_rules.specs.Fields.{is_this}
 use Rattle.pc_rules.specs.Rules.{says, said_by}
 use Rattle.pc_sound.specs.Types.{OfType, OfSome, Want, Answers, StackOk}

@@ -1,12 +1,10 @@
 -- The task Get: a field is read.
-use Rattle.std.specs.Prelude.{◌≡◌, ℕ, Bool, true, false, List, [], ◌∷◌, length, Option, Some, None, slice_get, refl}
+use Rattle.std.specs.Prelude.{◌≡◌, ℕ, true, List, [], ◌∷◌, length, Option, Some, slice_get, refl}
 use Rattle.std.proofs.Common.{inl, ap, sym, subst, ◌∙◌, arith}
 use Rattle.std.proofs.lemmas.Option.{same_Some, none-some}
-use Rattle.std.specs.FinMap.{get}
 use Rattle.pc_heap.specs.declared.value.Object.{Object}
 use Rattle.pc_heap.specs.declared.value.Value.{Value}
-use Rattle.pc_heap.specs.declared.value.Value.TheVariants.{At}
-use Rattle.pc_caps.specs.Tables.{plain, view}
+use Rattle.pc_caps.specs.Tables.{view}
 use Rattle.pc_caps.specs.declared.capability.Form.{Form}
 use Rattle.pc_caps.specs.declared.capability.Form.TheVariants as form
 use Rattle.pc_core.specs.declared.declarations.FieldInfo.{FieldInfo}
@@ -18,23 +16,21 @@ use Rattle.pc_core.specs.CoreData.{CoreData}
 use Rattle.pc_core.specs.Words.{◌>>=◌}
 use Rattle.pc_core.specs.Members.{bind_some}
 use Rattle.pc_core.specs.Nodes.{HasArity}
-use Rattle.pc_ann.specs.declared.mask.Mask.{Mask}
 use Rattle.pc_ann.specs.declared.annotation.Note.{Note}
 use Rattle.pc_ann.specs.declared.annotation.Ann.{Ann}
 use Rattle.pc_ann.specs.declared.annotation.Rule.{Rule}
 use Rattle.pc_ann.specs.declared.annotation.Rule.TheVariants as rule
-use Rattle.pc_ann.specs.Masks.{IsIn, has}
+use Rattle.pc_ann.specs.Masks.{has}
 use Rattle.pc_semantics.specs.declared.frames.Frame.{Frame}
 use Rattle.pc_semantics.specs.declared.frames.Task.TheVariants as task
 use Rattle.pc_semantics.specs.Around.{Around, Goes, with_stack, pushed}
 use Rattle.pc_semantics.specs.Fields.{get_value, get_field, get_of, get_from, get_task}
-use Rattle.pc_rules.specs.declared.said.Said.{Said}
 use Rattle.pc_rules.specs.Parts.{Ty, Masks, says_of, before, through, type_of, one_child, last_child, constructs}
 use Rattle.pc_rules.specs.Fields.{is_this, field_of, own_field, field_type, incomplete, read_says, own_read_says}
 use Rattle.pc_rules.specs.Alike.{own_seen}
 use Rattle.pc_rules.specs.Rules.{says, said_by}
 use Rattle.pc_rules.specs.Threads.{kept, kept_otherwise, false_true}
-use Rattle.pc_sound.specs.Types.{sees, Finished, OfType, OfSome, LowerType, Answers, StackOk}
+use Rattle.pc_sound.specs.Types.{OfType, Answers, StackOk}
 use Rattle.pc_sound.specs.Tasks.{want_of, reads, FinishOk, TasksOk}
 use Rattle.pc_sound.specs.Frames.{HasFields}
 use Rattle.pc_sound.specs.Typed as typed
@@ -42,8 +38,9 @@ use Rattle.pc_sound.specs.Moves.{MoveOk, Runs}
 use Rattle.pc_sound.proofs.Needs.{Needs}
 use Rattle.pc_sound.proofs.Basic.{of_lower}
 use Rattle.pc_sound.proofs.Tables.{view_sees, view_plain}
+use Rattle.pc_sound.proofs.Begin.{only_one}
 use Rattle.pc_sound.proofs.Steps.{Keeps}
-use Rattle.pc_sound.proofs.Inverse.{one_is, Says, says_is}
+use Rattle.pc_sound.proofs.Inverse.{Says, said_type}
 use Rattle.pc_sound.proofs.Origins.{FieldAt, field_at, Origin, origin_of, origin_at, value_there, set_value, OwnOrigin, own_origin}
 use Rattle.pc_sound.proofs.Finish.{one_top, by_top, done_ok, own_is, rule_is, at_this, typed_at}
 
@@ -84,11 +81,11 @@ module _ (core : CoreData) (ann : Ann) (x : Node) (t : Note) (behind : Masks) (i
       let n = bind_some (through ann x.children (before t)) _ (said_by t) y.2 in
       let g = bind_some (field_of core o.0.0 name) _ y.0 y.1 in
       let v = bind_some (view o.0.1 g.0.1.cap) _ y.0 g.2 in
-      let is : n.0 ≡ behind = same_Some n.0 behind (sym n.1 ∙ is_behind) in
-      let ty : ◌≡◌ {A = Ty} y.0 (g.0.1.entity, v.0) = sym (same_Some (g.0.1.entity, v.0) y.0 v.2) in
+      let is : behind ≡ n.0 = same_Some behind n.0 (sym is_behind ∙ n.1) in
+      let ty : ◌≡◌ {A = Ty} (g.0.1.entity, v.0) y.0 = same_Some (g.0.1.entity, v.0) y.0 v.2 in
       record {
         child = c.0;
-        children = one_is x.children c.0 c.1;
+        children = only_one x.children c.0 c.1;
         origin = o.0;
         is_origin = o.1;
         index = g.0.0;
@@ -96,7 +93,7 @@ module _ (core : CoreData) (ann : Ann) (x : Node) (t : Note) (behind : Masks) (i
         is_field = g.1;
         seen = v.0;
         is_seen = v.1;
-        says = subst (λ (u : Ty). Says t (Some u) behind) ty (subst (λ (m : Masks). Says t (Some y.0) m) is (says_is t (Some y.0) n.0 n.2));
+        says = said_type t (g.0.1.entity, v.0) y.0 behind n.0 ty is n.2;
       }
 
   own_read_is : incomplete core ann x ≡ true → own_read_says core ann x name (before t) ≡ Some (said_by t) → OwnGetRule core ann x t behind name
@@ -105,7 +102,7 @@ module _ (core : CoreData) (ann : Ann) (x : Node) (t : Note) (behind : Masks) (i
       let m = bind_some (slice_get core.methods x.method) _ g.0 g.1 in
       let v = bind_some (view form.Ref g.0.1.cap) (λ s. through ann x.children (before t) >>= own_seen g.0 s) (said_by t) g.2 in
       let n = bind_some (through ann x.children (before t)) (own_seen g.0 v.0) (said_by t) v.2 in
-      let is : n.0 ≡ behind = same_Some n.0 behind (sym n.1 ∙ is_behind) in
+      let is : behind ≡ n.0 = same_Some behind n.0 (sym is_behind ∙ n.1) in
       let k = kept (has n.0.1 g.0.0) (Some (says_of (Some (g.0.1.entity, v.0)) n.0)) (said_by t) n.2 in
       record {
         own = m.0;
@@ -116,8 +113,8 @@ module _ (core : CoreData) (ann : Ann) (x : Node) (t : Note) (behind : Masks) (i
         is_field = m.2;
         seen = v.0;
         is_seen = v.1;
-        set = subst (λ (q : Masks). has q.1 g.0.0 ≡ true) is k.0;
-        says = subst (λ (q : Masks). Says t (Some (g.0.1.entity, v.0)) q) is (says_is t (Some (g.0.1.entity, v.0)) n.0 k.1);
+        set = subst (λ (q : Masks). has q.1 g.0.0 ≡ true) (sym is) k.0;
+        says = said_type t (g.0.1.entity, v.0) (g.0.1.entity, v.0) behind n.0 refl is k.1;
       }
 
 -- The last of one child is that child.

@@ -18,21 +18,17 @@ use Rattle.pc_ann.specs.declared.annotation.Note.{Note}
 use Rattle.pc_ann.specs.declared.annotation.Ann.{Ann}
 use Rattle.pc_ann.specs.declared.annotation.Rule.{Rule}
 use Rattle.pc_ann.specs.declared.annotation.Rule.TheVariants as rule
-use Rattle.pc_ann.specs.Masks.{has, without_number, meet, within, same}
+use Rattle.pc_ann.specs.Masks.{has, without_number, within, same}
 use Rattle.pc_rules.specs.declared.said.Said.{Said}
 use Rattle.pc_rules.specs.Parts.{Ty, Masks, says_of, reads_as, readable, slot_of, reachable, before, through, type_of, one_child, two_children, three_children, two_types, last_child}
-use Rattle.pc_rules.specs.Values.{literal_says, this_form, this_says, used, local_says, consume_says}
+use Rattle.pc_rules.specs.Values.{this_form, this_says, used}
 use Rattle.pc_rules.specs.Operators.{both_read_as, meet_masks, lazy_masks, lazy_says}
 use Rattle.pc_rules.specs.Control.{without_items, joined, branch_masks, branch_types, is_condition, loop_masks, recovered, seq_says, if_says, while_says, recover_says}
 use Rattle.pc_rules.specs.Rules.{says, said_by}
 use Rattle.pc_rules.specs.Threads.{kept, false_true}
+use Rattle.pc_sound.proofs.Begin.{only_one}
 
 -- ---- children
-
-pub one_is : (cs : List ℕ) (c : ℕ) → one_child cs ≡ Some c → cs ≡ c ∷ []
-one_is [] c e = absurd (none-some c e)
-one_is (a ∷ []) c e = ap (λ (n : ℕ). n ∷ []) (same_Some a c e)
-one_is (a ∷ b ∷ cs) c e = absurd (none-some c e)
 
 pub pair_is : (cs : List ℕ) (c : ℕ × ℕ) → two_children cs ≡ Some c → cs ≡ c.0 ∷ c.1 ∷ []
 pair_is [] c e = absurd (none-some c e)
@@ -83,8 +79,11 @@ says_is t ty n e =
     record { ty = sym (ap (λ (q : Said). q.ty) is); live = sym (ap (λ (q : Said). q.live) is); set = sym (ap (λ (q : Said). q.set) is) }
 
 -- The same of an equal type and equal masks.
-said_as : (t : Note) (v w : Option Ty) (n m : Masks) → v ≡ w → n ≡ m → Some (says_of w m) ≡ Some (said_by t) → Says t v n
+pub said_as : (t : Note) (v w : Option Ty) (n m : Masks) → v ≡ w → n ≡ m → Some (says_of w m) ≡ Some (said_by t) → Says t v n
 said_as t v w n m e g h = subst (λ (k : Masks). Says t v k) (sym g) (subst (λ (o : Option Ty). Says t o m) (sym e) (says_is t w m h))
+
+pub said_type : (t : Note) (v w : Ty) (n m : Masks) → v ≡ w → n ≡ m → Some (says_of (Some w) m) ≡ Some (said_by t) → Says t (Some v) n
+said_type t v w n m e g h = said_as t (Some v) (Some w) n m (ap Some e) g h
 
 -- ---- slots
 
@@ -352,7 +351,7 @@ module _ (core : CoreData) (ann : Ann) (x : Node) (t : Note) where
       let v = bind_some (type_of ann c.0) _ (said_by t) c.2 in
       let f = bind_some (recovered k v.0.1) _ (said_by t) v.2 in
       let n = bind_some (through ann x.children (before t)) _ (said_by t) f.2 in
-      record { child = c.0; children = one_is x.children c.0 c.1; value = v.0; is_value = v.1; form = f.0; is_form = f.1; behind = n.0; is_behind = n.1; says = says_is t (Some (v.0.0, f.0)) n.0 n.2 }
+      record { child = c.0; children = only_one x.children c.0 c.1; value = v.0; is_value = v.1; form = f.0; is_form = f.1; behind = n.0; is_behind = n.1; says = says_is t (Some (v.0.0, f.0)) n.0 n.2 }
 
   pub recover_rule : (r : Rule) (k : Option Cap) → says core ann x (before t) r (nodes.Recover k) ≡ Some (said_by t) → RecoverRule k
   recover_rule rule.Recover k e = recover_is k e

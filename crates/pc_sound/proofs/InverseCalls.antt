@@ -1,8 +1,8 @@
 -- What the rules of constructors, calls and messages say, part by part.
-use Rattle.std.specs.Prelude.{◌≡◌, ◌⊎◌, ℕ, Bool, true, false, cond, ◌&&◌, ◌||◌, not, List, [], ◌∷◌, Option, Some, None, nat_eq, slice_get, codes, refl}
+use Rattle.std.specs.Prelude.{◌≡◌, ◌⊎◌, ℕ, Bool, true, false, cond, ◌&&◌, not, List, [], ◌∷◌, Option, Some, None, nat_eq, slice_get, codes, refl}
 use Rattle.std.proofs.Common.{inl, inr, ap, sym, subst, ◌∙◌}
 use Rattle.std.proofs.lemmas.Option.{same_Some, none-some}
-use Rattle.std.proofs.lemmas.Bool.{and_parts, eqb-true}
+use Rattle.std.proofs.lemmas.Bool.{and_parts, eqb-true, or_cases}
 use Rattle.pc_caps.specs.Tables.{plain, fits, sendable_form}
 use Rattle.pc_caps.specs.declared.capability.Form.{Form}
 use Rattle.pc_caps.specs.declared.capability.Form.TheVariants as form
@@ -27,6 +27,7 @@ use Rattle.pc_rules.specs.Threads.{kept, false_true}
 use Rattle.pc_sound.specs.Types.{sees, Lower}
 use Rattle.pc_sound.proofs.Basic.{lower_same}
 use Rattle.pc_sound.proofs.Begin.{only_one}
+use Rattle.pc_sound.proofs.Inverse.{says_is}
 use Rattle.pc_sound.proofs.Tables.{fits_sees}
 
 -- ---- the rule of a constructor, and those of a call
@@ -66,13 +67,13 @@ pub record MakesRule (core : CoreData) (ann : Ann) (x : Node) (k : ℕ) (t : Not
 
 -- The parts of what is said.
 said_ty : (t : Note) (ty : Option Ty) (n : Masks) → Some (says_of ty n) ≡ Some (said_by t) → t.ty ≡ ty
-said_ty t ty n e = ap (λ (q : Said). q.ty) (sym (same_Some (says_of ty n) (said_by t) e))
+said_ty t ty n e = (says_is t ty n e).ty
 
 said_live : (t : Note) (ty : Option Ty) (n : Masks) → Some (says_of ty n) ≡ Some (said_by t) → t.live_after ≡ n.0
-said_live t ty n e = ap (λ (q : Said). q.live) (sym (same_Some (says_of ty n) (said_by t) e))
+said_live t ty n e = (says_is t ty n e).live
 
 said_set : (t : Note) (ty : Option Ty) (n : Masks) → Some (says_of ty n) ≡ Some (said_by t) → t.set_after ≡ n.1
-said_set t ty n e = ap (λ (q : Said). q.set) (sym (same_Some (says_of ty n) (said_by t) e))
+said_set t ty n e = (says_is t ty n e).set
 
 abbrev pub result_of : Method → Ty
 result_of f = f.result
@@ -167,13 +168,9 @@ text_is (a ∷ xs) (b ∷ bs) e =
     let p = and_parts (nat_eq a b) (same_text xs bs) e in
     ap (λ (n : ℕ). n ∷ xs) (eqb-true a b p.0) ∙ ap (λ (ys : List ℕ). b ∷ ys) (text_is xs bs p.1)
 
-either : (a b : Bool) → (a || b) ≡ true → (a ≡ true) ⊎ (b ≡ true)
-either true b e = inl refl
-either false b e = inr e
-
 shows : (v : Ty) → has_text v ≡ true → (v.0 ≡ 1) ⊎ (v.0 ≡ 2)
 shows v e =
-    elim (either (reads_as 1 v) (reads_as 2 v) e) [
+    elim (or_cases (reads_as 1 v) (reads_as 2 v) e) [
       | inl p ↦ inl (eqb-true v.0 1 (and_parts (nat_eq v.0 1) (readable v.1) p).0)
       | inr p ↦ inr (eqb-true v.0 2 (and_parts (nat_eq v.0 2) (readable v.1) p).0)
     ]

@@ -131,11 +131,10 @@ module _ (core : CoreData) (ann : Ann) (needs : Needs core ann) (around : Around
         finished = λ k s. c.typed.finished (rule.receiver (sym (unalias_sees by.own.receiver) ∙ order_sees _ _ c.found.stands.receiver (unalias_sees own.receiver ∙ s)));
         fields = λ k. absurd (false_true (sym (ap constructs fun) ∙ k));
       } in
-      rw (c.is, popped_is core h r.held.this e.below c.under (length e.node.children - 1) by.own.params c.popped, c.typed.is_entity, c.found.found, c.found.is_own, fun, counts core h c.popped.values own.params c.fit, body.1)
-      (
+      rw (c.is, popped_is core h r.held.this e.below c.under (length e.node.children - 1) by.own.params c.popped, c.typed.is_entity, c.found.found, c.found.is_own, fun, counts core h c.popped.values own.params c.fit, body.1) (
         first_ok core ann needs h c.found.number body.0 own c.this c.popped.values c.found.is_own body.1 other this_ok c.fit,
         waits_ok core ann needs around f fs r e.node e.note e.below e.follows c.popped.rest not_this masks.0 masks.1 c.popped.ok c.found.number own c.this c.found.is_own (ap leaves fun)
-        (trans_lower core ann needs (Some own.result) (Some by.own.result) e.note.ty low rule.result),
+            (trans_lower core ann needs (Some own.result) (Some by.own.result) e.note.ty low rule.result),
       )
 
   -- ---- a behaviour
@@ -162,12 +161,11 @@ module _ (core : CoreData) (ann : Ann) (needs : Needs core ann) (around : Around
       let serial : a.serial ≡ 0 = place.1 in
       let home : class_at h (own_address a.maker) ≡ Some own.entity = ap (λ (k : ℕ). class_at h (record { maker = a.maker; serial = k })) (sym serial) ∙ class in
       let masks = left_within (through ann e.node.children (before e.note)) e.behind by.behind e.note.live_after e.note.set_after r.held.live r.held.set e.is_behind by.is_behind by.live by.set e.live e.set in
-      rw (c.is, popped_is core h r.held.this e.below c.under (length e.node.children - 1) by.own.params c.popped, c.typed.is_entity, c.found.found, c.found.is_own, be, at.1, eq-eqb a.serial 0 serial, lt-ltb a.maker around.actors there, counts core h c.popped.values own.params c.fit)
-      (
+      rw (c.is, popped_is core h r.held.this e.below c.under (length e.node.children - 1) by.own.params c.popped, c.typed.is_entity, c.found.found, c.found.is_own, be, at.1, eq-eqb a.serial 0 serial, lt-ltb a.maker around.actors there, counts core h c.popped.values own.params c.fit) (
         there,
         record { own = own; is_own = c.found.is_own; kind = be; home = home; arguments = c.fit },
         push_ok core ann needs around f fs r e.node e.note e.below c.popped.rest none e.follows masks.0 masks.1 c.popped.ok
-        (subst (λ (t : Option Ty). OfSome core h t none) (sym rule.ty) none_typed) (λ t. absurd (not_this t)),
+            (subst (λ (t : Option Ty). OfSome core h t none) (sym rule.ty) none_typed) (λ t. absurd (not_this t)),
       )
 
   -- ---- a text

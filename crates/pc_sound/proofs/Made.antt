@@ -94,7 +94,7 @@ module _ (core : CoreData) where
   no_value (suc n) zero v e = none-some v (same_Some None (Some v) e)
   no_value (suc n) (suc i) v e = no_value n i v e
 
-  blank_ok : (h : ObjectMap) (e : ℕ) (x : EntityDef) → slice_get core.entities e ≡ Some x → may_have_fields x.kind ≡ true → ObjectOk core h (blank_object core e)
+  pub blank_ok : (h : ObjectMap) (e : ℕ) (x : EntityDef) → slice_get core.entities e ≡ Some x → may_have_fields x.kind ≡ true → ObjectOk core h (blank_object core e)
   blank_ok h e x is placed = record {
     entity = x;
     is_entity = is;

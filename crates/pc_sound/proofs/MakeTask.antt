@@ -76,8 +76,8 @@ module _ (core : CoreData) (ann : Ann) (needs : Needs core ann) (around : Around
         class = class;
         frames = (
           first_ok core ann needs (insert h a o) k body.0 own (At a) popped.values rule.is_own body.1 other
-          (born_this core h a own fit.owner fit.is_owner (ap may_have_fields class) (ap constructs new))
-          (arguments_kept h (insert h a o) x core popped.values own.params popped.fit),
+              (born_this core h a own fit.owner fit.is_owner (ap may_have_fields class) (ap constructs new))
+              (arguments_kept h (insert h a o) x core popped.values own.params popped.fit),
           wait_kept h (insert h a o) x core ann around.actor k (At a) (with_stack f popped.rest ∷ fs) wait,
         );
       })

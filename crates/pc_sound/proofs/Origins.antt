@@ -1,5 +1,5 @@
 -- The object whose field a node reads or writes, and what the rules say of that field.
-use Rattle.std.specs.Prelude.{◌≡◌, ◌⊎◌, ℕ, ◌<◌, Bool, true, false, ◌&&◌, List, [], ◌∷◌, length, Option, Some, None, nat_eq, slice_get, refl}
+use Rattle.std.specs.Prelude.{◌≡◌, ℕ, ◌<◌, true, ◌&&◌, List, [], length, Option, Some, None, nat_eq, slice_get, refl}
 use Rattle.std.proofs.Common.{inl, inr, ap, sym, subst, ◌∙◌, arith}
 use Rattle.std.proofs.lemmas.Option.{same_Some, none-some}
 use Rattle.std.proofs.lemmas.Bool.{and_parts}
@@ -10,21 +10,19 @@ use Rattle.pc_heap.specs.declared.value.Object.{Object}
 use Rattle.pc_heap.specs.declared.value.Value.{Value}
 use Rattle.pc_heap.specs.declared.value.Value.TheVariants.{At}
 use Rattle.pc_caps.specs.Gets.{get_below}
-use Rattle.pc_tree.specs.declared.kinds.EntityKind.{EntityKind}
-use Rattle.pc_tree.specs.declared.kinds.EntityKind.TheVariants as entity
 use Rattle.pc_core.specs.declared.declarations.EntityDef.{EntityDef}
 use Rattle.pc_core.specs.declared.declarations.FieldInfo.{FieldInfo}
 use Rattle.pc_core.specs.declared.declarations.Method.{Method}
 use Rattle.pc_core.specs.declared.nodes.Node.{Node}
 use Rattle.pc_core.specs.CoreData.{CoreData}
-use Rattle.pc_core.specs.Entities.{may_have_fields, EntityFits}
+use Rattle.pc_core.specs.Entities.{may_have_fields}
 use Rattle.pc_core.specs.Lookup.{field_named}
 use Rattle.pc_core.specs.Members.{bind_some}
 use Rattle.pc_ann.specs.declared.mask.Mask.{Mask}
 use Rattle.pc_ann.specs.declared.annotation.Ann.{Ann}
 use Rattle.pc_ann.specs.Masks.{IsIn}
 use Rattle.pc_semantics.specs.Around.{entity_of}
-use Rattle.pc_rules.specs.Parts.{Ty, constructs, full, last_child}
+use Rattle.pc_rules.specs.Parts.{Ty, constructs, last_child}
 use Rattle.pc_rules.specs.Fields.{field_of, is_this, own_set, lacks_fields, incomplete_in, incomplete}
 use Rattle.pc_rules.specs.Threads.{kept, false_true}
 use Rattle.pc_sound.specs.Types.{Finished, OfKind, OfType}

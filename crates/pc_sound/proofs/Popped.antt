@@ -6,23 +6,21 @@ use Rattle.std.proofs.lemmas.Bool.{and_parts}
 use Rattle.std.proofs.lemmas.List.{append-nil}
 use Rattle.pc_heap.specs.Objects.{ObjectMap}
 use Rattle.pc_heap.specs.declared.value.Value.{Value}
-use Rattle.pc_caps.specs.Tables.{fits}
 use Rattle.pc_core.specs.declared.declarations.ParamInfo.{ParamInfo}
 use Rattle.pc_core.specs.CoreData.{CoreData}
 use Rattle.pc_core.specs.Words.{Each}
 use Rattle.pc_ann.specs.declared.annotation.Ann.{Ann}
 use Rattle.pc_semantics.specs.Around.{popped}
-use Rattle.pc_sub.specs.Sub.{is_sub}
-use Rattle.pc_sub.specs.Above.{is_sub_iff}
 use Rattle.pc_sub.specs.Declarations.{ParamFits}
-use Rattle.pc_rules.specs.Parts.{Ty, goes_to, type_of, last_child}
+use Rattle.pc_rules.specs.Parts.{Ty, type_of, last_child}
 use Rattle.pc_rules.specs.Calls.{argument_goes, arguments, arguments_go}
 use Rattle.pc_rules.specs.Threads.{false_true}
 use Rattle.pc_sound.specs.Types.{OfSome, LowerType, param_type, ArgumentsOk, Want, StackOk}
 use Rattle.pc_sound.specs.Tasks.{want_of, stacked}
+use Rattle.pc_sound.proofs.Places.{goes_lower}
 use Rattle.pc_sound.proofs.Needs.{Needs}
 use Rattle.pc_sound.proofs.Basic.{of_lower}
-use Rattle.pc_sound.proofs.Tables.{unalias_sees, fits_sees, order_sees}
+use Rattle.pc_sound.proofs.Tables.{unalias_sees, order_sees}
 use Rattle.pc_sound.proofs.Values.{top_is}
 
 -- ---- the last child
@@ -75,15 +73,9 @@ pub popped_is : (core : CoreData) (objects : ObjectMap) (this : Value) (below : 
 popped_is core objects this below vs k ps p = p.is [] ∙ ap (λ (values : List Value). Some (values, p.rest)) (append-nil p.values)
 
 module _ (core : CoreData) (ann : Ann) (needs : Needs core ann) (objects : ObjectMap) where
-  -- A type that goes to a place is below what the place holds.
-  goes_lower : (v : Ty) (p : ParamInfo) → goes_to core v (p.entity, p.cap) ≡ true → LowerType core v (param_type p)
-  goes_lower v p e =
-      let a = and_parts (is_sub core v.0 p.entity) (fits v.1 p.cap) e in
-      ((is_sub_iff core v.0 p.entity needs.formed).0 a.0, fits_sees v.1 p.cap a.1)
-
   argument_typed : (p : ParamInfo) (o : Option Ty) → argument_goes core p o ≡ true → (v : Ty) × (o ≡ Some v) × LowerType core v (param_type p)
   argument_typed p None e = absurd (false_true e)
-  argument_typed p (Some v) e = (v, refl, goes_lower v p e)
+  argument_typed p (Some v) e = (v, refl, goes_lower core needs.formed v (p.entity, p.cap) e)
 
   pub take_arguments : (this : Value) (cs : List ℕ) (ps : List ParamInfo) (below : List Want) (vs : List Value) → arguments_go core ann cs ps ≡ true → StackOk core objects this (stacked core ann cs below) vs → Popped core objects this below vs (length cs) ps
   take_arguments this [] [] below vs goes ok = record { values = []; rest = vs; is = λ more. refl; fit = tt; ok = ok }

@@ -1,54 +1,33 @@
 -- A method ends, and leaves what the frame below waits for, or an object that has all its fields.
-use Rattle.std.specs.Prelude.{◌≡◌, ℕ, ◌<◌, ◌≤◌, true, false, List, [], ◌∷◌, Some, length, slice_get, refl}
-use Rattle.std.proofs.Common.{inl, ap, sym, subst, ◌∙◌, arith}
+use Rattle.std.specs.Prelude.{◌≡◌, ℕ, true, false, List, [], ◌∷◌, Some, slice_get, refl}
+use Rattle.std.proofs.Common.{inl, ap, sym, subst, ◌∙◌}
 use Rattle.std.proofs.lemmas.Option.{same_Some}
 use Rattle.pc_heap.specs.Objects.{ObjectMap}
 use Rattle.pc_heap.specs.declared.value.Value.{Value}
-use Rattle.pc_heap.specs.declared.value.Value.TheVariants.{Num, Truth, Text, Prim, At}
+use Rattle.pc_heap.specs.declared.value.Value.TheVariants.{Prim, At}
 use Rattle.pc_core.specs.declared.declarations.Method.{Method}
 use Rattle.pc_core.specs.declared.declarations.MethodKind.{MethodKind}
 use Rattle.pc_core.specs.declared.declarations.MethodKind.TheVariants as method
 use Rattle.pc_core.specs.CoreData.{CoreData}
 use Rattle.pc_core.specs.Methods.{ResultFits}
-use Rattle.pc_ann.specs.declared.mask.Mask.{Mask}
 use Rattle.pc_ann.specs.declared.annotation.Ann.{Ann}
-use Rattle.pc_ann.specs.MaskLaws.{first_bits}
 use Rattle.pc_semantics.specs.declared.frames.Frame.{Frame}
 use Rattle.pc_semantics.specs.declared.frames.Task.TheVariants as task
 use Rattle.pc_semantics.specs.Configurations.{own_address}
 use Rattle.pc_semantics.specs.Around.{Around, entity_of}
 use Rattle.pc_semantics.specs.Step.{left}
 use Rattle.pc_semantics.specs.Calls.{leave}
-use Rattle.pc_rules.specs.Parts.{constructs, fields_in, field_count, all_fields}
+use Rattle.pc_rules.specs.Parts.{constructs}
 use Rattle.pc_rules.specs.Threads.{false_true}
 use Rattle.pc_sound.specs.Types.{Finished, OfKind, OfType, Lower, wanted, StackOk}
-use Rattle.pc_sound.specs.Tasks.{Within, ReturnOk}
-use Rattle.pc_sound.specs.Frames.{HasFields, leaves, LastOk, WaitOk, FramesOk}
-use Rattle.pc_sound.specs.Typed.{ObjectsOk}
+use Rattle.pc_sound.specs.Tasks.{ReturnOk}
+use Rattle.pc_sound.specs.Frames.{leaves, LastOk, WaitOk, FramesOk}
 use Rattle.pc_sound.specs.Moves.{MoveOk, Runs}
 use Rattle.pc_sound.proofs.Needs.{Needs}
 use Rattle.pc_sound.proofs.Basic.{some_lower}
-use Rattle.pc_sound.proofs.Growth.{class_is}
 use Rattle.pc_sound.proofs.Values.{top_is}
 use Rattle.pc_sound.proofs.Steps.{Keeps}
-
--- ---- an object with all its fields
-
-within_sixty_four : (i n m k : ℕ) → i < n → n ≡ m → k ≡ m → m ≤ 64 → (i < k) × (i < 64)
-within_sixty_four i n m k l e g few = (omega (arith, l, e, g), omega (arith, l, e, few))
-
--- What has values in all fields of its entity is finished.
-pub all_set : (core : CoreData) (ann : Ann) (needs : Needs core ann) (objects : ObjectMap) (count : ℕ) (set : Mask) (d : ℕ) (v : Value) → ObjectsOk core objects count → HasFields objects set v → entity_of objects v ≡ Some d → Within (all_fields core d) set → Finished objects v
-all_set core ann needs objects count set d (At a) ok k is w =
-    let x = (ok.each a k.0 k.1).0 in
-    let same : k.0.entity ≡ d = same_Some k.0.entity d (sym (class_is objects a k.0 k.1) ∙ is) in
-    let at : slice_get core.entities d ≡ Some x.entity = ap (slice_get core.entities) (sym same) ∙ x.is_entity in
-    let few = (needs.formed.entities d x.entity at).few_fields in
-    (k.0, k.1, λ i l. k.2 i (w i ((first_bits (field_count core d) i).1 (within_sixty_four i (length k.0.fields) (length x.entity.fields) (field_count core d) l x.room (ap fields_in at) few))))
-all_set core ann needs objects count set d (Num n) ok k is w = tt
-all_set core ann needs objects count set d (Truth b) ok k is w = tt
-all_set core ann needs objects count set d (Text t) ok k is w = tt
-all_set core ann needs objects count set d (Prim e) ok k is w = tt
+use Rattle.pc_sound.proofs.AllFields.{all_set}
 
 -- ---- the frames below
 
@@ -64,8 +43,7 @@ module _ (core : CoreData) (ann : Ann) (needs : Needs core ann) (around : Around
   value_left v (g ∷ gs) w gives typed =
       let is : w.0 ≡ own = same_Some w.0 own (sym w.1 ∙ at) in
       let low : Lower core (Some own.result) w.3 = subst (λ (x : Method). Lower core (Some x.result) w.3) is w.4 in
-      let k = w.5.0 in
-      (
+      let k = w.5.0 in (
         (
           record {
             own = k.own;

@@ -89,8 +89,8 @@ module _ (core : CoreData) (ann : Ann) (needs : Needs core ann) (around : Around
         other = other;
         message = record { own = own; is_own = rule.is_own; kind = spawn; home = class_is new a o (get_here h a o); arguments = arguments_kept h new x core popped.values own.params popped.fit };
         frames = push_ok core ann needs later f fs there e.node e.note e.below popped.rest (At a) e.follows masks.0 masks.1 (stack_kept h new x core r.held.this e.below popped.rest popped.ok)
-        (subst (λ (t : Option Ty). OfSome core new t (At a)) (sym rule.ty_is) typed)
-        (λ t. absurd (false_true (sym (ap is_this is) ∙ t)));
+            (subst (λ (t : Option Ty). OfSome core new t (At a)) (sym rule.ty_is) typed)
+            (λ t. absurd (false_true (sym (ap is_this is) ∙ t)));
       })
 
 pub keeps_spawn : (n : ℕ) → Keeps (task.Spawn n)

@@ -1,12 +1,12 @@
 -- The task Store: a definition or an assignment of a slot.
-use Rattle.std.specs.Prelude.{◌≡◌, ◌≢◌, ◌⊎◌, ℕ, zero, ◌+◌, ◌<◌, Bool, true, false, ◌&&◌, cond, List, [], ◌∷◌, length, Option, Some, None, slice_get, slice_set, refl}
+use Rattle.std.specs.Prelude.{◌≡◌, ◌⊎◌, ℕ, ◌+◌, ◌<◌, Bool, true, false, ◌&&◌, cond, List, [], ◌∷◌, length, Option, Some, None, slice_get, slice_set, refl}
 use Rattle.std.proofs.Common.{inl, inr, ap, sym, subst, ◌∙◌, length-set}
 use Rattle.std.proofs.lemmas.Option.{same_Some, none-some}
 use Rattle.std.proofs.lemmas.Bool.{and_parts}
 use Rattle.std.proofs.lemmas.Bool.Decides.{eqb_tells}
 use Rattle.pc_heap.specs.declared.value.Value.{Value}
 use Rattle.pc_caps.specs.Gets.{get_set_same, get_set_other}
-use Rattle.pc_caps.specs.Tables.{plain, unalias, fits}
+use Rattle.pc_caps.specs.Tables.{unalias}
 use Rattle.pc_caps.specs.declared.capability.Cap.{Cap}
 use Rattle.pc_core.specs.declared.declarations.Method.{Method}
 use Rattle.pc_core.specs.declared.nodes.Node.{Node}
@@ -23,38 +23,30 @@ use Rattle.pc_ann.specs.declared.annotation.Rule.{Rule}
 use Rattle.pc_ann.specs.declared.annotation.Rule.TheVariants as rule
 use Rattle.pc_ann.specs.Masks.{IsIn, has, with_number}
 use Rattle.pc_ann.specs.MaskLaws.{with_number_bits}
-use Rattle.pc_sub.specs.Sub.{is_sub}
-use Rattle.pc_sub.specs.Above.{is_sub_iff}
 use Rattle.pc_semantics.specs.declared.frames.Frame.{Frame}
 use Rattle.pc_semantics.specs.declared.frames.Task.TheVariants as task
 use Rattle.pc_semantics.specs.Around.{Around, with_stack, or_none}
 use Rattle.pc_semantics.specs.Fields.{held, store, store_task}
-use Rattle.pc_rules.specs.Parts.{Ty, Masks, says_of, goes_to, slot_of, reachable, before, through, type_of, one_child}
+use Rattle.pc_rules.specs.Parts.{Ty, Masks, goes_to, slot_of, reachable, before, through, type_of, one_child}
 use Rattle.pc_rules.specs.Fields.{is_this}
 use Rattle.pc_rules.specs.Values.{same_place, defined_type, defined, defines, is_var, old_value, assigned, assigns, define_says, assign_says}
 use Rattle.pc_rules.specs.Rules.{says, said_by}
 use Rattle.pc_rules.specs.Threads.{kept, false_true}
 use Rattle.pc_rules.specs.OneRule.{define_rule}
-use Rattle.pc_sound.specs.Types.{OfType, OfSome, LowerType, held_in, StackOk}
+use Rattle.pc_sound.specs.Types.{OfType, OfSome, held_in, StackOk}
 use Rattle.pc_sound.specs.Tasks.{Within, stores, FinishOk, TasksOk}
 use Rattle.pc_sound.specs.Frames.{SlotsOk}
 use Rattle.pc_sound.specs.Moves.{MoveOk, Runs}
 use Rattle.pc_sound.proofs.Needs.{Needs}
 use Rattle.pc_sound.proofs.Basic.{within_trans, of_lower, some_lower}
 use Rattle.pc_sound.proofs.Notes.{slot_at}
-use Rattle.pc_sound.proofs.Tables.{fits_sees}
+use Rattle.pc_sound.proofs.Begin.{only_one}
 use Rattle.pc_sound.proofs.Steps.{Keeps}
 use Rattle.pc_sound.proofs.Running.{go_ok}
-use Rattle.pc_sound.proofs.Inverse.{one_is, Says, says_is}
-use Rattle.pc_sound.proofs.EvalValue.{taken_lower, not_zero}
+use Rattle.pc_sound.proofs.Inverse.{Says, says_is}
+use Rattle.pc_sound.proofs.EvalValue.{not_zero}
+use Rattle.pc_sound.proofs.Places.{goes_lower, taken_lower}
 use Rattle.pc_sound.proofs.Finish.{one_top, by_top, own_is, names_is, rule_is, at_this, typed_at}
-
--- ---- what goes to a place
-
-pub goes_lower : (core : CoreData) (ann : Ann) → Needs core ann → (v : Ty) (place : ℕ × Cap) → goes_to core v place ≡ true → LowerType core v (held_in place)
-goes_lower core ann needs v place e =
-    let p = and_parts (is_sub core v.0 place.0) (fits v.1 place.1) e in
-    ((is_sub_iff core v.0 place.0 needs.formed).0 p.0, fits_sees v.1 place.1 p.1)
 
 -- ---- what the rules say
 
@@ -87,7 +79,7 @@ module _ (core : CoreData) (ann : Ann) (x : Node) (t : Note) (behind : Masks) (i
       let is : n.0 ≡ behind = same_Some n.0 behind (sym n.1 ∙ is_behind) in
       record {
         child = c.0;
-        children = one_is x.children c.0 c.1;
+        children = only_one x.children c.0 c.1;
         value = v.0;
         is_value = v.1;
         slot = i.0;
@@ -110,7 +102,7 @@ module _ (core : CoreData) (ann : Ann) (x : Node) (t : Note) (behind : Masks) (i
       let is : n.0 ≡ behind = same_Some n.0 behind (sym n.1 ∙ is_behind) in
       record {
         child = c.0;
-        children = one_is x.children c.0 c.1;
+        children = only_one x.children c.0 c.1;
         value = v.0;
         is_value = v.1;
         slot = i.0;
@@ -160,7 +152,7 @@ module _ (core : CoreData) (ann : Ann) (needs : Needs core ann) (around : Around
     slot_ok : (k : NodeKind) → e.node.kind ≡ k → (is_this k ≡ true → ⊥) → (v : Value) (rest : List Value) → OfSome core around.objects (type_of ann q.child) v → StackOk core around.objects r.held.this e.below rest → MoveOk core ann around fs (store s v (with_stack f rest))
     slot_ok k is other v rest has ok =
         let o = e.follows in
-        let typed : OfType core around.objects (held_in q.slot.1) v = of_lower core ann needs around.objects q.value (held_in q.slot.1) v (goes_lower core ann needs q.value q.slot.1 q.goes) (typed_at core ann around q.child q.value v q.is_value has) in
+        let typed : OfType core around.objects (held_in q.slot.1) v = of_lower core ann needs around.objects q.value (held_in q.slot.1) v (goes_lower core needs.formed q.value q.slot.1 q.goes) (typed_at core ann around q.child q.value v q.is_value has) in
         let old : OfSome core around.objects e.note.ty (or_none (held (slice_get f.slots s))) = subst (λ (x : Option Ty). OfSome core around.objects x (or_none (held (slice_get f.slots s)))) (sym q.says.ty) old_ok in
         go_ok core ann needs around f fs r o.live o.set (o.goal ∷ e.below) (slice_set f.slots s (Some v)) (or_none (held (slice_get f.slots s)) ∷ rest) f.tasks (length-set f.slots s (Some v)) (get_set_other f.slots s (Some v) 0 (not_zero s names.0))
         (within_trans o.set e.note.set_after r.held.set o.set_left (subst (λ (m : Mask). Within m r.held.set) (sym q.says.set) e.set))

@@ -60,9 +60,9 @@ module _ (core : CoreData) (ann : Ann) (needs : Needs core ann) (c : Configurati
       let owner = ok.0.entity in
       let is_owner : slice_get core.entities own.entity ≡ Some owner = ap (slice_get core.entities) (sym o.2) ∙ ok.0.is_entity in
       let other : m.method ≢ 0 = λ zero.
-          let is : own ≡ print_method needs.formed.built_in.print = same_Some own _ (sym msg.is_own ∙ ap (slice_get core.methods) zero ∙ needs.formed.built_in.method) in
-          let bad : i ≡ 0 = ok.1.stream (o.2 ∙ ap (λ (x : Method). x.entity) is) in
-          absurd (omega (arith, more, bad))
+      let is : own ≡ print_method needs.formed.built_in.print = same_Some own _ (sym msg.is_own ∙ ap (slice_get core.methods) zero ∙ needs.formed.built_in.method) in
+      let bad : i ≡ 0 = ok.1.stream (o.2 ∙ ap (λ (x : Method). x.entity) is) in
+      absurd (omega (arith, more, bad))
       in
       let body = needs.has_body m.method own owner msg.is_own other is_owner (own_no_trait core ann needs c.objects own.entity owner (At (own_address i)) (owner, is_owner, ok.0.placed) msg.home is_owner) in
       let this_ok : ThisOk core c.objects own (start_set core own) (At (own_address i)) = record {
@@ -75,10 +75,9 @@ module _ (core : CoreData) (ann : Ann) (needs : Needs core ann) (c : Configurati
         | inl b ↦ subst (λ (x : MethodKind). LastOk c.objects i x (At (own_address i))) (sym (msg.kind ∙ b)) refl
         | inr b ↦ subst (λ (x : MethodKind). LastOk c.objects i x (At (own_address i))) (sym (msg.kind ∙ b.0)) b.1
       ] in
-      rw (msg.is_own, body.1)
-      (
+      rw (msg.is_own, body.1) (
         frames_typed core ann c i (record { mailbox = ms; frames = [] }) (first_frame m.method own (At (own_address i)) m.arguments body.0 ∷ []) w mail
-        (first_ok core ann needs c.objects m.method body.0 own (At (own_address i)) m.arguments msg.is_own body.1 other this_ok msg.arguments, (own, msg.is_own, last)),
+            (first_ok core ann needs c.objects m.method body.0 own (At (own_address i)) m.arguments msg.is_own body.1 other this_ok msg.arguments, (own, msg.is_own, last)),
         λ l bad. cc,
       )
 

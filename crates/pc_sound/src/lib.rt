@@ -4,4 +4,4 @@
 
 mod laws;
 
-pub use laws::moves_keep_types;
+pub use laws::{accepted_never_lacks, moves_keep_types, start_is_typed, steps_keep_types};

@@ -6,6 +6,7 @@ ghost use Rattle.pc_semantics.specs.Tasks.{at_node};
 ghost use Rattle.pc_tasks.specs.Inside.{relieved, within};
 
 use crate::frames::go_on_with;
+use crate::values::none;
 use pc_core::{Core, NodeKind};
 use pc_heap::Value;
 use pc_semantics::{Frame, Lack, Outcome, Task};
@@ -127,7 +128,7 @@ fn turn(frame: &mut Frame, n: u32, children: &[u32]) -> Result<Outcome, AllocErr
         go_on_with(frame, &[Task::Eval(*body), Task::Discard, Task::Eval(n)])?;
         let _ = frame.stack.pop();
     } else {
-        let _ = frame.stack.replace_top(Value::Prim(0));
+        let _ = frame.stack.replace_top(none());
         let _ = frame.tasks.pop();
     }
     Ok(Outcome::Moved)

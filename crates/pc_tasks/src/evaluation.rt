@@ -149,16 +149,16 @@ fn evaluate(
         NodeKind::Consume(slot) => take_slot(frame, *slot),
         NodeKind::Field(_) => children_first(alloc, frame, children, Task::Get(n)),
         NodeKind::SetField(_) => children_first(alloc, frame, children, Task::Put(n)),
-        NodeKind::Define(_) => children_first(alloc, frame, children, Task::Store(n)),
-        NodeKind::Assign(_) => children_first(alloc, frame, children, Task::Store(n)),
+        NodeKind::Define(_) | NodeKind::Assign(_) => {
+            children_first(alloc, frame, children, Task::Store(n))
+        }
         NodeKind::New(_) => children_first(alloc, frame, children, Task::Make(n)),
         NodeKind::Spawn(_) => children_first(alloc, frame, children, Task::Spawn(n)),
         NodeKind::Call(_) => children_first(alloc, frame, children, Task::Invoke(n)),
-        NodeKind::Binary(_) => children_first(alloc, frame, children, Task::Apply(n)),
-        NodeKind::Not => children_first(alloc, frame, children, Task::Apply(n)),
-        NodeKind::Same(_) => children_first(alloc, frame, children, Task::Apply(n)),
-        NodeKind::And => first_then(frame, children, Some(Task::Test(n))),
-        NodeKind::Or => first_then(frame, children, Some(Task::Test(n))),
+        NodeKind::Binary(_) | NodeKind::Not | NodeKind::Same(_) => {
+            children_first(alloc, frame, children, Task::Apply(n))
+        }
+        NodeKind::And | NodeKind::Or => first_then(frame, children, Some(Task::Test(n))),
         NodeKind::If => first_then(frame, children, Some(Task::Branch(n))),
         NodeKind::While => first_then(frame, children, Some(Task::Loop(n))),
         NodeKind::Seq => items_first(alloc, frame, children),
@@ -167,7 +167,7 @@ fn evaluate(
     }
 }
 
-/// The task Eval: what stands in a node is evaluated, or is first to be done.
+/// The task Eval of node n: its value is pushed, or the tasks that lead to its value come first.
 pub fn evaluate_node(
     alloc: Global,
     core: &Core,

@@ -5,6 +5,7 @@ ghost use Rattle.pc_semantics.specs.Fields as spec;
 ghost use Rattle.pc_semantics.specs.Tasks.{at_node};
 ghost use Rattle.pc_tasks.specs.Inside.{seeing, relieved, within, ended};
 
+use crate::values::none;
 use pc_core::{Core, NodeKind};
 use pc_heap::{Heap, Value};
 use pc_semantics::{Frame, Lack, Outcome};
@@ -73,7 +74,7 @@ fn store_in(frame: &mut Frame, slot: u32) -> Outcome
         return Outcome::Lacks(Lack::Value);
     }
     let place = slot as usize;
-    let value = frame.stack.replace_top(Value::Prim(0));
+    let value = frame.stack.replace_top(none());
     if place < frame.slots.len() {
         if let Some(before) = frame.slots.replace(place, Some(value)) {
             let _ = frame.stack.replace_top(before);
@@ -92,8 +93,7 @@ pub fn store(core: &Core, frame: &mut Frame, n: u32) -> Outcome
         return Outcome::Lacks(Lack::Value);
     };
     match &node.kind {
-        NodeKind::Define(slot) => store_in(frame, *slot),
-        NodeKind::Assign(slot) => store_in(frame, *slot),
+        NodeKind::Define(slot) | NodeKind::Assign(slot) => store_in(frame, *slot),
         _ => Outcome::Lacks(Lack::Value),
     }
 }
@@ -117,7 +117,7 @@ fn write(core: &Core, heap: &mut Heap, frame: &mut Frame, name: u32) -> Outcome
     let Some(field) = core.field(entity, name) else {
         return Outcome::Lacks(Lack::Field);
     };
-    let value = frame.stack.replace(1, Value::Prim(0));
+    let value = frame.stack.replace(1, none());
     match heap.set(address, field, value) {
         Ok(before) => {
             let _ = frame.stack.pop();

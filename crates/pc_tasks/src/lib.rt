@@ -10,6 +10,8 @@ mod frames;
 mod identity;
 mod inside;
 mod operators;
+mod values;
 
 pub use frames::push_value;
 pub use inside::{is_inside, run_inside};
+pub use values::none;

@@ -6,7 +6,7 @@ use Rattle.std.specs.Io.KnownBytes.{Appends, Keeps}
 use Rattle.pc_top.specs.Answer.{Answer, Finishes, LineEnds, IsWordsRefusal}
 use Rattle.pc_top.specs.Answer.Answer.{told, file, out_failed, err_failed, file_err_failed, no_memory}
 use Rattle.pc_top.specs.Asked.{Files, IsVerdict, IsVerdictOf, FailedIn, FailedOf}
-use Rattle.pc_top.specs.Command.{Text, Asked, command_of}
+use Rattle.pc_words.specs.Asked.{Text, Asked, command_of}
 use Rattle.pc_top.specs.Complete.{Completes}
 use Rattle.pc_top.specs.Ends.{Ends, Stops, Tells, Change, change}
 use Rattle.pc_top.specs.Lines.{usage_line}
@@ -29,14 +29,14 @@ words_stop files asked out f g (File name) e h = absurd h
 words_stop files asked out f g Sink e h = absurd h
 words_stop files asked out f g Memory e h = inl (kept out)
 
-pub words_refused : (files : Files) (words : List Text) (out : Option Text) (f g : ℕ) (s : Stop) → None ≡ command_of words → IsWordsRefusal s
+pub words_refused : (files : Files) (words : List Text) (out : Option Text) (f g : ℕ) (s : Stop) → command_of words ≡ None → IsWordsRefusal s
     → Stops (IsVerdict files words) (FailedIn files words) (change out out f g) s
-words_refused files words out f g s e h = words_stop files (command_of words) out f g s (sym e) h
+words_refused files words out f g s e h = words_stop files (command_of words) out f g s e h
 
 -- a command ends as its words ask for
-pub words_end : (files : Files) (words : List Text) (asked : Asked) (out : Change) (result : Result (Unit {0}) Stop) → Some asked ≡ command_of words
+pub words_end : (files : Files) (words : List Text) (asked : Asked) (out : Change) (result : Result (Unit {0}) Stop) → command_of words ≡ Some asked
     → Ends (IsVerdictOf files (Some asked)) (FailedOf files (Some asked)) out result → Ends (IsVerdict files words) (FailedIn files words) out result
-words_end files words asked out result e h = subst (λ (o : Option Asked). Ends (IsVerdictOf files o) (FailedOf files o) out result) e h
+words_end files words asked out result e h = subst (λ (o : Option Asked). Ends (IsVerdictOf files o) (FailedOf files o) out result) (sym e) h
 
 module _ (V : Verdict → Type 0) (Failed : Text → Type 0) (out err : Change) (status : ℕ) where
   refusal : (wanted : ℕ) (line : Text) → Tells V out wanted line → LineEnds err status wanted line → Answer V Failed out err status

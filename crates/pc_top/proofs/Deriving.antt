@@ -1,5 +1,5 @@
 -- From what the inference answers to the verdict of `check`.
-use Rattle.std.proofs.Common.{◌≡◌, ◌≤◌, ℕ, true, length, Option, Some, Ok, Err, refl, inl, subst, arith}
+use Rattle.std.proofs.Common.{◌≡◌, ◌≤◌, ℕ, length, Option, Some, Ok, Err, refl, inl, arith}
 use Rattle.pc_core.specs.CoreData.{CoreData}
 use Rattle.pc_check.specs.Faults.{Refuses}
 use Rattle.pc_check.specs.declared.fault.CheckFault.{CheckFault}
@@ -13,7 +13,7 @@ use Rattle.pc_elab.specs.Cores.{CoresAreFormed as FilesAreFormed}
 use Rattle.pc_top.specs.After.After.{goes}
 use Rattle.pc_top.specs.Check.{Deriving, IsCheck}
 use Rattle.pc_top.specs.Check.Deriving.{declared, no_rule, unset}
-use Rattle.pc_top.specs.Command.{Text}
+use Rattle.pc_words.specs.Asked.{Text}
 use Rattle.pc_top.specs.CoreFaults.{IsCoreRefusal, IsSmall, node_start}
 use Rattle.pc_top.specs.Ends.{Stops, change}
 use Rattle.pc_top.specs.CoreOf.{CoreOf, CoresAreFormed}

@@ -1,5 +1,5 @@
 -- What calls tell of what they are shown.
-use Rattle.std.proofs.Common.{◌≡◌, ◌∙◌, ℕ, List, Option, Some, None, Ok, Err, refl, sym, ap, subst}
+use Rattle.std.proofs.Common.{◌≡◌, ◌∙◌, ℕ, List, Ok, Err, refl, sym, ap, subst}
 use Rattle.std.specs.Prelude.{Result, codes}
 use Rattle.pc_core.specs.CoreData.{CoreData}
 use Rattle.pc_token.specs.declared.kinds.Token.{Token}
@@ -13,7 +13,6 @@ use Rattle.pc_expr.specs.Gives.{EndsWithEnd}
 use Rattle.pc_expr.specs.declared.fault.ParseFault.TheVariants as syntax
 use Rattle.pc_parse.specs.Answers.{Refuses as RefusesTree}
 use Rattle.pc_order.specs.Laws.{TokensAscend, TokensEnd}
-use Rattle.pc_names.specs.Faults.{IsFirst}
 use Rattle.pc_names.specs.Laws.{OfFile}
 use Rattle.pc_names.specs.Names.{IsNameFault}
 use Rattle.pc_names.specs.declared.fault.NameFault.{NameFault}
@@ -22,7 +21,7 @@ use Rattle.pc_elab.specs.Cores.{IsFirstFault, Spelled}
 use Rattle.pc_program.specs.Cores.{IsElabFault}
 use Rattle.pc_grammar.specs.SpellsFile.{SpellsFile}
 use Rattle.pc_top.specs.After.After.{stops, goes}
-use Rattle.pc_top.specs.Command.{Text}
+use Rattle.pc_words.specs.Asked.{Text}
 use Rattle.pc_top.specs.CoreFaults.{IsPlaceRefusal, offset_line}
 use Rattle.pc_top.specs.Faults.{IsFaultRefusal}
 use Rattle.pc_top.specs.Named.{Named, whole, Gives}

@@ -6,7 +6,7 @@ use Rattle.pc_deriv.specs.Faults.{IsFault, Refuses}
 use Rattle.pc_deriv.specs.declared.fault.DerivFault.{DerivFault}
 use Rattle.pc_deriv.specs.declared.fault.DerivFault.TheVariants as deriv
 use Rattle.pc_top.specs.After.After.{stops, goes}
-use Rattle.pc_top.specs.Command.{Text}
+use Rattle.pc_words.specs.Asked.{Text}
 use Rattle.pc_top.specs.Ends.{Stops, change}
 use Rattle.pc_top.specs.Judge.{IsTextRefusal, Reads, DerivationStage, Judging, IsJudge, derivation_limit}
 use Rattle.pc_top.specs.Judge.Reads.{refuses}

@@ -1,12 +1,12 @@
 -- No two verdicts differ.
-use Rattle.std.proofs.Common.{◌≡◌, Bool, ◌<◌, ℕ, List, Option, Some, None, ◌∷◌, Ok, Err, refl, sym, ◌∙◌, ap, subst, length, arith, true, false}
+use Rattle.std.proofs.Common.{◌≡◌, ◌<◌, ℕ, List, Option, Some, None, ◌∷◌, Ok, Err, refl, sym, ◌∙◌, ap, subst, length, arith, true, false}
 use Rattle.std.specs.Prelude.{Result, IsSome, slice_get, codes}
 use Rattle.std.proofs.lemmas.Option.{same_Some, none-some}
 use Rattle.pc_ann.specs.declared.annotation.Ann.{Ann}
 use Rattle.pc_core.specs.declared.nodes.Node.{Node}
 use Rattle.pc_core.specs.CoreData.{CoreData}
 use Rattle.pc_token.specs.declared.kinds.Token.{Token}
-use Rattle.pc_grammar.specs.FileAnswers.{FileAnswer, OneFileAnswer, spelled, unexpected, too_deep}
+use Rattle.pc_grammar.specs.FileAnswers.{OneFileAnswer, spelled, unexpected, too_deep}
 use Rattle.pc_lex.specs.Laws.{OneList, NotBoth, OneFault}
 use Rattle.pc_tree.specs.Tree as t
 use Rattle.pc_lex.specs.declared.fault.LexFault.{LexFault}
@@ -30,7 +30,7 @@ use Rattle.pc_top.specs.After.After.{stops, goes}
 use Rattle.pc_top.specs.Asked.{Files, IsVerdictOf}
 use Rattle.pc_top.specs.Check.{Deriving, CheckStage}
 use Rattle.pc_top.specs.Check.Deriving.{derives, declared, no_rule, unset}
-use Rattle.pc_top.specs.Command.{Text, Asked, check, judge, command_of}
+use Rattle.pc_words.specs.Asked.{Text, Asked, check, judge, command_of}
 use Rattle.pc_top.specs.CoreOf.{CoresAreFormed}
 use Rattle.pc_top.specs.CoreFaults.{offset_line, decl_offset, decl_text}
 use Rattle.pc_top.specs.Faults.{fault_status, fault_line}

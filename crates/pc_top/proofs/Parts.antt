@@ -2,7 +2,7 @@
 use Rattle.std.proofs.Common.{◌≡◌, ◌≤◌, ◌<◌, ℕ, [], Option, Some, None, refl, inl, Ok, Err, append-nil, sym, arith}
 use Rattle.std.specs.Prelude.{Result}
 use Rattle.std.specs.Io.KnownBytes.{Appends, Keeps}
-use Rattle.pc_top.specs.Command.{Text}
+use Rattle.pc_words.specs.Asked.{Text}
 use Rattle.pc_top.specs.Lines.{longer_line}
 use Rattle.pc_top.specs.Ends.{Ends, Stops, Change, change}
 use Rattle.pc_top.specs.Reading.{NotRead}

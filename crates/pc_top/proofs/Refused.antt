@@ -14,7 +14,7 @@ use Rattle.pc_top.specs.Answer.Answer.{told, file, out_failed, err_failed, file_
 use Rattle.pc_top.specs.Asked.{Files, IsVerdict, IsVerdictOf, FailedIn, LacksOf, Lacks, RefusedIsUnderivable, named}
 use Rattle.pc_top.specs.Check.{Deriving, CheckStage, IsCheck}
 use Rattle.pc_top.specs.Check.Deriving.{derives, declared, no_rule, unset}
-use Rattle.pc_top.specs.Command.{Text, Asked, check, judge, command_of}
+use Rattle.pc_words.specs.Asked.{Text, Asked, check, judge, command_of}
 use Rattle.pc_top.specs.Ends.{Change}
 use Rattle.pc_top.specs.Faults.{fault_status}
 use Rattle.pc_top.specs.CoreOf.{CoresAreFormed, IsUnderivable}

@@ -11,7 +11,7 @@ use Rattle.pc_top.specs.Answer.Answer.{told, file, out_failed, err_failed, file_
 use Rattle.pc_top.specs.Asked.{Files, IsVerdict, IsVerdictOf, FailedIn, named}
 use Rattle.pc_top.specs.Check.{Deriving, CheckStage, IsCheck}
 use Rattle.pc_top.specs.Check.Deriving.{derives, declared, no_rule, unset}
-use Rattle.pc_top.specs.Command.{Text, Asked, check, judge, command_of}
+use Rattle.pc_words.specs.Asked.{Text, Asked, check, judge, command_of}
 use Rattle.pc_top.specs.Ends.{Change}
 use Rattle.pc_top.specs.Judge.{JudgeStage, IsJudge, judged}
 use Rattle.pc_top.specs.Judge.Reads.{reads}
@@ -93,11 +93,18 @@ answer_writes files words out err status (no_memory s o l) e = absurd (omega ari
 told_same : (limit : ℕ) (given other : Option Text) (bytes : Text) → other ≡ given → (length bytes ≤ limit) × IfSome given (λ b. bytes ≡ b) → (length bytes ≤ limit) × IfSome other (λ b. bytes ≡ b)
 told_same limit given other bytes e g = (g.0, subst (λ (o : Option Text). IfSome o (λ b. bytes ≡ b)) (sym e) g.1)
 
-pub written_accepted : WrittenIsAccepted
-written_accepted files later source derivation text same given c =
+source_accepted : (files later : Files) (source derivation text : Text) → later.told source ≡ files.told source → later.told derivation ≡ Some text
+    → IsCheck (named files source) (done text) → IsJudge (named later source) (named later derivation) (done (codes "accepted" ++ line_end))
+source_accepted files later source derivation text same given c =
     let d = derived (named files source) (done text) c refl in
     let read = read_whole (named files source) c.0 text d c.2 in
     let again : Gives (named later source) source_limit (whole d.source.bytes) = told_same source_limit (files.told source) (later.told source) d.source.bytes same read in
     let passes : SourceStage source (whole d.source.bytes) (Ok d.source) = subst (λ (q : Reading). SourceStage source q (Ok d.source)) (source_says d.passes).0 d.passes in
     source_stands (whole d.source.bytes) (whole text) d.source (Ok tt) again passes
     (told_same _ (Some text) (later.told derivation) text given (text_within text d.ann d.is_text, refl)) (goes (goes fits (reads d.is_text)) (holds d.valid)) refl
+
+pub written_accepted : WrittenIsAccepted
+written_accepted files later words later_words source derivation text checks judges same given c =
+    let done_by : IsCheck (named files source) (done text) = subst (λ (o : Option Asked). IsVerdictOf files o (done text)) checks c in
+    subst (λ (o : Option Asked). IsVerdictOf later o (done (codes "accepted" ++ line_end))) (sym judges)
+    (source_accepted files later source derivation text same given done_by)

@@ -1,7 +1,7 @@
 -- The verdict on the words of a command line.
 use Rattle.std.specs.Prelude.{ℕ, ◌≡◌, ◌⊎◌, Option, Some, None, List, IfSome}
 use Rattle.pc_top.specs.Check.{IsCheck}
-use Rattle.pc_top.specs.Command.{Text, Asked, check, judge, command_of}
+use Rattle.pc_words.specs.Asked.{Text, Asked, check, judge, command_of}
 use Rattle.pc_top.specs.CoreOf.{IsDerivable, IsUnderivable}
 use Rattle.pc_top.specs.Judge.{IsJudge}
 use Rattle.pc_top.specs.Lines.{usage_line}
@@ -22,7 +22,7 @@ files_change told before now taken = record { told = told; before = before; now 
 abbrev pub named : Files → Text → Named
 named files name = file_at files.told files.before files.now files.taken name
 
--- Words that are no command's are refused with status 2.
+-- Words that the command line does not take are refused with status 2.
 abbrev pub IsVerdictOf : Files → Option Asked → Verdict → Type 0
 IsVerdictOf files None v = v ≡ refused 2 usage_line
 IsVerdictOf files (Some (check source)) v = IsCheck (named files source) v

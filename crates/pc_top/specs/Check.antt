@@ -6,7 +6,7 @@ use Rattle.pc_sub.specs.declared.faults.DeclFault.{DeclFault}
 use Rattle.pc_rules.specs.Valid.{Valid, NoRule, Unset}
 use Rattle.pc_deriv.specs.Faults.{IsText}
 use Rattle.pc_top.specs.After.{After}
-use Rattle.pc_top.specs.Command.{Text}
+use Rattle.pc_words.specs.Asked.{Text}
 use Rattle.pc_top.specs.CoreFaults.{offset_line, decl_offset, decl_text}
 use Rattle.pc_top.specs.Named.{Named, Reading, Gives}
 use Rattle.pc_top.specs.Source.{SourceStage, source_limit}

@@ -10,7 +10,7 @@ use Rattle.pc_sub.specs.declared.faults.DeclFault.TheVariants as decl
 use Rattle.pc_check.specs.declared.fault.CheckFault.{CheckFault}
 use Rattle.pc_check.specs.declared.fault.CheckFault.TheVariants as fault
 use Rattle.pc_deriv.specs.Limits.{slot_limit, node_limit}
-use Rattle.pc_top.specs.Command.{Text}
+use Rattle.pc_words.specs.Asked.{Text}
 use Rattle.pc_top.specs.Lines.{place_line}
 use Rattle.pc_top.specs.Place.{line_behind, column_behind}
 use Rattle.pc_top.specs.declared.source.Source.{Source}

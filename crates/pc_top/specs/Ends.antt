@@ -2,7 +2,7 @@
 use Rattle.std.specs.Prelude.{ℕ, ◌≡◌, ◌⊎◌, [], Option, Result, MatchResult}
 use Rattle.std.specs.Io.KnownBytes.{Appends, Keeps}
 use Rattle.pc_io.specs.Sink.{Rose, GrowsByPrefix}
-use Rattle.pc_top.specs.Command.{Text}
+use Rattle.pc_words.specs.Asked.{Text}
 use Rattle.pc_top.specs.Verdict.{Verdict}
 use Rattle.pc_top.specs.declared.stop.Stop.{Stop}
 use Rattle.pc_top.specs.declared.stop.Stop.TheVariants.{Refused, File, Sink, Memory}

@@ -2,7 +2,6 @@ pub mod After
 pub mod Answer
 pub mod Asked
 pub mod Check
-pub mod Command
 pub mod Complete
 pub mod CoreFaults
 pub mod CoreOf

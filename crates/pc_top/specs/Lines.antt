@@ -1,6 +1,6 @@
 -- The lines on err.
 use Rattle.std.specs.Prelude.{ℕ, [], ◌∷◌, ◌++◌, codes, decimal}
-use Rattle.pc_top.specs.Command.{Text}
+use Rattle.pc_words.specs.Asked.{Text}
 
 abbrev pub line_end : Text
 line_end = 10 ∷ []

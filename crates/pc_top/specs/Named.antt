@@ -1,6 +1,6 @@
 -- A file of a command, and what reading it gives.
 use Rattle.std.specs.Prelude.{ℕ, ◌≡◌, ◌<◌, ◌≤◌, List, length, Option, IfSome}
-use Rattle.pc_top.specs.Command.{Text}
+use Rattle.pc_words.specs.Asked.{Text}
 
 -- A file by its name: the bytes that are told, and how often its reading had failed before and after a call.
 pub record Named : Type 0 where

@@ -1,7 +1,7 @@
 -- There is one verdict for the words and for what the files tell.
 use Rattle.std.specs.Prelude.{◌≡◌, Option, Some, None, List, IsSome}
 use Rattle.pc_top.specs.Asked.{Files, IsVerdict}
-use Rattle.pc_top.specs.Command.{Text, Asked, check, judge, command_of}
+use Rattle.pc_words.specs.Asked.{Text, Asked, check, judge, command_of}
 use Rattle.pc_top.specs.Verdict.{Verdict}
 
 -- The files that the words name tell their bytes.

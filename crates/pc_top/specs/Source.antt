@@ -1,5 +1,5 @@
 -- The stages of a source, which every command goes through first.
-use Rattle.std.specs.Prelude.{ℕ, ◌≡◌, ◌∷◌, Result, Ok, Err, List, codes}
+use Rattle.std.specs.Prelude.{ℕ, ◌∷◌, Result, Ok, Err, List, codes}
 use Rattle.pc_tree.specs.Tree as t
 use Rattle.pc_token.specs.declared.kinds.Token.{Token}
 use Rattle.pc_grammar.specs.FileAnswers.{IsFileAnswer, spelled, unexpected, too_deep}
@@ -12,7 +12,7 @@ use Rattle.pc_names.specs.Names.{IsNameFault}
 use Rattle.pc_names.specs.declared.fault.NameFault.{NameFault}
 use Rattle.pc_program.specs.Cores.{Stands, IsElabFault}
 use Rattle.pc_top.specs.After.{After}
-use Rattle.pc_top.specs.Command.{Text}
+use Rattle.pc_words.specs.Asked.{Text}
 use Rattle.pc_top.specs.CoreFaults.{offset_line}
 use Rattle.pc_top.specs.Faults.{fault_status, fault_line}
 use Rattle.pc_top.specs.Lines.{longer_line}

@@ -1,12 +1,12 @@
 -- What stands on out at status 0.
-use Rattle.std.specs.Prelude.{◌≡◌, ◌∷◌, [], ◌++◌, Option, Some, None, List, IfSome, codes}
+use Rattle.std.specs.Prelude.{◌≡◌, ◌++◌, Option, Some, None, List, IfSome, codes}
 use Rattle.std.specs.Io.KnownBytes.{Appends}
 use Rattle.pc_core.specs.CoreData.{CoreData}
 use Rattle.pc_ann.specs.declared.annotation.Ann.{Ann}
 use Rattle.pc_rules.specs.Valid.{Valid}
 use Rattle.pc_deriv.specs.Faults.{IsText}
 use Rattle.pc_top.specs.Asked.{Files, IsVerdict}
-use Rattle.pc_top.specs.Command.{Text, Asked, check, judge, command_of}
+use Rattle.pc_words.specs.Asked.{Text, Asked, check, judge, command_of}
 use Rattle.pc_top.specs.Ends.{Change}
 use Rattle.pc_top.specs.CoreOf.{CoreOf}
 use Rattle.pc_top.specs.Lines.{line_end}
@@ -28,14 +28,10 @@ Writes told words out = WritesOf told (command_of words) out
 
 -- ---- from one command to the other
 
-abbrev pub check_words : Text → List Text
-check_words source = codes "check" ∷ source ∷ []
-
-abbrev pub judge_words : Text → Text → List Text
-judge_words source derivation = codes "judge" ∷ source ∷ derivation ∷ []
-
--- What `check` is done with for a source, `judge` accepts for the same source, wherever it is read from.
+-- What `check` is done with for a source, `judge` accepts for the same source, wherever it is read from. Which words ask for
+-- `check`, and which for `judge`, plays no part.
 abbrev pub WrittenIsAccepted : Type 0
 WrittenIsAccepted =
-    (files later : Files) (source derivation text : Text) → later.told source ≡ files.told source → later.told derivation ≡ Some text
-    → IsVerdict files (check_words source) (done text) → IsVerdict later (judge_words source derivation) (done (codes "accepted" ++ line_end))
+    (files later : Files) (words later_words : List Text) (source derivation text : Text) → command_of words ≡ Some (check source)
+    → command_of later_words ≡ Some (judge source derivation) → later.told source ≡ files.told source → later.told derivation ≡ Some text
+    → IsVerdict files words (done text) → IsVerdict later later_words (done (codes "accepted" ++ line_end))

@@ -333,15 +333,22 @@ fn a_source_without_tokens_has_its_fault_named(rt: HostRuntime) -> Result<(), Fa
 }
 
 #[test]
-fn other_words_are_refused(rt: HostRuntime) -> Result<(), Fail> {
+fn words_are_taken_or_refused(rt: HostRuntime) -> Result<(), Fail> {
     let alloc = rt.alloc();
     let usage = "usage: rcap COMMAND ARGUMENT ...\n";
-    let rows: [(&[&str], u8, &str); 7] = [
+    let rows: [(&[&str], u8, &str); 13] = [
         (&[], 2, usage),
+        (&["help"], 2, usage),
+        (&["--help"], 2, usage),
         (&["check"], 2, usage),
         (&["check", "a.pony", "b"], 2, usage),
         (&["judge", "a.pony"], 2, usage),
         (&["judge", "a.pony", "a.der", "b"], 2, usage),
+        // A word that begins with `-` is an option, unless it stands behind `--`.
+        (&["check", "-x"], 2, usage),
+        (&["check", "--help"], 2, usage),
+        (&["check", "--", "-x"], 9, "-x: cannot be read\n"),
+        (&["check", ""], 9, ": cannot be read\n"),
         (&["check", "gone.pony"], 9, "gone.pony: cannot be read\n"),
         (
             &["judge", "a.pony", "gone.der"],

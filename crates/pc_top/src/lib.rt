@@ -2,7 +2,6 @@
 #![tactic(auto)]
 
 mod check;
-mod command;
 mod core_faults;
 mod derivation;
 mod faults;
@@ -24,7 +23,13 @@ pub use top::{
 };
 
 #[cfg(test)]
+mod call_cases;
+#[cfg(test)]
 mod cases;
+#[cfg(test)]
+mod field_cases;
+#[cfg(test)]
+mod flow_cases;
 #[cfg(test)]
 mod name_cases;
 #[cfg(test)]

@@ -2,7 +2,7 @@
 ghost use Rattle.std.specs.Prelude.{◌≡◌, ◌≤◌};
 ghost use Rattle.pc_top.specs.Answer.{Answer, IsWordsRefusal};
 ghost use Rattle.pc_top.specs.Asked.{Accepts, FailedIn, IsVerdict, Lacks, RefusedIsUnderivable, files_change};
-ghost use Rattle.pc_top.specs.Command.{texts};
+ghost use Rattle.pc_words.specs.Asked.{texts};
 ghost use Rattle.pc_top.specs.Complete.{Completes};
 ghost use Rattle.pc_top.specs.CoreOf.{CoresAreFormed};
 ghost use Rattle.pc_top.specs.Ends.{Ends, change};
@@ -10,7 +10,6 @@ ghost use Rattle.pc_top.specs.One.{VerdictIsOne};
 ghost use Rattle.pc_top.specs.Writes.{Writes, WrittenIsAccepted};
 
 use crate::check::run_check;
-use crate::command::{Command, read_words};
 use crate::finish::finish;
 use crate::judge::run_judge;
 use crate::lines::make_usage_line;
@@ -30,6 +29,7 @@ use pc_order::tokens_are_in_order;
 use pc_program::cores_are_one;
 use pc_rules::one_annotation_is_valid;
 use pc_sub::no_fault_where_declarations_fit;
+use pc_words::{Command, WordsFault, read_words};
 use std::alloc::Global;
 
 /// Does what the words after the program's name ask for, and answers the exit status.
@@ -84,16 +84,17 @@ fn run_words<F: Files, O: Sink>(
         Ends (IsVerdict files (texts words.now)) (FailedIn files (texts words.now))
         (change (O.written out.old) (O.written out.new) (O.faults out.old) (O.faults out.new)) result }
 {
-    match read_words(words) {
-        None => Err(refuse_words(alloc)),
-        Some(Command::Check { source }) => run_check(alloc, files, out, source),
-        Some(Command::Judge { source, derivation }) => {
+    match read_words(alloc, words) {
+        Ok(Command::Check { source }) => run_check(alloc, files, out, source),
+        Ok(Command::Judge { source, derivation }) => {
             run_judge(alloc, files, out, source, derivation)
         }
+        Err(WordsFault::Refused) => Err(refuse_words(alloc)),
+        Err(WordsFault::Memory) => Err(Stop::Memory),
     }
 }
 
-// The refusal of words that are no command's.
+// The refusal of words that the command line does not take.
 fn refuse_words(alloc: Global) -> Stop
     ensures { IsWordsRefusal result }
 {

@@ -1,5 +1,5 @@
 use Rattle.pc_top.specs.Asked.{files_change, IsVerdict, FailedIn}
-use Rattle.pc_top.specs.Command.{texts}
+use Rattle.pc_words.specs.Asked.{texts}
 use Rattle.pc_top.specs.Ends.{change}
 use Rattle.pc_top.proofs.Accepted.{answer_accepts}
 use Rattle.pc_top.proofs.Answers.{answer_of, completes}

@@ -1,0 +1,18 @@
+-- From a valid annotation to every step of every schedule.
+use Rattle.pc_semantics.specs.Configurations.{start}
+use Rattle.pc_semantics.specs.Runs.{after}
+use Rattle.pc_sound.specs.Laws.{StepsKeepTypes, AcceptedNeverLacks}
+use Rattle.pc_sound.proofs.Needs.{Needs}
+use Rattle.pc_sound.proofs.Needed.{needed}
+use Rattle.pc_sound.proofs.Steps.{step_ok, run_ok}
+use Rattle.pc_sound.proofs.AllTasks.{keeps}
+use Rattle.pc_sound.proofs.Takes.{takes}
+use Rattle.pc_sound.proofs.Starts.{start_typed}
+
+pub steps_keep_types : StepsKeepTypes
+steps_keep_types core ann formed valid c w i = step_ok keeps takes core ann (needed core formed ann valid) c w i
+
+pub accepted_never_lacks : AcceptedNeverLacks
+accepted_never_lacks core ann formed valid list i l =
+    let needs : Needs core ann = needed core formed ann valid in
+    (step_ok keeps takes core ann needs (after core list) (run_ok keeps takes core ann needs list (start core) (start_typed core ann formed valid)) i).1 l

@@ -1,0 +1,45 @@
+-- The written forms are taken, and their matches are the names.
+use Rattle.std.proofs.Common.{◌≡◌, ℕ, [], ◌∷◌, Some, Bool, true, false, not, refl, nat_eq}
+use Rattle.clap.specs.Words.{takes}
+use Rattle.clap.proofs.OnLiterals.{clap_on_literals}
+use Rattle.pc_words.specs.Asked.{Text, check, command_of, is_refused, judge}
+use Rattle.pc_words.specs.Forms.{AskFor, WrittenFormsAreTaken, check_words, is_plain, judge_words}
+use Rattle.pc_words.specs.Line.{rcap}
+
+check_taken : (c : ℕ) (rest : Text) → nat_eq c 45 ≡ false → takes rcap (check_words (c ∷ rest)) ≡ true
+unfolding clap_on_literals
+check_taken c rest plain = simp plain refl
+
+check_read : (c : ℕ) (rest : Text) → nat_eq c 45 ≡ false → command_of (check_words (c ∷ rest)) ≡ Some (check (c ∷ rest))
+unfolding clap_on_literals command_of is_refused
+check_read c rest plain = simp plain refl
+
+judge_taken : (c d : ℕ) (rest more : Text) → nat_eq c 45 ≡ false → nat_eq d 45 ≡ false → takes rcap (judge_words (c ∷ rest) (d ∷ more)) ≡ true
+unfolding clap_on_literals
+judge_taken c d rest more plain also = simp (plain, also) refl
+
+judge_read : (c d : ℕ) (rest more : Text) → nat_eq c 45 ≡ false → nat_eq d 45 ≡ false
+    → command_of (judge_words (c ∷ rest) (d ∷ more)) ≡ Some (judge (c ∷ rest) (d ∷ more))
+unfolding clap_on_literals command_of is_refused
+judge_read c d rest more plain also = simp (plain, also) refl
+
+not_true : (b : Bool) → not b ≡ true → b ≡ false
+not_true true e = cc
+not_true false e = refl
+
+checks : (source : Text) → is_plain source ≡ true → AskFor (check_words source) (check source)
+checks [] e = let bad : false ≡ true = e in cc
+checks (c ∷ rest) e =
+    let plain : nat_eq c 45 ≡ false = not_true (nat_eq c 45) e in
+    (check_taken c rest plain, check_read c rest plain)
+
+judges : (source derivation : Text) → is_plain source ≡ true → is_plain derivation ≡ true → AskFor (judge_words source derivation) (judge source derivation)
+judges [] derivation e f = let bad : false ≡ true = e in cc
+judges (c ∷ rest) [] e f = let bad : false ≡ true = f in cc
+judges (c ∷ rest) (d ∷ more) e f =
+    let plain : nat_eq c 45 ≡ false = not_true (nat_eq c 45) e in
+    let also : nat_eq d 45 ≡ false = not_true (nat_eq d 45) f in
+    (judge_taken c d rest more plain also, judge_read c d rest more plain also)
+
+pub forms_taken : WrittenFormsAreTaken
+forms_taken = record { checks = checks; judges = judges }

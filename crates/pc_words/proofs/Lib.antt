@@ -1,0 +1,4 @@
+mod Forms
+mod Missing
+pub mod Refusals
+mod Rows

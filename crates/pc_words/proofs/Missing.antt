@@ -1,0 +1,47 @@
+-- Words without a subcommand are refused.
+use Rattle.std.proofs.Common.{◌≡◌, Bool, true, false, List, [], ◌∷◌, Option, Some, None, refl, is_some, option_map, ap, subst, not, ◌&&◌}
+use Rattle.clap.specs.Kinds.{Kinds, or_else, check_kinds}
+use Rattle.clap.specs.Faults.{check_fault, defaults_fault, entered_fault, level_fault, settle_fault, walk_fault}
+use Rattle.clap.specs.Takes.{is_given}
+use Rattle.clap.specs.Facts.{explicit_source}
+use Rattle.std.specs.List.{list_any}
+use Rattle.clap.specs.Simple.{Shape, built, argument_words, names_of}
+use Rattle.clap.specs.Walk.{Held, Names, finished, nothing_held, settled, walk, walk_from}
+use Rattle.clap.specs.Words.{Row, Text, fault_of, subcommand_of}
+use Rattle.pc_words.specs.Asked.{named}
+use Rattle.pc_words.specs.Line.{rcap}
+
+or_else_nil : (a b : Kinds) → or_else a b ≡ [] → b ≡ []
+or_else_nil [] b e = e
+or_else_nil (k ∷ ks) b e = cc
+
+check_nil : (x z y : Bool) → z ≡ true → check_kinds x z y ≡ [] → ⊥
+check_nil true true y r e = cc
+check_nil false true y r e = cc
+check_nil x false y r e = cc
+
+unchecked : (s : Shape) (rows : List Row) → s.subcommand_required ≡ true → check_fault s rows false ≡ [] → ⊥
+unchecked s rows required e = check_nil (s.arg_required_else_help && not (list_any (λ r. explicit_source r.source) rows)) s.subcommand_required
+    (not (s.subcommand_negates_reqs && false) && list_any (λ a. a.required && not (is_given a.id rows)) s.rules) required e
+
+no_subcommand : (s : Shape) (names : Names) (h : Held) (words : List Text) (below : Kinds) → s.subcommand_required ≡ true
+    → level_fault s names h words false below ≡ [] → ⊥
+no_subcommand s names h words below required e =
+    let end = (walk s.rules names h words).held in
+    let a = or_else_nil (walk_fault s names (walk_from h) words) _ e in
+    let b = or_else_nil below _ a in
+    let c = or_else_nil (settle_fault s.rules s.args_override_self end) _ b in
+    let d = or_else_nil (defaults_fault (settled s.rules end).rows s.rules) _ c in
+    unchecked s (finished s.rules (walk s.rules names h words).held) required d
+
+pub missing : (words : List Text) → subcommand_of rcap words ≡ None → fault_of rcap words ≡ [] → ⊥
+missing words e f =
+    let a = built rcap in
+    let stop = (walk a.top.rules (names_of a) nothing_held (argument_words a words)).stopped in
+    let P : Bool → Type 0 = λ b. level_fault a.top (names_of a) nothing_held (argument_words a words) b (entered_fault a stop) ≡ [] in
+    no_subcommand a.top (names_of a) nothing_held (argument_words a words) (entered_fault a stop) refl
+    (subst P (ap is_some e) f)
+
+pub nothing_named : (o : Option (Text × List Row)) → None ≡ option_map named o → o ≡ None
+nothing_named None e = refl
+nothing_named (Some p) e = cc

@@ -1,0 +1,34 @@
+-- Which words are refused.
+use Rattle.std.proofs.Common.{◌≡◌, Bool, true, false, not, ◌&&◌, List, [], ◌∷◌, Some, None, refl, option_map, subst, sym}
+use Rattle.std.specs.Prelude.{if◌then◌else◌}
+use Rattle.clap.specs.Kinds.{Kinds}
+use Rattle.clap.specs.Words.{fault_of, subcommand_of, takes}
+use Rattle.pc_words.specs.Asked.{Asked, Text, command_of, has_fault, is_refused, named}
+use Rattle.pc_words.specs.Line.{rcap}
+
+faultless : (t : Bool) (k : Kinds) → k ≡ [] → (not t && has_fault k) ≡ false
+faultless true [] e = refl
+faultless false [] e = refl
+faultless t (x ∷ xs) e = cc
+
+untaken : (t : Bool) (k : Kinds) → (t ≡ true → ⊥) → (k ≡ [] → ⊥) → (not t && has_fault k) ≡ true
+untaken true k n m = absurd (n refl)
+untaken false [] n m = absurd (m refl)
+untaken false (x ∷ xs) n m = refl
+
+-- Words without a fault ask for what their subcommand does.
+pub asks : (words : List Text) (asked : Asked) → fault_of rcap words ≡ [] → option_map named (subcommand_of rcap words) ≡ Some asked → command_of words ≡ Some asked
+unfolding command_of is_refused
+asks words asked f e =
+    subst (λ (b : Bool). (if b then None else option_map named (subcommand_of rcap words)) ≡ Some asked)
+    (sym (faultless (takes rcap words) (fault_of rcap words) f)) e
+
+pub refuses : (words : List Text) → (takes rcap words ≡ true → ⊥) → (fault_of rcap words ≡ [] → ⊥) → is_refused words ≡ true
+unfolding is_refused
+refuses words n m = untaken (takes rcap words) (fault_of rcap words) n m
+
+-- Refused words ask for nothing.
+pub asks_nothing : (words : List Text) → is_refused words ≡ true → command_of words ≡ None
+unfolding command_of
+asks_nothing words r =
+    subst (λ (b : Bool). (if b then None else option_map named (subcommand_of rcap words)) ≡ None) (sym r) refl

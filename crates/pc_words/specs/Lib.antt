@@ -1,0 +1,4 @@
+pub mod Asked
+pub mod Forms
+pub mod Line
+pub mod Reads

@@ -1,0 +1,9 @@
+//! The words of the command line, read by clap.
+#![tactic(auto)]
+
+mod laws;
+mod line;
+mod words;
+
+pub use laws::written_forms_are_taken;
+pub use words::{Command, WordsFault, read_words};
