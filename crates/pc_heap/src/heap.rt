@@ -1,4 +1,4 @@
-ghost use Rattle.std.specs.Prelude.{◌≡◌, ◌<◌, ◌≤◌, OnOk, OnErr, IfOk, IfErr, Some, None, option_copied, length, replicate, is_some};
+ghost use Rattle.std.specs.Prelude.{◌≡◌, ◌<◌, ◌≤◌, OnOk, OnErr, IfOk, IfErr, Some, None, option_copied, length, replicate, is_some, IsSome, IfSome};
 ghost use Rattle.std.specs.FinMap as map;
 ghost use Rattle.pc_heap.specs.Objects.{next_address, new_object, class_at, field_at, value_at, with_value};
 ghost use Rattle.pc_heap.specs.Heaps.{object_limit, field_limit};
@@ -101,6 +101,17 @@ impl Heap {
         self.release();
         let fields = empty_fields(alloc, fields)?;
         self.claim(alloc, maker, fields)
+    }
+
+    /// The address that the next object will have, for which there is room. It takes no memory.
+    pub fn reserved(&self) -> Address
+        requires { IsSome self.now.room }
+        ensures { IfSome self.now.room (λ room. result ≡ next_address self.now.objects room.maker) }
+    {
+        match &self.spare {
+            Some(spare) => spare.address,
+            None => unreachable!(),
+        }
     }
 
     /// Adds an object without field values in the room that was made for it, and answers its address. It takes no

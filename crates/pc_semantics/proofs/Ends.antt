@@ -1,7 +1,8 @@
 -- Lists seen from their ends.
-use Rattle.std.proofs.Common.{◌≡◌, ℕ, zero, suc, ◌-◌, ◌<◌, List, [], ◌∷◌, ◌++◌, Some, length, set, drop, refl, sym, ap, ◌∙◌, arith}
+use Rattle.std.proofs.Common.{◌≡◌, ℕ, zero, suc, ◌-◌, ◌<◌, ◌≤◌, List, [], ◌∷◌, ◌++◌, Some, length, set, take, drop, refl, sym, ap, ◌∙◌, inl, inr, arith}
 use Rattle.std.specs.Prelude.{reverse, slice_get}
-use Rattle.std.proofs.lemmas.List.{reverse-append, set_at, set-append_left}
+use Rattle.std.proofs.lemmas.List.{reverse-append, reverse-reverse, length-reverse, length-drop, take-append-drop, set_at, set-append_left}
+use Rattle.std.proofs.lemmas.Bool.{cases_lt}
 
 -- the places of the front
 get_left : {X : Type 0} (xs ys : List X) (i : ℕ) → i < length xs → slice_get (xs ++ ys) i ≡ slice_get xs i
@@ -73,3 +74,57 @@ reverse_get (suc j) xs l =
     ∙ sym (get_left r.front (r.last ∷ []) (length r.front - 1 - j) i)
     ∙ ap (slice_get (r.front ++ r.last ∷ [])) (sym n)
     ∙ ap (λ zs. slice_get zs (length xs - 1 - suc j)) (sym r.is)
+
+-- ---- the last elements, turned round
+
+take_front : {X : Type 0} (xs ys : List X) → take (length xs) (xs ++ ys) ≡ xs
+take_front [] ys = refl
+take_front (x ∷ xs) ys = ap (λ zs. x ∷ zs) (take_front xs ys)
+
+drop_front : {X : Type 0} (xs ys : List X) → drop (length xs) (xs ++ ys) ≡ ys
+drop_front [] ys = refl
+drop_front (x ∷ xs) ys = drop_front xs ys
+
+-- a list turned round, cut before its last elements
+cut : {X : Type 0} (xs : List X) (n : ℕ) → reverse xs ≡ reverse (drop n xs) ++ reverse (take n xs)
+cut xs n = ap reverse (sym (take-append-drop n xs)) ∙ reverse-append (take n xs) (drop n xs)
+
+-- how many the last elements are
+last_count : {X : Type 0} (xs : List X) (count : ℕ) → count ≤ length xs → length (reverse (drop (length xs - count) xs)) ≡ count
+last_count xs count l =
+    let n : length xs - (length xs - count) ≡ count = omega (arith, l) in
+    length-reverse (drop (length xs - count) xs) ∙ length-drop (length xs - count) xs ∙ n
+
+pub last_taken : {X : Type 0} (xs : List X) (count : ℕ) → count ≤ length xs → drop (length xs - count) xs ≡ reverse (take count (reverse xs))
+last_taken xs count l =
+    let n = length xs - count in
+    let tail = reverse (drop n xs) in
+    sym (reverse-reverse (drop n xs))
+    ∙ ap reverse (sym (take_front tail (reverse (take n xs))))
+    ∙ ap (λ k. reverse (take k (tail ++ reverse (take n xs)))) (last_count xs count l)
+    ∙ ap (λ zs. reverse (take count zs)) (sym (cut xs n))
+
+last_dropped : {X : Type 0} (xs : List X) (count : ℕ) → count ≤ length xs → reverse (take (length xs - count) xs) ≡ drop count (reverse xs)
+last_dropped xs count l =
+    let n = length xs - count in
+    let tail = reverse (drop n xs) in
+    sym (drop_front tail (reverse (take n xs)))
+    ∙ ap (λ k. drop k (tail ++ reverse (take n xs))) (last_count xs count l)
+    ∙ ap (drop count) (sym (cut xs n))
+
+all_dropped : {X : Type 0} (xs : List X) (count : ℕ) → length xs ≤ count → drop count xs ≡ []
+all_dropped [] zero l = refl
+all_dropped [] (suc k) l = refl
+all_dropped (x ∷ xs) zero l = absurd (omega arith)
+all_dropped (x ∷ xs) (suc k) l = let m : length xs ≤ k = omega (arith, l) in all_dropped xs k m
+
+-- what is left without the last elements
+pub first_kept : {X : Type 0} (xs : List X) (count : ℕ) → reverse (take (length xs - count) xs) ≡ drop count (reverse xs)
+first_kept xs count =
+    elim (cases_lt (length xs) count) [
+      | inr l ↦ last_dropped xs count l
+      | inl l ↦
+          let none : length xs - count ≡ 0 = omega (arith, l) in
+          let all : length (reverse xs) ≤ count = omega (arith, l, length-reverse xs) in
+          ap (λ k. reverse (take k xs)) none ∙ sym (all_dropped (reverse xs) count all)
+    ]

@@ -45,6 +45,13 @@ impl Mailbox {
         self.waiting.len()
     }
 
+    /// The oldest message. `None` exactly where none waits.
+    pub fn oldest(&self) -> Option<&Message>
+        ensures { option_copied result ≡ slice_get self.now 0 }
+    {
+        self.waiting.front()
+    }
+
     /// Puts a message behind the others. An `Err` hands it back and changes nothing.
     pub fn deliver(&mut self, message: Message) -> Result<(), AllocFailed<Message>>
         ensures ok { OnOk result (self.new ≡ self.old ++ message ∷ []) }

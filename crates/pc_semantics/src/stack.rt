@@ -1,4 +1,4 @@
-ghost use Rattle.std.specs.Prelude.{◌≡◌, ◌-◌, ◌<◌, ◌∷◌, ◌++◌, [], length, drop, reverse, slice_get, slice_set, option_copied, Some, OnOk, OnErr, IfErr};
+ghost use Rattle.std.specs.Prelude.{◌≡◌, ◌-◌, ◌<◌, ◌≤◌, ◌↔◌, ◌∷◌, ◌++◌, [], length, take, drop, reverse, slice_get, slice_set, option_copied, Some, IsSome, IfSome, OnOk, OnErr, IfErr};
 
 use std::alloc::{AllocError, AllocFailed, Global};
 use std::marker::Model;
@@ -58,6 +58,7 @@ impl<T> Stack<T> {
     {
         self.items.last()
     }
+
     /// The value at a place, counted from the top. `None` exactly where there is none.
     pub fn peek(&self, place: usize) -> Option<&T>
         ensures { option_copied result ≡ slice_get self.now place }
@@ -97,6 +98,36 @@ impl<T> Stack<T> {
     {
         append_reversed(&mut self.items, values)
     }
+
+    /// The topmost values, the deepest of them first. `None` exactly where there are not so many.
+    pub fn topmost(&self, count: usize) -> Option<&[T]>
+        ensures enough { IsSome result ↔ (count ≤ length self.now) }
+        ensures values { IfSome result (λ values. values.now ≡ reverse (take count self.now)) }
+    {
+        if count <= self.items.len() {
+            Some(last_values(self.items.as_slice(), count))
+        } else {
+            None
+        }
+    }
+}
+
+impl<T: Drop> Stack<T> {
+    /// Drops the topmost values, and all where there are not so many. It takes no memory.
+    pub fn discard(&mut self, count: usize)
+        ensures { self.new ≡ drop count self.old }
+    {
+        let kept = self.items.len().saturating_sub(count);
+        self.items.truncate(kept);
+    }
+}
+
+// The last values of a list.
+fn last_values<T>(items: &[T], count: usize) -> &[T]
+    requires { count ≤ length items.now }
+    ensures { result.now ≡ drop (length items.now - count) items.now }
+{
+    &items[items.len() - count..]
 }
 
 // The values behind the others, the last one first. An `Err` changes nothing.

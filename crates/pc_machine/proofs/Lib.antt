@@ -1,0 +1,9 @@
+mod Changes
+mod Stacked
+mod Popped
+mod Peopling
+mod Planned
+mod Stepped
+mod Allowed
+mod Kept
+mod Starting

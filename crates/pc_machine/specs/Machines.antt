@@ -1,0 +1,28 @@
+-- A machine as its core and its configuration.
+use Rattle.std.specs.Prelude.{ℕ, List, refl}
+use Rattle.std.specs.Coded.{Coded, code_by, coded×, coded_list, coded_ℕ}
+use Rattle.std.specs.FinMap.{code}
+use Rattle.pc_heap.specs.Objects.{ObjectMap, coded_address}
+use Rattle.pc_heap.specs.contracts.value.Object as object
+use Rattle.pc_core.specs.CoreData.{CoreData}
+use Rattle.pc_core.specs.contracts.cores.Core as core
+use Rattle.pc_semantics.specs.declared.actors.Actor.{Actor}
+use Rattle.pc_semantics.specs.contracts.actors.Actor as actor
+use Rattle.pc_semantics.specs.Configurations.{Configuration}
+
+pub record MachineData : Type 0 where
+  pub core : CoreData
+  pub configuration : Configuration
+
+-- how many messages may wait before another step
+abbrev pub message_limit : ℕ
+message_limit = 4194304
+
+abbrev pub coded_configuration : Coded Configuration
+coded_configuration =
+    code_by (ObjectMap × (List Actor × List (List ℕ)))
+    (coded× (code coded_address object.the_row.coded) (coded× (coded_list actor.the_row.coded) (coded_list (coded_list coded_ℕ))))
+    (λ c. (c.objects, (c.actors, c.printed))) (λ p. record { objects = p.0; actors = p.1.0; printed = p.1.1 }) (λ _. refl)
+
+abbrev pub coded_machine : Coded MachineData
+coded_machine = code_by (CoreData × Configuration) (coded× core.the_row.coded coded_configuration) (λ m. (m.core, m.configuration)) (λ p. record { core = p.0; configuration = p.1 }) (λ _. refl)

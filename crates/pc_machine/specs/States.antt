@@ -1,0 +1,20 @@
+-- What a machine changes, as a configuration, and what holds of it.
+use Rattle.std.specs.Prelude.{ℕ, ◌<◌, ◌≤◌, length, IsSome}
+use Rattle.std.specs.FinMap.{get, len}
+use Rattle.pc_heap.specs.declared.value.Address.{Address}
+use Rattle.pc_heap.specs.Heaps.{object_limit}
+use Rattle.pc_heap.specs.Objects.{ObjectMap}
+use Rattle.pc_semantics.specs.Configurations.{Configuration}
+use Rattle.pc_machine.specs.declared.state.State.{State}
+
+abbrev pub configuration_of : State → Configuration
+configuration_of s = record { objects = s.heap.objects; actors = s.actors; printed = s.printed }
+
+-- Whoever made an object is one of so many actors, each of which has made one.
+pub record Peopled (objects : ObjectMap) (actors : ℕ) : Type 0 where
+  pub makers : (a : Address) → IsSome (get objects a) → a.maker < actors
+  pub few_actors : actors ≤ len objects
+  pub few_objects : len objects ≤ object_limit
+
+abbrev pub IsPeopled : Configuration → Type 0
+IsPeopled c = Peopled c.objects (length c.actors)

@@ -1,0 +1,84 @@
+//! What an actor is about to touch.
+ghost use Rattle.std.specs.Prelude.{◌≡◌, []};
+ghost use Rattle.pc_semantics.specs.Safety as spec;
+ghost use Rattle.pc_machine.specs.States.{configuration_of};
+
+use crate::state::State;
+use pc_core::{Core, NodeKind};
+use pc_heap::{Address, Heap, Value};
+use pc_semantics::{Access, Frame, Task};
+
+// The address of the object that a value is.
+fn address_of(value: &Value) -> Option<Address>
+    ensures { result ≡ spec.address_of value.now }
+{
+    match value {
+        Value::At(address) => Some(*address),
+        Value::Num(_) | Value::Truth(_) | Value::Text(_) | Value::Prim(_) => None,
+    }
+}
+
+// The name of the field that a node reads.
+fn name_read(kind: &NodeKind) -> Option<u32>
+    ensures { result ≡ spec.name_read kind.now }
+{
+    match kind {
+        NodeKind::Field(name) => Some(*name),
+        _ => None,
+    }
+}
+
+// The name of the field that a node writes.
+fn name_written(kind: &NodeKind) -> Option<u32>
+    ensures { result ≡ spec.name_written kind.now }
+{
+    match kind {
+        NodeKind::SetField(name) => Some(*name),
+        _ => None,
+    }
+}
+
+// The name of the field that a task reads or writes, and whether it writes.
+fn touched_name(core: &Core, task: Task) -> Option<(u32, bool)>
+    ensures { result ≡ spec.touched_name core.now task }
+{
+    match task {
+        Task::Get(number) => {
+            let node = core.node_at(number)?;
+            let name = name_read(&node.kind)?;
+            Some((name, false))
+        }
+        Task::Put(number) => {
+            let node = core.node_at(number)?;
+            let name = name_written(&node.kind)?;
+            Some((name, true))
+        }
+        _ => None,
+    }
+}
+
+// The field of the object on top of a frame's stack.
+fn access_on(core: &Core, heap: &Heap, frame: &Frame, name: u32, write: bool) -> Option<Access>
+    ensures { result ≡ spec.access_of core.now (record { objects = heap.now.objects; actors = []; printed = [] }) frame.now (name, write) }
+{
+    let value = frame.stack.top()?;
+    let address = address_of(value)?;
+    let entity = heap.class_of(address)?;
+    let field = core.field(entity, name)?;
+    Some(Access {
+        address,
+        field,
+        write,
+    })
+}
+
+/// What the next task of an actor reads or writes. `None` exactly where that is no field of an object.
+pub fn access_of(core: &Core, state: &State, actor: u32) -> Option<Access>
+    ensures { result ≡ spec.access core.now (configuration_of state.now) actor }
+{
+    let found = state.actors.get(actor as usize)?;
+    let frame = found.frames.top()?;
+    let task = frame.tasks.top()?;
+    let (name, write) = touched_name(core, *task)?;
+    access_on(core, &state.heap, frame, name, write)
+}

@@ -1,0 +1,142 @@
+//! Where the program of a core begins.
+ghost use Rattle.std.specs.Prelude.{◌≡◌, ◌<◌, ◌^◌, ◌∷◌, [], length, position, Some, IsSome, IfOk};
+ghost use Rattle.pc_heap.specs.declared.value.Value.TheVariants.{At};
+ghost use Rattle.std.specs.FinMap.{insert, len};
+ghost use Rattle.std.specs.Str.{bytes_eq};
+ghost use Rattle.pc_heap.specs.Heaps.{object_limit};
+ghost use Rattle.pc_heap.specs.Objects.{field_at, next_address, with_value};
+ghost use Rattle.pc_semantics.specs.Configurations as spec;
+ghost use Rattle.pc_machine.specs.States.{configuration_of};
+
+use crate::actors::{Actors, idle_actor, waiting_actor};
+use crate::lookups::{fields_of, message_of};
+use crate::state::State;
+use pc_caps::List;
+use pc_core::{Core, EntityDef};
+use pc_heap::{Address, Heap, Value};
+use std::alloc::{AllocError, Global};
+
+/// The numbers of the entities of the environment and of the stream.
+const ENVIRONMENT: u32 = 4;
+
+const STREAM: u32 = 5;
+
+// The place of a text among these.
+fn place_of(texts: &[List<u8>], text: &[u8]) -> Option<usize>
+    ensures { result ≡ position (bytes_eq text.now) texts.now }
+{
+    texts.iter().position(|other| text == other.as_slice())
+}
+
+// The number of the name with this text.
+fn name_of(core: &Core, text: &[u8]) -> Option<u32>
+    ensures { result ≡ position (bytes_eq text.now) core.now.names }
+{
+    core.formed();
+    let place = place_of(core.names(), text)?;
+    Some(place as u32)
+}
+
+// The place of the entity of a name among these.
+fn place_named(entities: &[EntityDef], name: &[u8]) -> Option<usize>
+    ensures { result ≡ position (λ x. bytes_eq name.now x.name) entities.now }
+{
+    entities
+        .iter()
+        .position(|entity| name == entity.name.as_slice())
+}
+
+// The number of the entity of this name.
+#[tactic(auto, using(crate::proofs::Starting::position_named))]
+fn entity_named(core: &Core, name: &[u8]) -> Option<u32>
+    ensures { result ≡ spec.entity_named core.now name.now }
+{
+    core.formed();
+    let place = place_named(core.entities(), name)?;
+    Some(place as u32)
+}
+
+// The entity Main and its constructor `create`, by their numbers.
+fn main_create(core: &Core) -> Option<(u32, u32)>
+    ensures { result ≡ spec.main_create core.now }
+{
+    let main = entity_named(core, b"Main")?;
+    let name = name_of(core, b"create")?;
+    let create = core.method(main, name)?;
+    Some((main, create))
+}
+
+// An object of an entity, without field values, made by an actor.
+fn add_object(
+    alloc: Global,
+    core: &Core,
+    heap: &mut Heap,
+    maker: u32,
+    entity: u32,
+) -> Result<Address, AllocError>
+    requires { len heap.old.objects < object_limit }
+    ensures address { IfOk result (λ a. a ≡ next_address heap.old.objects maker) }
+    ensures objects { IfOk result (λ a. heap.new.objects ≡ insert heap.old.objects a (spec.blank_object core.now entity)) }
+{
+    let fields = fields_of(core, entity);
+    heap.reserve(alloc, maker, fields)?;
+    Ok(heap.make(maker, entity, fields))
+}
+
+// The first field of the environment gets the stream.
+fn set_out(heap: &mut Heap, environment: Address, stream: Address)
+    requires { IsSome (field_at heap.old.objects environment 0) }
+    ensures { heap.new.objects ≡ with_value heap.old.objects environment 0 (At stream) }
+{
+    if heap.set(environment, 0, Value::At(stream)).is_err() {
+        unreachable!()
+    }
+}
+
+// The objects of the stream, of the environment and of Main, by the number of its entity.
+fn start_objects(alloc: Global, core: &Core, main: u32) -> Result<Heap, AllocError>
+    ensures { IfOk result (λ heap. heap.objects ≡ (spec.start_of core.now (Some (main, 0))).objects) }
+{
+    core.formed();
+    let mut heap = Heap::new(alloc);
+    let stream = add_object(alloc, core, &mut heap, 0, STREAM)?;
+    let environment = add_object(alloc, core, &mut heap, 0, ENVIRONMENT)?;
+    set_out(&mut heap, environment, stream);
+    add_object(alloc, core, &mut heap, 1, main)?;
+    Ok(heap)
+}
+
+// The stream, and Main with the message of its constructor.
+fn start_actors(alloc: Global, create: u32) -> Result<Actors, AllocError>
+    ensures { IfOk result (λ actors. actors ≡ record { mailbox = []; frames = [] } ∷ record { mailbox = record { method = create; arguments = At spec.environment_address ∷ [] } ∷ []; frames = [] } ∷ []) }
+{
+    let environment = Value::At(Address {
+        maker: 0,
+        serial: 1,
+    });
+    let message = message_of(alloc, create, &[environment])?;
+    let mut actors = Actors::new(alloc);
+    actors.add(idle_actor(alloc))?;
+    actors.add(waiting_actor(alloc, message)?)?;
+    Ok(actors)
+}
+
+/// Where the program of a core begins.
+pub fn start_state(alloc: Global, core: &Core) -> Result<State, AllocError>
+    ensures { IfOk result (λ state. configuration_of state ≡ spec.start core.now) }
+{
+    let Some((main, create)) = main_create(core) else {
+        return Ok(State {
+            heap: Heap::new(alloc),
+            actors: Actors::new(alloc),
+            printed: List::new(alloc),
+        });
+    };
+    let heap = start_objects(alloc, core, main)?;
+    let actors = start_actors(alloc, create)?;
+    Ok(State {
+        heap,
+        actors,
+        printed: List::new(alloc),
+    })
+}

@@ -1,0 +1,222 @@
+//! The frames of an actor.
+ghost use Rattle.std.specs.Prelude.{◌≡◌, ◌-◌, ◌<◌, ◌≤◌, ◌++◌, ◌∷◌, [], length, drop, map, replicate, slice_get, Some, None, IfSome, IfOk, OnOk, OnErr, suc};
+ghost use Rattle.pc_semantics.specs.Around.{first_slots, first_frame, pushed};
+ghost use Rattle.pc_semantics.specs.Step.{left};
+ghost use Rattle.pc_machine.specs.Plans.{after_call, given, entered, ended, frames_changed, Suits};
+
+use crate::plan::Change;
+use pc_caps::List;
+use pc_core::Method;
+use pc_heap::Value;
+use pc_semantics::{Frame, Stack, Task};
+use std::alloc::{AllocError, Global};
+
+/// A frame that holds the place of another. It takes no memory.
+pub fn blank(alloc: Global) -> Frame {
+    Frame {
+        method: 0,
+        slots: List::new(alloc),
+        stack: Stack::new(alloc),
+        tasks: Stack::new(alloc),
+    }
+}
+
+// The slots of `this` and of the arguments, with room for as many slots as are named.
+fn argument_slots(
+    alloc: Global,
+    slots: usize,
+    this: Value,
+    arguments: &[Value],
+) -> Result<Vec<Option<Value>>, AllocError>
+    ensures { IfOk result (λ filled. filled.items ≡ Some this ∷ map Some arguments.now) }
+{
+    let mut filled = Vec::with_capacity(alloc, slots)?;
+    filled.push(Some(this))?;
+    for argument in arguments {
+        filled.push(Some(argument.copy(alloc)?))?;
+    }
+    Ok(filled)
+}
+
+// So many empty slots behind the others.
+#[tactic(auto, using(std::proofs::lemmas::List::replicate_more))]
+fn add_empty(slots: &mut Vec<Option<Value>>, count: usize) -> Result<(), AllocError>
+    ensures { OnOk result (slots.new.items ≡ slots.old.items ++ replicate count None) }
+{
+    for _ in 0..count {
+        slots.push(None)?;
+    }
+    Ok(())
+}
+
+/// The frame of a method that begins, by its number and its body, with `this` and the arguments.
+pub fn begin_frame(
+    alloc: Global,
+    number: u32,
+    method: &Method,
+    this: Value,
+    arguments: &[Value],
+    body: u32,
+) -> Result<Frame, AllocError>
+    ensures { IfOk result (λ frame. frame ≡ first_frame number method.now this arguments.now body) }
+{
+    let count = method.slots as usize;
+    let mut slots = argument_slots(alloc, count, this, arguments)?;
+    add_empty(
+        &mut slots,
+        count.saturating_sub(1).saturating_sub(arguments.len()),
+    )?;
+    let mut tasks = Stack::new(alloc);
+    tasks.push(Task::Eval(body))?;
+    Ok(Frame {
+        method: number,
+        slots: List::from_vec(slots),
+        stack: Stack::new(alloc),
+        tasks,
+    })
+}
+
+// The first task of a frame and its topmost values go.
+fn finish(frame: &mut Frame, count: usize)
+    ensures { frame.new ≡ after_call count frame.old }
+{
+    let _ = frame.tasks.pop();
+    frame.stack.discard(count);
+}
+
+// The first task of a frame goes, and a value takes the place of the topmost ones.
+#[tactic(auto, using(crate::proofs::Stacked::drop_last))]
+fn place_value(frame: &mut Frame, count: usize, value: Value)
+    requires some { 0 < count }
+    requires enough { count ≤ length frame.old.stack }
+    ensures { frame.new ≡ pushed (after_call count frame.old) value }
+{
+    finish(frame, count - 1);
+    let _ = frame.stack.replace_top(value);
+}
+
+/// The running frame goes on with a value in the place of the topmost ones. It takes no memory.
+pub fn place_top(alloc: Global, frames: &mut Stack<Frame>, count: usize, value: Value)
+    requires running { 0 < length frames.old }
+    requires some { 0 < count }
+    requires enough { IfSome (slice_get frames.old 0) (λ f. count ≤ length f.stack) }
+    ensures { frames.new ≡ given count value frames.old }
+{
+    let mut frame = frames.replace_top(blank(alloc));
+    place_value(&mut frame, count, value);
+    let _ = frames.replace_top(frame);
+}
+
+// The same where the value may take no value's place.
+fn push_value(frame: &mut Frame, count: usize, value: Value) -> Result<(), AllocError>
+    requires { count ≤ length frame.old.stack }
+    ensures ok { OnOk result (frame.new ≡ pushed (after_call count frame.old) value) }
+    ensures err { OnErr result (frame.new ≡ frame.old) }
+{
+    if count > 0 {
+        place_value(frame, count, value);
+    } else {
+        frame.stack.push(value)?;
+        let _ = frame.tasks.pop();
+    }
+    Ok(())
+}
+
+// The running frame goes on with a value.
+fn give(
+    alloc: Global,
+    frames: &mut Stack<Frame>,
+    count: usize,
+    value: Value,
+) -> Result<(), AllocError>
+    requires some { 0 < length frames.old }
+    requires enough { IfSome (slice_get frames.old 0) (λ f. count ≤ length f.stack) }
+    ensures ok { OnOk result (frames.new ≡ given count value frames.old) }
+    ensures err { OnErr result (frames.new ≡ frames.old) }
+{
+    let mut frame = frames.replace_top(blank(alloc));
+    match push_value(&mut frame, count, value) {
+        Ok(()) => {
+            let _ = frames.replace_top(frame);
+            Ok(())
+        }
+        Err(error) => {
+            let _ = frames.replace_top(frame);
+            Err(error)
+        }
+    }
+}
+
+// The running frame goes on below another.
+fn enter(
+    alloc: Global,
+    frames: &mut Stack<Frame>,
+    count: usize,
+    callee: Frame,
+) -> Result<(), AllocError>
+    requires { 0 < length frames.old }
+    ensures ok { OnOk result (frames.new ≡ entered count callee frames.old) }
+    ensures err { OnErr result (frames.new ≡ frames.old) }
+{
+    frames.push(callee)?;
+    let mut caller = frames.replace(1, blank(alloc));
+    finish(&mut caller, count);
+    let _ = frames.replace(1, caller);
+    Ok(())
+}
+
+// A value comes on the stack of a frame.
+fn push_on(frame: &mut Frame, value: Value) -> Result<(), AllocError>
+    ensures ok { OnOk result (frame.new ≡ pushed frame.old value) }
+    ensures err { OnErr result (frame.new ≡ frame.old) }
+{
+    frame.stack.push(value)?;
+    Ok(())
+}
+
+// The running frame ends, and leaves a value to the one below.
+#[tactic(auto, using(pc_caps::specs::Gets::set_back))]
+fn leave(alloc: Global, frames: &mut Stack<Frame>, value: Value) -> Result<(), AllocError>
+    requires { 0 < length frames.old }
+    ensures ok { OnOk result (frames.new ≡ ended (Some value) frames.old) }
+    ensures err { OnErr result (frames.new ≡ frames.old) }
+{
+    if frames.len() == 1 {
+        let _ = frames.pop();
+        return Ok(());
+    }
+    let mut below = frames.replace(1, blank(alloc));
+    match push_on(&mut below, value) {
+        Ok(()) => {
+            let _ = frames.pop();
+            let _ = frames.replace_top(below);
+            Ok(())
+        }
+        Err(error) => {
+            let _ = frames.replace(1, below);
+            Err(error)
+        }
+    }
+}
+
+/// The frames of an actor change. An `Err` leaves them as they were.
+pub fn change_frames(
+    alloc: Global,
+    frames: &mut Stack<Frame>,
+    change: Change,
+) -> Result<(), AllocError>
+    requires some { 0 < length frames.old }
+    requires suits { IfSome (slice_get frames.old 0) (λ f. Suits change (length f.stack)) }
+    ensures ok { OnOk result (frames.new ≡ frames_changed change frames.old) }
+    ensures err { OnErr result (frames.new ≡ frames.old) }
+{
+    match change {
+        Change::Gives { count, value } => give(alloc, frames, count, value),
+        Change::Enters { count, frame } => enter(alloc, frames, count, frame),
+        Change::Leaves(Some(value)) => leave(alloc, frames, value),
+        Change::Leaves(None) => {
+            let _ = frames.pop();
+            Ok(())
+        }
+    }
+}

@@ -1,0 +1,24 @@
+//! The machine that runs a core. What it does is the definition's: where a program begins, each step of an actor, and what
+//! an actor is about to touch are those of `pc_semantics`, exactly.
+#![tactic(auto)]
+
+mod access;
+mod actors;
+mod beginning;
+mod calls;
+mod frames;
+mod inside;
+mod invocations;
+mod lookups;
+mod machine;
+mod moves;
+mod plan;
+mod planning;
+mod returns;
+mod state;
+mod step;
+mod strings;
+mod take;
+
+pub use machine::{Machine, start};
+pub use pc_semantics::{Access, Lack, Outcome};
