@@ -1,4 +1,3 @@
 mod Written
-mod Growing
 mod Stepping
 mod Whole

@@ -26,7 +26,7 @@ use Rattle.pc_run.specs.Counting.{counted}
 use Rattle.pc_run.specs.Ends.{NeverLacks, IsBegun}
 use Rattle.pc_run.specs.Spreading.{spread}
 use Rattle.pc_run.specs.Underway.{Underway, Reached}
-use Rattle.pc_run.proofs.Growing.{Changes, step_changes, few_at_start}
+use Rattle.pc_machine.specs.Growing.{Changes, step_changes, few_at_start}
 
 -- ---- the steps of turns
 

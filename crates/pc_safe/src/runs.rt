@@ -1,0 +1,67 @@
+//! The steps of a list of actors, in a machine whose core has a valid annotation.
+ghost use Rattle.std.specs.Prelude.{◌≡◌, ◌≤◌, length, List as Sequence, ℕ};
+ghost use Rattle.pc_rules.specs.Valid.{Valid};
+ghost use Rattle.pc_semantics.specs.Configurations.{start as beginning};
+ghost use Rattle.pc_semantics.specs.Runs.{after};
+ghost use Rattle.pc_semantics.specs.Safety.{LacksNothing};
+ghost use Rattle.pc_safe.specs.Ends.{RunEnds, list_limit};
+
+use crate::fault::SafeFault;
+use pc_ann::Ann;
+use pc_core::Core;
+use pc_machine::{Machine, Outcome, start};
+use pc_sound::accepted_never_lacks;
+use std::alloc::Global;
+
+/// Runs an accepted core: the steps of these actors, one after the other, from its start. The list has at most 4,000,000
+/// actors.
+///
+/// The promise on every list of actors holds whatever the call answers, and for lists of every length.
+///
+/// # Errors
+/// - `TooLong` exactly where a step of the list would make a text that is too long, with the place of the first such step and
+///   the machine before it.
+/// - `Memory` at want of memory.
+pub fn accepted_runs<'p>(
+    alloc: Global,
+    core: &'p Core,
+    ann: &Ann,
+    actors: &[u32],
+) -> Result<Machine<'p>, SafeFault<'p>>
+    requires valid { Valid core.now ann.now }
+    requires few { length actors.now ≤ list_limit }
+
+    // Over every list of actors, no actor's next step lacks its value, slot, object, field or method.
+    ensures never_lacks { (list : Sequence ℕ) → LacksNothing core.now (after core.now list) }
+
+    // The machine is the one behind this list; or the list meets a text that is too long.
+    ensures ends { RunEnds core.now actors.now result }
+{
+    core.formed();
+    accepted_never_lacks();
+    let _notes = &ann.notes;
+    let machine = start(alloc, core)?;
+    take_steps(machine, actors)
+}
+
+// Takes the steps of a list, in a machine that was just started.
+fn take_steps<'p>(machine: Machine<'p>, actors: &[u32]) -> Result<Machine<'p>, SafeFault<'p>>
+    requires started { machine.configuration ≡ beginning machine.core }
+    requires never_lacks { (list : Sequence ℕ) → LacksNothing machine.core (after machine.core list) }
+    requires few { length actors.now ≤ list_limit }
+    ensures ends { RunEnds machine.entry.core actors.now result }
+{
+    let mut machine = machine;
+    for at in 0..actors.len() {
+        match machine.step(actors[at])? {
+            Outcome::Moved => {}
+            Outcome::Skipped => {}
+            Outcome::TooLong => {
+                let step = at as u64 + 1;
+                return Err(SafeFault::TooLong { step, machine });
+            }
+            Outcome::Lacks(_) => unreachable!(),
+        }
+    }
+    Ok(machine)
+}
