@@ -20,11 +20,11 @@ use std::alloc::Global;
 // The numbers of a run whose steps were taken.
 fn report_of(machine: &Machine<'_>, counts: Counts) -> Report
     ensures { result ≡ record {
-        moved = counts.moved;
-        skipped = counts.skipped;
-        actors = length machine.now.configuration.actors;
-        objects = len machine.now.configuration.objects;
-        waiting = waiting machine.now.configuration;
+      moved = counts.moved;
+      skipped = counts.skipped;
+      actors = length machine.now.configuration.actors;
+      objects = len machine.now.configuration.objects;
+      waiting = waiting machine.now.configuration;
     } }
 {
     Report {

@@ -54,7 +54,9 @@ fn make_summary(alloc: Global, report: Report) -> Result<String, AllocError>
         objects,
         waiting,
     } = report;
-    format!(in alloc; "steps {moved} skipped {skipped} actors {actors} objects {objects} waiting {waiting}\n")
+    format!(in alloc;
+        "steps {moved} skipped {skipped} actors {actors} objects {objects} waiting {waiting}\n"
+    )
 }
 
 /// Writes a run's numbers by one call of `put`.

@@ -16,6 +16,7 @@ returns-in-TooLong-clause-ok c =
     turn_stepped _ _ _ (spread (drop (c.args.at + 1) c.args.turns.now)) _ _ _ _ c.loop-step._step _ _ c.requires.never_lacks c.loop-step.invariant.0 c.loop-step.invariant.1 c.loop-step-test.true c.in_ok-outcome.ensures.ok (TooLong c.in-TooLong.step) c.in-TooLong.ensures
 
 pub loop-step-preserved : goal.loop-step-preserved
-loop-step-preserved c =
-    (c.in_ok-outcome.ensures.core ∙ c.loop-step.invariant.0,
-    turn_stepped _ _ _ (spread (drop (c.args.at + 1) c.args.turns.now)) _ _ _ _ c.loop-step._step _ _ c.requires.never_lacks c.loop-step.invariant.0 c.loop-step.invariant.1 c.loop-step-test.true c.in_ok-outcome.ensures.ok (Going c.in-Going.next) c.in-Going.ensures)
+loop-step-preserved c = (
+  c.in_ok-outcome.ensures.core ∙ c.loop-step.invariant.0,
+  turn_stepped _ _ _ (spread (drop (c.args.at + 1) c.args.turns.now)) _ _ _ _ c.loop-step._step _ _ c.requires.never_lacks c.loop-step.invariant.0 c.loop-step.invariant.1 c.loop-step-test.true c.in_ok-outcome.ensures.ok (Going c.in-Going.next) c.in-Going.ensures,
+)

@@ -24,5 +24,5 @@ returns-in_err-put_piece-clause-wrote g c =
     let within : i < length texts = omega arith in
     let stop = subst (λ t. WriteStops t (change (g.O.Sink.written c.loop-text.out) out.now (g.O.Sink.faults c.loop-text.out) out.faults_now) fault) bytes c.in_err-put_piece.ensures.wrote in
     let all = stops_more _ (lines (drop (i + 1) texts)) out fault
-        (stops_on _ (g.O.Sink.written c.loop-text.out) _ _ (g.O.Sink.faults c.loop-text.out) _ (lines (take i texts)) (text ++ line_end) c.loop-text.invariant.0 c.loop-text.invariant.1 fault stop) in
+    (stops_on _ (g.O.Sink.written c.loop-text.out) _ _ (g.O.Sink.faults c.loop-text.out) _ (lines (take i texts)) (text ++ line_end) c.loop-text.invariant.0 c.loop-text.invariant.1 fault stop) in
     ended_by (lines texts) out fault _ c.from_residual-in_err-put_piece.ensures.1 (subst (λ t. WriteStops t out fault) (lines_next texts i text within c.text-item.is) all)
