@@ -98,14 +98,14 @@ name_place core d name m x formed at is =
       at = get_append (map field_name x.fields) (map method_name (own_methods core x)) (m - x.first_method) ∙ get_map method_name (own_methods core x) (m - x.first_method) y own ∙ ap Some is.3;
     }
 
-same_number : (a b l m n : ℕ) → a ≤ m → a ≤ n → l + (m - a) ≡ l + (n - a) → m ≡ n
-same_number a b l m n p q e = omega (arith, p, q, e)
+same_number : (a l m n : ℕ) → a ≤ m → a ≤ n → l + (m - a) ≡ l + (n - a) → m ≡ n
+same_number a l m n p q e = omega (arith, p, q, e)
 
 one_method : (core : CoreData) (d name m n : ℕ) (x : EntityDef) → Formed core → slice_get core.entities d ≡ Some x → IsMethod core d name m → IsMethod core d name n → m ≡ n
 one_method core d name m n x formed at p q =
     let a = name_place core d name m x formed at p in
     let b = name_place core d name n x formed at q in
-    same_number x.first_method 0 (length (map field_name x.fields)) m n a.low b.low ((formed.entities d x at).names _ _ name a.at b.at)
+    same_number x.first_method (length (map field_name x.fields)) m n a.low b.low ((formed.entities d x at).names _ _ name a.at b.at)
 
 -- The entity's method of the name is the one that is found.
 pub found_is : (core : CoreData) (d name m : ℕ) (x : EntityDef) → Formed core → slice_get core.entities d ≡ Some x → IsMethod core d name m → (o : Option ℕ) → method_named core d name ≡ o → o ≡ Some m

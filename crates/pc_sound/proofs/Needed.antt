@@ -84,18 +84,18 @@ module _ (core : CoreData) (formed : Formed core) where
   slots_fit m f at other = elim (formed.methods m f at).slots [ inl none ↦ absurd (other none) | inr fit ↦ fit ]
 
   -- A slot of the method's own list, among those of the core.
-  own_slot : (m i : ℕ) (f : Method) (y : Slot) → slice_get (own_slots core f) i ≡ Some y → (f.first_slot + i < f.first_slot + f.slots) × (slice_get core.slots (f.first_slot + i) ≡ Some y)
-  own_slot m i f y e = get_range core.slots f.first_slot (f.first_slot + f.slots) i y e
+  own_slot : (i : ℕ) (f : Method) (y : Slot) → slice_get (own_slots core f) i ≡ Some y → (f.first_slot + i < f.first_slot + f.slots) × (slice_get core.slots (f.first_slot + i) ≡ Some y)
+  own_slot i f y e = get_range core.slots f.first_slot (f.first_slot + f.slots) i y e
 
   first_own : (m : ℕ) (f : Method) → slice_get core.methods m ≡ Some f → m ≢ 0 → slice_get core.slots (f.first_slot + 0) ≡ Some (this_slot m f)
   first_own m f at other =
       let fit = slots_fit m f at other in
-      (own_slot m 0 f (this_slot m f) (ap (λ (ys : List Slot). slice_get ys 0) fit.1)).1
+      (own_slot 0 f (this_slot m f) (ap (λ (ys : List Slot). slice_get ys 0) fit.1)).1
 
   param_own : (m i : ℕ) (f : Method) (p : ParamInfo) → slice_get core.methods m ≡ Some f → m ≢ 0 → slice_get f.params i ≡ Some p → slice_get core.slots (f.first_slot + suc i) ≡ Some (param_slot m p)
   param_own m i f p at other e =
       let fit = slots_fit m f at other in
-      (own_slot m (suc i) f (param_slot m p) (ap (λ (ys : List Slot). slice_get ys (suc i)) fit.1 ∙ get_front (map (param_slot m) f.params) fit.0 i (param_slot m p) (get_map (param_slot m) f.params i p e))).1
+      (own_slot (suc i) f (param_slot m p) (ap (λ (ys : List Slot). slice_get ys (suc i)) fit.1 ∙ get_front (map (param_slot m) f.params) fit.0 i (param_slot m p) (get_map (param_slot m) f.params i p e))).1
 
   counted : (l p k : ℕ) → l ≡ suc (p + k) → p < l
   counted l p k e = omega (arith, e)
@@ -110,7 +110,7 @@ module _ (core : CoreData) (formed : Formed core) where
       ap length fit.1 ∙ ap suc (length-append (map (param_slot m) f.params) fit.0 ∙ ap (λ (n : ℕ). n + length fit.0) (length-map f.params (param_slot m)))
       in
       let y = get_within (own_slots core f) (length f.params) (counted (length (own_slots core f)) (length f.params) (length fit.0) total) in
-      fewer f.first_slot (length f.params) f.slots (own_slot m (length f.params) f y.0 y.1).0
+      fewer f.first_slot (length f.params) f.slots (own_slot (length f.params) f y.0 y.1).0
 
   -- A local is not in the slot of `this`.
   not_this : (m s : ℕ) (f : Method) (y : Slot) → slice_get core.methods m ≡ Some f → m ≢ 0 → slice_get core.slots (f.first_slot + s) ≡ Some y → is_local y.kind ≡ true → 0 < s
