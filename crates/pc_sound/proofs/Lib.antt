@@ -34,3 +34,5 @@ pub mod Needed
 pub mod Starts
 pub mod AllTasks
 pub mod Sound
+mod RegionSafe
+mod RegionKept
