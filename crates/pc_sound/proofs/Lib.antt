@@ -36,3 +36,5 @@ pub mod AllTasks
 pub mod Sound
 mod RegionSafe
 mod RegionKept
+mod RegionMade
+mod RegionSteps

@@ -73,7 +73,7 @@ module _ (core : CoreData) (ann : Ann) (w w' : World) (i count : ℕ) (to : Opti
       next = k.next;
     }
 
-    wait_kept : (b m : ℕ) (fs : List Frame) → WaitFits core ann w j b m fs → WaitFits core ann w' j b m fs
+    pub wait_kept : (b m : ℕ) (fs : List Frame) → WaitFits core ann w j b m fs → WaitFits core ann w' j b m fs
     wait_kept b m [] k = k
     wait_kept b m (f ∷ fs) k = (k.0, k.1, awaits_kept (length fs) b k.0 f k.2, wait_kept k.2.holds.base f.method fs k.3)
 
@@ -86,7 +86,7 @@ module _ (core : CoreData) (ann : Ann) (w w' : World) (i count : ℕ) (to : Opti
     top_alias base (e ∷ es) [] a = tt
     top_alias base (e ∷ es) (v ∷ vs) a = subst (λ (k : ℕ). AliasSome w' j base k e.ty v) (sym (o.top j there differ)) (some_alias base (w.top j) e.ty v a)
 
-    frames_kept : (fs : List Frame) → FramesFit core ann w j fs → FramesFit core ann w' j fs
+    pub frames_kept : (fs : List Frame) → FramesFit core ann w j fs → FramesFit core ann w' j fs
     frames_kept [] k = o.top j there differ ∙ k
     frames_kept (f ∷ fs) k =
         (
@@ -109,11 +109,11 @@ module _ (core : CoreData) (ann : Ann) (w w' : World) (i count : ℕ) (to : Opti
   message_kept j t m k x n p v a b c = o.fits (InMail j t n) _ v refl (k x n p v a b c)
 
   -- No message more.
-  mail_kept : (j t : ℕ) (ms : List Message) → w'.sent j ≡ w.sent j → MailFits core w j t ms → MailFits core w' j t ms
+  pub mail_kept : (j t : ℕ) (ms : List Message) → w'.sent j ≡ w.sent j → MailFits core w j t ms → MailFits core w' j t ms
   mail_kept j t [] e k = k ∙ sym e
   mail_kept j t (m ∷ ms) e k = (message_kept j t m k.0, mail_kept j (suc t) ms e k.1)
 
   -- One message more.
-  mail_more : (j t : ℕ) (ms : List Message) (m : Message) → w'.sent j ≡ suc (w.sent j) → MessageFits core w' j (w.sent j) m → MailFits core w j t ms → MailFits core w' j t (ms ++ m ∷ [])
+  pub mail_more : (j t : ℕ) (ms : List Message) (m : Message) → w'.sent j ≡ suc (w.sent j) → MessageFits core w' j (w.sent j) m → MailFits core w j t ms → MailFits core w' j t (ms ++ m ∷ [])
   mail_more j t [] m e new k = (subst (λ (n : ℕ). MessageFits core w' j n m) (sym k) new, ap suc k ∙ sym e)
   mail_more j t (x ∷ ms) m e new k = (message_kept j t x k.0, mail_more j (suc t) ms m e new k.1)

@@ -56,7 +56,7 @@ RegionMoveOk core ann w around fs (Spawns o m f) =
     × MessageFits core w' around.actors 0 m × (w'.sent around.actors ≡ 1) × (w'.top around.actors ≡ 0)
 RegionMoveOk core ann w around fs (Enters g f) = (w' : World) × Turned core ann w w' around.actor around.actors None around.objects around.actors (g ∷ f ∷ fs)
 RegionMoveOk core ann w around fs (Sends j m f) =
-    (w' : World) × Turned core ann w w' around.actor around.actors (Some j) around.objects around.actors (f ∷ fs) × MessageFits core w' j (w.sent j) m
+    (j < around.actors) × (w' : World) × Turned core ann w w' around.actor around.actors (Some j) around.objects around.actors (f ∷ fs) × MessageFits core w' j (w.sent j) m
 RegionMoveOk core ann w around fs (Leaves v) = (w' : World) × Turned core ann w w' around.actor around.actors None around.objects around.actors (left v fs)
 
 -- A frame that runs with these tasks, the frames below it, and the world in which their values fit.
