@@ -38,3 +38,4 @@ mod RegionSafe
 mod RegionKept
 mod RegionMade
 mod RegionSteps
+mod RegionAccess

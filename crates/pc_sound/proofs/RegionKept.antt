@@ -48,7 +48,8 @@ module _ (core : CoreData) (ann : Ann) (w w' : World) (i count : ℕ) (to : Opti
       base = k.base;
       live = k.live;
       entries = k.entries;
-      slots_fit = λ s l v e y is. o.fits (InSlot j h s (k.base + y.0.depth)) _ v another (k.slots_fit s l v e y is);
+      this_fits = λ x v e is. o.fits (InSlot j h 0 k.base) _ v another (k.this_fits x v e is);
+      slots_fit = λ s more l v e y is. o.fits (InSlot j h s (k.base + y.0.depth)) _ v another (k.slots_fit s more l v e y is);
       stack_fit = stack_fits h k.base k.entries stack k.stack_fit;
     }
 

@@ -30,10 +30,15 @@ use Rattle.pc_sound.specs.RegionTasks.{Entry, Shallow, Below, Ascent, Climbs, to
 
 -- ---- one frame, of actor i, with h frames below it
 
--- The slot of `this` and each live slot hold what fits the slot's capability, at the level of the slot's depth.
+-- The slot of `this` holds what fits the method's receiver, at the level at which the frame began.
+abbrev pub ThisFits : CoreData → World → ℕ → ℕ → ℕ → ℕ → List (Option Value) → Type 0
+ThisFits core w i h m base slots =
+    (x : Method) (v : Value) → slice_get core.methods m ≡ Some x → slice_get slots 0 ≡ Some (Some v) → Fits w (InSlot i h 0 base) (unalias x.receiver) v
+
+-- Each other live slot holds what fits the slot's capability, at the level of the slot's depth.
 abbrev pub SlotsFit : CoreData → Ann → World → ℕ → ℕ → ℕ → ℕ → Mask → List (Option Value) → Type 0
 SlotsFit core ann w i h m base live slots =
-    (s : ℕ) → (s ≡ 0) ⊎ IsIn live s → (v : Value) → slice_get slots s ≡ Some (Some v) → (y : Slot × (ℕ × Cap)) → slot_of core ann m s ≡ Some y
+    (s : ℕ) → 0 < s → IsIn live s → (v : Value) → slice_get slots s ≡ Some (Some v) → (y : Slot × (ℕ × Cap)) → slot_of core ann m s ≡ Some y
     → Fits w (InSlot i h s (base + y.0.depth)) (unalias y.1.1) v
 
 abbrev pub StackFits : World → ℕ → ℕ → ℕ → List Entry → List Value → Type 0
@@ -46,6 +51,7 @@ pub record Holds (core : CoreData) (ann : Ann) (w : World) (i h m : ℕ) (slots 
   pub base : ℕ
   pub live : Mask
   pub entries : List Entry
+  pub this_fits : ThisFits core w i h m base slots
   pub slots_fit : SlotsFit core ann w i h m base live slots
   pub stack_fit : StackFits w i h base entries stack
 
