@@ -39,3 +39,4 @@ mod RegionKept
 mod RegionMade
 mod RegionSteps
 mod RegionAccess
+mod RegionQuiet

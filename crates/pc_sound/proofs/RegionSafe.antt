@@ -154,6 +154,13 @@ no_race core w c ok r = no_clash w r.i r.j r.one r.other (ok r.i r.one r.accesse
 
 -- ---- waiting messages
 
+pub address_is : (v : Value) (a : Address) → address_of v ≡ Some a → v ≡ At a
+address_is (At b) a e = ap At (same_Some b a e)
+address_is (Num n) a e = absurd (none-some a e)
+address_is (Truth b) a e = absurd (none-some a e)
+address_is (Text t) a e = absurd (none-some a e)
+address_is (Prim p) a e = absurd (none-some a e)
+
 module _ (core : CoreData) (w : World) (c : Configuration) (ok : AccessesOk core w c) where
   mail_untouched : (i j t k : ℕ) (x : Access) → w.stands (w.region x.address) ≡ Held (InMail j t k) → AccessOk w i x → ⊥
   mail_untouched i j t k x e (inl b) = mail_is_none's w (w.region x.address) i j t k e b
@@ -162,13 +169,6 @@ module _ (core : CoreData) (w : World) (c : Configuration) (ok : AccessesOk core
   ice_unwritten : (i : ℕ) (x : Access) → Frozen w (w.region x.address) → x.write ≡ true → AccessOk w i x → ⊥
   ice_unwritten i x f t (inl b) = not_frozen w b f
   ice_unwritten i x f t (inr d) = false_true (sym d.0 ∙ t)
-
-  address_is : (v : Value) (a : Address) → address_of v ≡ Some a → v ≡ At a
-  address_is (At b) a e = ap At (same_Some b a e)
-  address_is (Num n) a e = absurd (none-some a e)
-  address_is (Truth b) a e = absurd (none-some a e)
-  address_is (Text t) a e = absurd (none-some a e)
-  address_is (Prim p) a e = absurd (none-some a e)
 
   -- What is in a message is let alone.
   pub let_alone : (p : ParamInfo) (v : Value) (j t k : ℕ) → Fits w (InMail j t k) (unalias p.cap) v → LetAlone core c p v
