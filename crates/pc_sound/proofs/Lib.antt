@@ -40,3 +40,5 @@ mod RegionMade
 mod RegionSteps
 mod RegionAccess
 mod RegionQuiet
+mod RegionStart
+mod RegionAll

@@ -2,7 +2,14 @@
 use Rattle.std.specs.Prelude.{◌≡◌, ◌⊎◌, ℕ, Bool, true, false, List, [], ◌∷◌, length, Option, Some, None, slice_get, refl, suc, zero}
 use Rattle.std.proofs.Common.{inl, inr, ap, sym, subst, ◌∙◌}
 use Rattle.std.proofs.lemmas.Option.{same_Some, none-some}
-use Rattle.pc_heap.specs.Objects.{class_at}
+use Rattle.pc_heap.specs.Objects.{ObjectMap, class_at}
+use Rattle.pc_caps.specs.declared.capability.Form.{Form}
+use Rattle.pc_core.specs.declared.declarations.MethodKind.{MethodKind}
+use Rattle.pc_core.specs.declared.declarations.MethodKind.TheVariants as method
+use Rattle.pc_core.specs.declared.declarations.ParamInfo.{ParamInfo}
+use Rattle.pc_sub.specs.Declarations.{takes_sendable}
+use Rattle.pc_semantics.specs.declared.mailbox.Message.{Message}
+use Rattle.pc_sound.specs.Types.{ArgumentsOk}
 use Rattle.pc_heap.specs.declared.value.Address.{Address}
 use Rattle.pc_heap.specs.declared.value.Value.{Value}
 use Rattle.pc_heap.specs.declared.value.Value.TheVariants.{At}
@@ -17,17 +24,17 @@ use Rattle.pc_semantics.specs.declared.frames.Frame.{Frame}
 use Rattle.pc_semantics.specs.declared.frames.Task.{Task}
 use Rattle.pc_semantics.specs.declared.frames.Task.TheVariants as task
 use Rattle.pc_semantics.specs.Configurations.{Configuration}
-use Rattle.pc_semantics.specs.Safety.{address_of, name_read, name_written, touched_name, access_of, access}
+use Rattle.pc_semantics.specs.Safety.{address_of, name_read, name_written, touched_name, access_of, access, Race, Quiet}
 use Rattle.pc_semantics.specs.Step.{around}
 use Rattle.pc_sound.specs.Tasks.{TasksOk}
 use Rattle.pc_sound.specs.Frames.{FramesOk}
-use Rattle.pc_sound.specs.Typed.{WellTyped, ActorOk}
+use Rattle.pc_sound.specs.Typed.{MessageOk, MailOk, FirstMailOk, WellTyped, ActorOk}
 use Rattle.pc_sound.specs.RegionWorld.{World, Belongs, Frozen}
 use Rattle.pc_sound.specs.RegionTasks.{TasksRise, uses_top}
-use Rattle.pc_sound.specs.RegionFrames.{TopAlias, FramesFit, InRegions}
+use Rattle.pc_sound.specs.RegionFrames.{TopAlias, FramesFit, MessageFits, MailFits, InRegions}
 use Rattle.pc_sound.specs.RegionMoves.{Situated}
 use Rattle.pc_sound.proofs.Needs.{Needs}
-use Rattle.pc_sound.proofs.RegionSafe.{AccessOk, AccessesOk, address_is}
+use Rattle.pc_sound.proofs.RegionSafe.{AccessOk, AccessesOk, address_is, no_race, let_alone}
 use Rattle.pc_sound.proofs.RegionAccess.{get_access, put_access}
 
 -- A list with a first value.
@@ -103,3 +110,56 @@ accesses_ok core ann needs c typed w g i x e =
     let n = bind_some (touched_name core t.0) _ x t.2 in
     let fs = first_is a.0.frames f.0 f.1 in
     frame_access core ann needs c typed w g i a.0 a.1 f.0 fs.0 fs.1 (typed.actors i a.0 a.1) (g.actors i a.0 a.1).1 t.0 t.1 n.0 n.1 x n.2
+
+-- ---- waiting messages
+
+arguments_count : (core : CoreData) (objects : ObjectMap) (vs : List Value) (ps : List ParamInfo) → ArgumentsOk core objects vs ps → length ps ≡ length vs
+arguments_count core objects [] [] k = refl
+arguments_count core objects [] (p ∷ ps) k = absurd k
+arguments_count core objects (v ∷ vs) [] k = absurd k
+arguments_count core objects (v ∷ vs) (p ∷ ps) k = ap suc (arguments_count core objects vs ps k.1)
+
+-- A method whose messages wait.
+abbrev Waiting : MethodKind → Type 0
+Waiting k = (k ≡ method.Be) ⊎ (k ≡ method.Spawn)
+
+mail_at : (core : CoreData) (objects : ObjectMap) (j : ℕ) (ms : List Message) → MailOk core objects j ms → (k : ℕ) (m : Message) → slice_get ms k ≡ Some m → MessageOk core objects j method.Be m
+mail_at core objects j [] ok k m e = absurd (none-some m e)
+mail_at core objects j (x ∷ ms) ok zero m e = subst (MessageOk core objects j method.Be) (same_Some x m e) ok.0
+mail_at core objects j (x ∷ ms) ok (suc k) m e = mail_at core objects j ms ok.1 k m e
+
+first_mail_at : (core : CoreData) (objects : ObjectMap) (j : ℕ) (ms : List Message) → FirstMailOk core objects j ms → (k : ℕ) (m : Message) → slice_get ms k ≡ Some m → (q : MethodKind) × Waiting q × MessageOk core objects j q m
+first_mail_at core objects j [] ok k m e = absurd ok
+first_mail_at core objects j (x ∷ ms) ok zero m e = (method.Spawn, inr refl, subst (MessageOk core objects j method.Spawn) (same_Some x m e) ok.0)
+first_mail_at core objects j (x ∷ ms) ok (suc k) m e = (method.Be, inl refl, mail_at core objects j ms ok.1 k m e)
+
+any_mail_at : (core : CoreData) (ann : Ann) (objects : ObjectMap) (j : ℕ) (a : Actor) → ActorOk core ann objects j a → (k : ℕ) (m : Message) → slice_get a.mailbox k ≡ Some m → (q : MethodKind) × Waiting q × MessageOk core objects j q m
+any_mail_at core ann objects j a (inl ok) k m e = first_mail_at core objects j a.mailbox ok.1 k m e
+any_mail_at core ann objects j a (inr ok) k m e = (method.Be, inl refl, mail_at core objects j a.mailbox ok.1 k m e)
+
+mail_fits_at : (core : CoreData) (w : World) (j t : ℕ) (ms : List Message) → MailFits core w j t ms → (k : ℕ) (m : Message) → slice_get ms k ≡ Some m → (u : ℕ) × MessageFits core w j u m
+mail_fits_at core w j t [] f k m e = absurd (none-some m e)
+mail_fits_at core w j t (x ∷ ms) f zero m e = (t, subst (MessageFits core w j t) (same_Some x m e) f.0)
+mail_fits_at core w j t (x ∷ ms) f (suc k) m e = mail_fits_at core w j (suc t) ms f.1 k m e
+
+takes_it : (k : MethodKind) (f : Form) → Waiting k → takes_sendable k f ≡ true
+takes_it k f (inl e) = ap (λ (q : MethodKind). takes_sendable q f) e
+takes_it k f (inr e) = ap (λ (q : MethodKind). takes_sendable q f) e
+
+module _ (core : CoreData) (ann : Ann) (needs : Needs core ann) (c : Configuration) (typed : WellTyped core ann c) (w : World) (g : InRegions core ann w c) where
+  -- What waits is let alone.
+  pub quiet : Quiet core c
+  quiet j a is k m at =
+      let ok = any_mail_at core ann c.objects j a (typed.actors j a is) k m at in
+      let fit = mail_fits_at core w j (g.actors j a is).0.0 a.mailbox (g.actors j a is).0.1 k m at in
+      record {
+        method = ok.2.own;
+        is_method = ok.2.is_own;
+        own = ok.2.home;
+        count = arguments_count core c.objects m.arguments ok.2.own.params ok.2.arguments;
+        sendable = needs.valid.declarations.sendable m.method ok.2.own ok.2.is_own (takes_it ok.2.own.kind ok.2.own.result.1 (elim ok.1 [ inl b ↦ inl (ok.2.kind ∙ b) | inr s ↦ inr (ok.2.kind ∙ s) ]));
+        arguments = λ n p v e h. let_alone core w c (accesses_ok core ann needs c typed w g) p v j fit.0 n (fit.1 ok.2.own n p v ok.2.is_own e h);
+      }
+
+  pub races_not : Race core c → ⊥
+  races_not = no_race core w c (accesses_ok core ann needs c typed w g)

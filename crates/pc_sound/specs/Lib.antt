@@ -7,4 +7,6 @@ pub mod RegionWorld
 pub mod RegionTasks
 pub mod RegionFrames
 pub mod RegionMoves
+pub mod RegionPlaces
+pub mod RegionLaws
 pub mod Laws
