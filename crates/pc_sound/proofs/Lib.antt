@@ -42,3 +42,4 @@ mod RegionAccess
 mod RegionQuiet
 mod RegionStart
 mod RegionAll
+mod RegionStands

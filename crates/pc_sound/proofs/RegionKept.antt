@@ -78,14 +78,14 @@ module _ (core : CoreData) (ann : Ann) (w w' : World) (i count : ℕ) (to : Opti
     wait_kept b m [] k = k
     wait_kept b m (f ∷ fs) k = (k.0, k.1, awaits_kept (length fs) b k.0 f k.2, wait_kept k.2.holds.base f.method fs k.3)
 
-    some_alias : (b k : ℕ) (t : Option Ty) (v : Value) → AliasSome w j b k t v → AliasSome w' j b k t v
-    some_alias b k None v a = tt
-    some_alias b k (Some t) v a = o.alias j b k t.1 v there differ a
+    some_alias : (b : ℕ) (t : Option Ty) (v : Value) → AliasSome w j b (w.top j) t v → AliasSome w' j b (w.top j) t v
+    some_alias b None v a = tt
+    some_alias b (Some t) v a = o.alias j b t.1 v there differ a
 
     top_alias : (base : ℕ) (es : List Entry) (vs : List Value) → TopAlias w j base es vs → TopAlias w' j base es vs
     top_alias base [] vs a = tt
     top_alias base (e ∷ es) [] a = tt
-    top_alias base (e ∷ es) (v ∷ vs) a = subst (λ (k : ℕ). AliasSome w' j base k e.ty v) (sym (o.top j there differ)) (some_alias base (w.top j) e.ty v a)
+    top_alias base (e ∷ es) (v ∷ vs) a = subst (λ (k : ℕ). AliasSome w' j base k e.ty v) (sym (o.top j there differ)) (some_alias base e.ty v a)
 
     pub frames_kept : (fs : List Frame) → FramesFit core ann w j fs → FramesFit core ann w' j fs
     frames_kept [] k = o.top j there differ ∙ k

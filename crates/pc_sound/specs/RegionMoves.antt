@@ -34,7 +34,7 @@ pub record Others (w w' : World) (i count : ℕ) (to : Option ℕ) : Type 0 wher
   pub sent : (j : ℕ) → j < count → w'.sent j ≡ w.sent j + one_more to j
   pub top : (j : ℕ) → j < count → i ≢ j → w'.top j ≡ w.top j
   pub opened : (j l : ℕ) → j < count → i ≢ j → w.stands (w.context j l) ≡ Opened j → w'.stands (w'.context j l) ≡ Opened j
-  pub alias : (j b k : ℕ) (f : Form) (v : Value) → j < count → i ≢ j → Alias w j b k f v → Alias w' j b k f v
+  pub alias : (j b : ℕ) (f : Form) (v : Value) → j < count → i ≢ j → Alias w j b (w.top j) f v → Alias w' j b (w.top j) f v
 
 -- A world has become another, which fits these objects, this many actors, and these frames of actor i.
 pub record Turned (core : CoreData) (ann : Ann) (w w' : World) (i count : ℕ) (to : Option ℕ) (objects : ObjectMap) (actors : ℕ) (fs : List Frame) : Type 0 where
