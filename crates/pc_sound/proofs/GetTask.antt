@@ -1,12 +1,10 @@
 -- The task Get: a field is read.
-use Rattle.std.specs.Prelude.{◌≡◌, ℕ, Bool, true, false, List, [], ◌∷◌, length, Option, Some, None, slice_get, refl}
+use Rattle.std.specs.Prelude.{◌≡◌, ℕ, true, List, [], ◌∷◌, length, Option, Some, slice_get, refl}
 use Rattle.std.proofs.Common.{inl, ap, sym, subst, ◌∙◌, arith}
 use Rattle.std.proofs.lemmas.Option.{same_Some, none-some}
-use Rattle.std.specs.FinMap.{get}
 use Rattle.pc_heap.specs.declared.value.Object.{Object}
 use Rattle.pc_heap.specs.declared.value.Value.{Value}
-use Rattle.pc_heap.specs.declared.value.Value.TheVariants.{At}
-use Rattle.pc_caps.specs.Tables.{plain, view}
+use Rattle.pc_caps.specs.Tables.{view}
 use Rattle.pc_caps.specs.declared.capability.Form.{Form}
 use Rattle.pc_caps.specs.declared.capability.Form.TheVariants as form
 use Rattle.pc_core.specs.declared.declarations.FieldInfo.{FieldInfo}
@@ -18,23 +16,21 @@ use Rattle.pc_core.specs.CoreData.{CoreData}
 use Rattle.pc_core.specs.Words.{◌>>=◌}
 use Rattle.pc_core.specs.Members.{bind_some}
 use Rattle.pc_core.specs.Nodes.{HasArity}
-use Rattle.pc_ann.specs.declared.mask.Mask.{Mask}
 use Rattle.pc_ann.specs.declared.annotation.Note.{Note}
 use Rattle.pc_ann.specs.declared.annotation.Ann.{Ann}
 use Rattle.pc_ann.specs.declared.annotation.Rule.{Rule}
 use Rattle.pc_ann.specs.declared.annotation.Rule.TheVariants as rule
-use Rattle.pc_ann.specs.Masks.{IsIn, has}
+use Rattle.pc_ann.specs.Masks.{has}
 use Rattle.pc_semantics.specs.declared.frames.Frame.{Frame}
 use Rattle.pc_semantics.specs.declared.frames.Task.TheVariants as task
 use Rattle.pc_semantics.specs.Around.{Around, Goes, with_stack, pushed}
 use Rattle.pc_semantics.specs.Fields.{get_value, get_field, get_of, get_from, get_task}
-use Rattle.pc_rules.specs.declared.said.Said.{Said}
 use Rattle.pc_rules.specs.Parts.{Ty, Masks, says_of, before, through, type_of, one_child, last_child, constructs}
 use Rattle.pc_rules.specs.Fields.{is_this, field_of, own_field, field_type, incomplete, read_says, own_read_says}
 use Rattle.pc_rules.specs.Alike.{own_seen}
 use Rattle.pc_rules.specs.Rules.{says, said_by}
 use Rattle.pc_rules.specs.Threads.{kept, kept_otherwise, false_true}
-use Rattle.pc_sound.specs.Types.{sees, Finished, OfType, OfSome, LowerType, Answers, StackOk}
+use Rattle.pc_sound.specs.Types.{OfType, Answers, StackOk}
 use Rattle.pc_sound.specs.Tasks.{want_of, reads, FinishOk, TasksOk}
 use Rattle.pc_sound.specs.Frames.{HasFields}
 use Rattle.pc_sound.specs.Typed as typed

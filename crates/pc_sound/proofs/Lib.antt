@@ -35,6 +35,7 @@ pub mod Starts
 pub mod AllTasks
 pub mod Sound
 mod RegionSafe
+mod RegionBelow
 mod RegionKept
 mod RegionMade
 mod RegionSteps
@@ -43,3 +44,4 @@ mod RegionQuiet
 mod RegionStart
 mod RegionAll
 mod RegionStands
+mod RegionShifts

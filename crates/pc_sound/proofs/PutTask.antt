@@ -1,17 +1,16 @@
 -- The task Put: a field is written.
-use Rattle.std.specs.Prelude.{◌≡◌, ◌≢◌, ◌⊎◌, ℕ, ◌<◌, Bool, true, false, ◌&&◌, ◌||◌, not, cond, List, [], ◌∷◌, length, Option, Some, None, slice_get, slice_set, refl}
-use Rattle.std.proofs.Common.{inl, inr, ap, sym, subst, ◌∙◌, arith}
+use Rattle.std.specs.Prelude.{◌≡◌, ◌⊎◌, ℕ, Bool, true, false, ◌&&◌, ◌||◌, not, cond, List, [], ◌∷◌, Option, Some, None, slice_get, slice_set, refl}
+use Rattle.std.proofs.Common.{inl, inr, ap, sym, subst, ◌∙◌}
 use Rattle.std.proofs.lemmas.Option.{same_Some, none-some}
 use Rattle.std.proofs.lemmas.Bool.{and_parts}
 use Rattle.std.proofs.lemmas.Bool.Decides.{eqb_tells}
 use Rattle.std.specs.FinMap.{get}
 use Rattle.pc_heap.specs.Objects.{ObjectMap, with_field, with_value}
-use Rattle.pc_heap.specs.declared.value.Address.{Address}
 use Rattle.pc_heap.specs.declared.value.Object.{Object}
 use Rattle.pc_heap.specs.declared.value.Value.{Value}
 use Rattle.pc_heap.specs.declared.value.Value.TheVariants.{At}
 use Rattle.pc_caps.specs.Gets.{get_within, get_set_same, get_set_other}
-use Rattle.pc_caps.specs.Tables.{plain, taken, may_write}
+use Rattle.pc_caps.specs.Tables.{taken, may_write}
 use Rattle.pc_caps.specs.declared.capability.Form.{Form}
 use Rattle.pc_caps.specs.declared.capability.Form.TheVariants as form
 use Rattle.pc_core.specs.declared.declarations.FieldInfo.{FieldInfo}
@@ -40,19 +39,19 @@ use Rattle.pc_rules.specs.Threads.{kept, kept_otherwise, false_true}
 use Rattle.pc_sound.specs.Types.{OfType, OfSome, Answers, StackOk}
 use Rattle.pc_sound.specs.Tasks as tasks
 use Rattle.pc_sound.specs.Tasks.{Within, want_of, FinishOk, TasksOk}
-use Rattle.pc_sound.specs.Frames.{HasFields, ThisOk, FramesOk}
+use Rattle.pc_sound.specs.Frames.{HasFields, ThisOk}
 use Rattle.pc_sound.specs.Typed as typed
-use Rattle.pc_sound.specs.Moves.{WriteOk, MoveOk, Runs}
+use Rattle.pc_sound.specs.Moves.{MoveOk, Runs}
 use Rattle.pc_sound.proofs.Needs.{Needs}
 use Rattle.pc_sound.proofs.Basic.{within_trans, of_lower, some_lower}
-use Rattle.pc_sound.proofs.Growth.{Extends, this_kept, slots_kept, stack_kept, wait_kept, some_kept}
+use Rattle.pc_sound.proofs.Growth.{Extends, this_kept, slots_kept, stack_kept, wait_kept}
 use Rattle.pc_sound.proofs.Heaps.{get_here, written, write_extends}
 use Rattle.pc_sound.proofs.Tables.{taken_sees, taken_plain}
 use Rattle.pc_sound.proofs.Steps.{Keeps}
 use Rattle.pc_sound.proofs.Running.{fewer_slots, fewer_set, go_in}
-use Rattle.pc_sound.proofs.Inverse.{pair_is, TwoTypes, types_are, Says, said_as, said_type}
+use Rattle.pc_sound.proofs.Inverse.{pair_is, types_are, Says, said_as, said_type}
 use Rattle.pc_sound.proofs.Origins.{FieldAt, field_at, Origin, origin_of, origin_at, value_there, set_value, OwnOrigin, own_origin}
-use Rattle.pc_sound.proofs.Finish.{TwoTops, two_tops, by_tops, own_is, rule_is, at_this, typed_at}
+use Rattle.pc_sound.proofs.Finish.{two_tops, by_tops, own_is, rule_is, at_this, typed_at}
 use Rattle.pc_sound.proofs.StoreTask.{goes_lower}
 
 -- ---- what the rules say

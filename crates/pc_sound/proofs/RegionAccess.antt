@@ -1,5 +1,5 @@
 -- In a configuration that is well typed and has regions, each access is on an object of the actor, or reads a frozen one.
-use Rattle.std.specs.Prelude.{◌≡◌, ◌⊎◌, ℕ, zero, suc, ◌+◌, ◌<◌, ◌≤◌, Bool, true, false, List, [], ◌∷◌, length, Option, Some, None, slice_get, refl}
+use Rattle.std.specs.Prelude.{◌≡◌, ◌⊎◌, ℕ, ◌+◌, ◌<◌, true, List, [], ◌∷◌, length, Option, Some, slice_get, refl}
 use Rattle.std.proofs.Common.{inl, inr, ap, sym, subst, ◌∙◌, arith}
 use Rattle.std.proofs.lemmas.Option.{same_Some, none-some}
 use Rattle.pc_heap.specs.Objects.{ObjectMap}
@@ -34,7 +34,7 @@ use Rattle.pc_rules.specs.Threads.{kept, kept_otherwise, false_true}
 use Rattle.pc_sound.specs.Types.{Want, StackOk}
 use Rattle.pc_sound.specs.Tasks.{want_of, stacked, reads, writes, TasksOk}
 use Rattle.pc_sound.specs.Moves.{Runs}
-use Rattle.pc_sound.specs.RegionWorld.{Place, InSlot, OnStack, Child, World, Frozen, ice, Belongs, stack, child, Seen, Over, FitsIn, Fits, FitsSome, AliasIn, Alias, AliasSome, WorldOk}
+use Rattle.pc_sound.specs.RegionWorld.{Place, InSlot, OnStack, World, Frozen, Belongs, stack, child, FitsIn, Fits, FitsSome, AliasIn, Alias, AliasSome, WorldOk}
 use Rattle.pc_sound.specs.RegionTasks.{Entry, piled, uses_top}
 use Rattle.pc_sound.specs.RegionFrames.{StackFits, TopAlias}
 use Rattle.pc_sound.specs.RegionMoves.{Situated}

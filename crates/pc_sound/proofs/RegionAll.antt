@@ -1,11 +1,7 @@
 -- From what each task keeps in regions to the safety of every valid core.
-use Rattle.std.specs.Prelude.{ℕ, List}
-use Rattle.pc_core.specs.CoreData.{CoreData}
-use Rattle.pc_ann.specs.declared.annotation.Ann.{Ann}
 use Rattle.pc_semantics.specs.declared.frames.Task.{Task}
-use Rattle.pc_semantics.specs.Configurations.{Configuration, start}
+use Rattle.pc_semantics.specs.Configurations.{start}
 use Rattle.pc_semantics.specs.Runs.{after}
-use Rattle.pc_semantics.specs.Safety.{SafeAt}
 use Rattle.pc_sound.specs.Typed.{WellTyped}
 use Rattle.pc_sound.specs.RegionFrames.{HasRegions}
 use Rattle.pc_sound.specs.RegionLaws.{ValidIsSafe}

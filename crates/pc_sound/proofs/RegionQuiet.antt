@@ -1,5 +1,5 @@
 -- A configuration that is well typed and has regions is safe but for what steps lack.
-use Rattle.std.specs.Prelude.{◌≡◌, ◌⊎◌, ℕ, Bool, true, false, List, [], ◌∷◌, length, Option, Some, None, slice_get, refl, suc, zero}
+use Rattle.std.specs.Prelude.{◌≡◌, ◌⊎◌, ℕ, Bool, true, false, List, [], ◌∷◌, length, Some, slice_get, refl, suc, zero}
 use Rattle.std.proofs.Common.{inl, inr, ap, sym, subst, ◌∙◌}
 use Rattle.std.proofs.lemmas.Option.{same_Some, none-some}
 use Rattle.pc_heap.specs.Objects.{ObjectMap, class_at}
@@ -10,7 +10,6 @@ use Rattle.pc_core.specs.declared.declarations.ParamInfo.{ParamInfo}
 use Rattle.pc_sub.specs.Declarations.{takes_sendable}
 use Rattle.pc_semantics.specs.declared.mailbox.Message.{Message}
 use Rattle.pc_sound.specs.Types.{ArgumentsOk}
-use Rattle.pc_heap.specs.declared.value.Address.{Address}
 use Rattle.pc_heap.specs.declared.value.Value.{Value}
 use Rattle.pc_heap.specs.declared.value.Value.TheVariants.{At}
 use Rattle.pc_caps.specs.Gets.{get_below}
@@ -24,12 +23,12 @@ use Rattle.pc_semantics.specs.declared.frames.Frame.{Frame}
 use Rattle.pc_semantics.specs.declared.frames.Task.{Task}
 use Rattle.pc_semantics.specs.declared.frames.Task.TheVariants as task
 use Rattle.pc_semantics.specs.Configurations.{Configuration}
-use Rattle.pc_semantics.specs.Safety.{address_of, name_read, name_written, touched_name, access_of, access, Race, Quiet}
+use Rattle.pc_semantics.specs.Safety.{address_of, name_read, touched_name, access_of, Race, Quiet}
 use Rattle.pc_semantics.specs.Step.{around}
 use Rattle.pc_sound.specs.Tasks.{TasksOk}
 use Rattle.pc_sound.specs.Frames.{FramesOk}
 use Rattle.pc_sound.specs.Typed.{MessageOk, MailOk, FirstMailOk, WellTyped, ActorOk}
-use Rattle.pc_sound.specs.RegionWorld.{World, Belongs, Frozen}
+use Rattle.pc_sound.specs.RegionWorld.{World}
 use Rattle.pc_sound.specs.RegionTasks.{TasksRise, uses_top}
 use Rattle.pc_sound.specs.RegionFrames.{TopAlias, FramesFit, MessageFits, MailFits, InRegions}
 use Rattle.pc_sound.specs.RegionMoves.{Situated}

@@ -1,5 +1,5 @@
 -- One region stands otherwise: what an actor holds at a place that it leaves is held at another, is frozen, or is loose.
-use Rattle.std.specs.Prelude.{◌≡◌, ◌≢◌, ◌⊎◌, ℕ, suc, ◌+◌, ◌<◌, ◌≤◌, Bool, true, false, cond, Option, Some, None, nat_eq, refl}
+use Rattle.std.specs.Prelude.{◌≡◌, ◌≢◌, ◌⊎◌, ℕ, ◌<◌, ◌≤◌, Bool, true, false, cond, Option, Some, None, refl}
 use Rattle.std.specs.FinMap.{get}
 use Rattle.std.proofs.Common.{inl, inr, ap, sym, subst, ◌∙◌, arith}
 use Rattle.std.proofs.lemmas.Bool.{eq-eqb, ne_eqb, cases_eq, cases_lt}

@@ -1,8 +1,8 @@
 -- Where a program begins has regions: the stream's and Main's are open, and the environment is frozen.
-use Rattle.std.specs.Prelude.{◌≡◌, ◌⊎◌, ℕ, zero, suc, ◌<◌, ◌≤◌, Bool, true, false, List, [], ◌∷◌, length, Option, Some, None, nat_eq, cond, slice_get, refl}
+use Rattle.std.specs.Prelude.{◌≡◌, ℕ, zero, suc, ◌<◌, ◌≤◌, Bool, true, false, List, [], ◌∷◌, Option, Some, None, nat_eq, cond, slice_get, refl}
 use Rattle.std.proofs.Common.{inl, inr, ap, sym, subst, ◌∙◌, arith}
 use Rattle.std.proofs.lemmas.Option.{same_Some, none-some}
-use Rattle.std.specs.FinMap.{empty, get, insert, get-empty}
+use Rattle.std.specs.FinMap.{empty, get-empty}
 use Rattle.pc_heap.specs.Objects.{address_cmp, ObjectMap}
 use Rattle.pc_heap.specs.declared.value.Address.{Address}
 use Rattle.pc_heap.specs.declared.value.Object.{Object}
@@ -21,10 +21,9 @@ use Rattle.pc_core.specs.Entities.{out_field}
 use Rattle.pc_core.specs.Formed.{Formed}
 use Rattle.pc_ann.specs.declared.annotation.Ann.{Ann}
 use Rattle.pc_semantics.specs.declared.actors.Actor.{Actor}
-use Rattle.pc_semantics.specs.declared.mailbox.Message.{Message}
 use Rattle.pc_semantics.specs.Configurations.{own_address, fields_in, blank_object, environment, environment_address, start_of, start}
-use Rattle.pc_sound.specs.RegionWorld.{Place, InField, InMail, Standing, Unused, Froze, Opened, Held, Child, World, Frozen, ice, Fits, WorldOk}
-use Rattle.pc_sound.specs.RegionFrames.{FieldsFit, MessageFits, ActorFits, InRegions, HasRegions}
+use Rattle.pc_sound.specs.RegionWorld.{Place, InField, InMail, Standing, Unused, Froze, Opened, Held, Child, World, ice, Fits, WorldOk}
+use Rattle.pc_sound.specs.RegionFrames.{FieldsFit, MessageFits, ActorFits, HasRegions}
 use Rattle.pc_sound.proofs.Heaps.{put_or_before}
 use Rattle.pc_sound.proofs.Made.{no_value}
 use Rattle.pc_sound.proofs.Starts.{with_stream, with_environment, with_main, env_is, main_found}

@@ -1,5 +1,5 @@
 -- From what each task keeps to every schedule: a configuration that is well typed and has regions leads to one by every step.
-use Rattle.std.specs.Prelude.{◌≡◌, ◌⊎◌, ℕ, ◌<◌, true, List, [], ◌∷◌, length, Option, Some, None, slice_get, refl}
+use Rattle.std.specs.Prelude.{◌≡◌, ℕ, true, List, [], ◌∷◌, Option, Some, None, slice_get, refl}
 use Rattle.std.proofs.Common.{inl, inr, sym, subst, ◌∙◌}
 use Rattle.pc_caps.specs.Gets.{get_below}
 use Rattle.pc_core.specs.CoreData.{CoreData}

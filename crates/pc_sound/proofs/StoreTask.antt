@@ -1,12 +1,12 @@
 -- The task Store: a definition or an assignment of a slot.
-use Rattle.std.specs.Prelude.{◌≡◌, ◌≢◌, ◌⊎◌, ℕ, zero, ◌+◌, ◌<◌, Bool, true, false, ◌&&◌, cond, List, [], ◌∷◌, length, Option, Some, None, slice_get, slice_set, refl}
+use Rattle.std.specs.Prelude.{◌≡◌, ◌⊎◌, ℕ, ◌+◌, ◌<◌, Bool, true, false, ◌&&◌, cond, List, [], ◌∷◌, length, Option, Some, None, slice_get, slice_set, refl}
 use Rattle.std.proofs.Common.{inl, inr, ap, sym, subst, ◌∙◌, length-set}
 use Rattle.std.proofs.lemmas.Option.{same_Some, none-some}
 use Rattle.std.proofs.lemmas.Bool.{and_parts}
 use Rattle.std.proofs.lemmas.Bool.Decides.{eqb_tells}
 use Rattle.pc_heap.specs.declared.value.Value.{Value}
 use Rattle.pc_caps.specs.Gets.{get_set_same, get_set_other}
-use Rattle.pc_caps.specs.Tables.{plain, unalias, fits}
+use Rattle.pc_caps.specs.Tables.{unalias, fits}
 use Rattle.pc_caps.specs.declared.capability.Cap.{Cap}
 use Rattle.pc_core.specs.declared.declarations.Method.{Method}
 use Rattle.pc_core.specs.declared.nodes.Node.{Node}
@@ -29,7 +29,7 @@ use Rattle.pc_semantics.specs.declared.frames.Frame.{Frame}
 use Rattle.pc_semantics.specs.declared.frames.Task.TheVariants as task
 use Rattle.pc_semantics.specs.Around.{Around, with_stack, or_none}
 use Rattle.pc_semantics.specs.Fields.{held, store, store_task}
-use Rattle.pc_rules.specs.Parts.{Ty, Masks, says_of, goes_to, slot_of, reachable, before, through, type_of, one_child}
+use Rattle.pc_rules.specs.Parts.{Ty, Masks, goes_to, slot_of, reachable, before, through, type_of, one_child}
 use Rattle.pc_rules.specs.Fields.{is_this}
 use Rattle.pc_rules.specs.Values.{same_place, defined_type, defined, defines, is_var, old_value, assigned, assigns, define_says, assign_says}
 use Rattle.pc_rules.specs.Rules.{says, said_by}

@@ -1,6 +1,6 @@
 -- When values fit their places by regions: those of frames, of objects and of waiting messages. A configuration has regions where
 -- some world makes all of them fit.
-use Rattle.std.specs.Prelude.{◌≡◌, ◌⊎◌, ℕ, zero, suc, ◌+◌, ◌<◌, ◌≤◌, Bool, true, false, List, [], ◌∷◌, length, Option, Some, None, slice_get}
+use Rattle.std.specs.Prelude.{◌≡◌, ◌⊎◌, ℕ, suc, ◌+◌, ◌<◌, ◌≤◌, true, false, List, [], ◌∷◌, length, Option, Some, None, slice_get}
 use Rattle.std.specs.FinMap.{get}
 use Rattle.pc_heap.specs.Objects.{ObjectMap}
 use Rattle.pc_heap.specs.declared.value.Address.{Address}
@@ -25,7 +25,7 @@ use Rattle.pc_semantics.specs.declared.mailbox.Message.{Message}
 use Rattle.pc_semantics.specs.Configurations.{Configuration}
 use Rattle.pc_sub.specs.Declarations.{isolates}
 use Rattle.pc_rules.specs.Parts.{Ty, slot_of}
-use Rattle.pc_sound.specs.RegionWorld.{World, Opened, Place, InSlot, OnStack, InField, InMail, Fits, FitsSome, AliasSome, WorldOk}
+use Rattle.pc_sound.specs.RegionWorld.{World, Opened, InSlot, OnStack, InField, InMail, Fits, FitsSome, AliasSome, WorldOk}
 use Rattle.pc_sound.specs.RegionTasks.{Entry, Shallow, Below, Ascent, Climbs, top_of, SlotsShallow, TasksRise, uses_top}
 
 -- ---- one frame, of actor i, with h frames below it

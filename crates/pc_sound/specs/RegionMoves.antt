@@ -1,6 +1,6 @@
 -- What a move of a running actor has to keep, so that the configuration has regions when the move is made: some world fits what the
 -- move makes, and keeps what it asks of the other actors and of waiting messages.
-use Rattle.std.specs.Prelude.{◌≡◌, ◌≢◌, ◌⊎◌, ℕ, suc, ◌+◌, ◌<◌, Bool, true, false, not, List, [], ◌∷◌, length, Option, Some, None, nat_eq, if◌then◌else◌}
+use Rattle.std.specs.Prelude.{◌≡◌, ◌≢◌, ℕ, ◌+◌, ◌<◌, Bool, true, false, not, List, ◌∷◌, length, Option, Some, None, nat_eq, if◌then◌else◌}
 use Rattle.std.specs.FinMap.{insert}
 use Rattle.pc_heap.specs.Objects.{ObjectMap, with_value}
 use Rattle.pc_heap.specs.declared.value.Value.{Value}

@@ -1,11 +1,10 @@
 -- Changes of a world: a region stands otherwise, becomes a part of another, or is left by the places that held it; a new one is
 -- opened, and a context comes or goes. What an actor does in a frame shifts a world, and keeps what is asked at the other places.
-use Rattle.std.specs.Prelude.{◌≡◌, ◌≢◌, ◌⊎◌, ℕ, suc, ◌+◌, ◌-◌, ◌<◌, ◌≤◌, Bool, true, false, ◌&&◌, cond, Option, Some, None, nat_eq, nat_lt}
+use Rattle.std.specs.Prelude.{◌≡◌, ◌≢◌, ℕ, suc, ◌-◌, ◌<◌, Bool, false, ◌&&◌, cond, Option, Some, None, nat_eq, nat_lt}
 use Rattle.pc_heap.specs.Objects.{ObjectMap}
-use Rattle.pc_heap.specs.declared.value.Address.{Address}
 use Rattle.pc_heap.specs.declared.value.Value.{Value}
 use Rattle.pc_caps.specs.declared.capability.Form.{Form}
-use Rattle.pc_sound.specs.RegionWorld.{Place, InSlot, OnStack, InField, InMail, Standing, Unused, Froze, Opened, Loose, Held, Child, World, Fits, Alias, Over, WorldOk}
+use Rattle.pc_sound.specs.RegionWorld.{Place, Standing, Unused, Opened, Loose, Held, Child, World, Fits, Alias, Over, WorldOk}
 
 -- ---- changes
 
