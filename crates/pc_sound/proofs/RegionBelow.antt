@@ -1,5 +1,5 @@
 -- Frames that wait fit where the values at their places fit, and the regions that are open for them stay so.
-use Rattle.std.specs.Prelude.{◌≡◌, ℕ, ◌+◌, ◌<◌, ◌≤◌, List, [], ◌∷◌, length, Option, Some, None}
+use Rattle.std.specs.Prelude.{◌≡◌, ◌⊎◌, ◌≤◌, ℕ, suc, ◌+◌, ◌<◌, List, [], ◌∷◌, length, Option, Some, None}
 use Rattle.std.proofs.Common.{inl, inr, arith}
 use Rattle.pc_heap.specs.declared.value.Value.{Value}
 use Rattle.pc_caps.specs.declared.capability.Form.{Form}
@@ -10,7 +10,7 @@ use Rattle.pc_core.specs.CoreData.{CoreData}
 use Rattle.pc_ann.specs.declared.annotation.Ann.{Ann}
 use Rattle.pc_semantics.specs.declared.frames.Frame.{Frame}
 use Rattle.pc_rules.specs.Parts.{Ty}
-use Rattle.pc_sound.specs.RegionWorld.{World, Opened, InSlot, OnStack, Fits, FitsSome}
+use Rattle.pc_sound.specs.RegionWorld.{Over, World, Opened, InSlot, OnStack, Fits, FitsSome}
 use Rattle.pc_sound.specs.RegionTasks.{Entry}
 use Rattle.pc_sound.specs.RegionFrames.{StackFits, Holds, Entered, Awaits, WaitFits}
 
@@ -20,6 +20,8 @@ module _
   (in_slot : (h s l : ℕ) (f : Form) (v : Value) → h < bound → Fits w (InSlot j h s l) f v → Fits w' (InSlot j h s l) f v)
   (on_stack : (h d l : ℕ) (f : Form) (v : Value) → h < bound → Fits w (OnStack j h d l) f v → Fits w' (OnStack j h d l) f v)
   (ajar : (l : ℕ) → w.stands (w.context j l) ≡ Opened j → w'.stands (w'.context j l) ≡ Opened j)
+  -- what is over its contexts at levels below this one is over them still
+  (level : ℕ) (over : (m l : ℕ) → l < level → Over w j (w.context j m) l → Over w' j (w'.context j m) l)
   where
   some_fits : (h d l : ℕ) (t : Option Ty) (v : Value) → h < bound → FitsSome w (OnStack j h d l) t v → FitsSome w' (OnStack j h d l) t v
   some_fits h d l None v low k = tt
@@ -41,18 +43,42 @@ module _
     stack_fit = stack_fits h k.base k.entries stack low k.stack_fit;
   }
 
-  pub entered_kept : (x : Method) (t : Option Ty) (at b : ℕ) (k : MethodKind) → Entered w j x t at b k → Entered w' j x t at b k
-  entered_kept x t at b method.New (inl e) = inl e
-  entered_kept x t at b method.New (inr e) = inr (e.0, e.1, ajar b e.2)
-  entered_kept x t at b method.Fun e = e
-  entered_kept x t at b method.Be e = e
-  entered_kept x t at b method.Spawn e = e
+  down : (l b : ℕ) → l < b → b ≤ level → l < level
+  down l b m n = omega (arith, m, n)
 
-  abbrev pub awaits_kept : (h b : ℕ) (x : Method) (f : Frame) → h < bound → Awaits core ann w j h b x f → Awaits core ann w' j h b x f
-  awaits_kept h b x f low k = record {
+  pub entered_kept : (x : Method) (t : Option Ty) (base at b : ℕ) (k : MethodKind) → b ≤ level → Entered w j x t base at b k → Entered w' j x t base at b k
+  entered_kept x t base at b method.New low (inl e) = inl e
+  entered_kept x t base at b method.New low (inr e) = inr (e.0, e.1, ajar b e.2)
+  entered_kept x t base at b method.Fun low (inl e) = inl e
+  entered_kept x t base at b method.Fun low (inr e) = inr (e.0, e.1, e.2, e.3, e.4, over b e.2 (down e.2 b e.4 low) e.5)
+  entered_kept x t base at b method.Be low (inl e) = inl e
+  entered_kept x t base at b method.Be low (inr e) = inr (e.0, e.1, e.2, e.3, e.4, over b e.2 (down e.2 b e.4 low) e.5)
+  entered_kept x t base at b method.Spawn low (inl e) = inl e
+  entered_kept x t base at b method.Spawn low (inr e) = inr (e.0, e.1, e.2, e.3, e.4, over b e.2 (down e.2 b e.4 low) e.5)
+
+  at_most : (base d b : ℕ) → (b ≡ base + d) ⊎ (b ≡ suc (base + d)) → base ≤ b
+  at_most base d b (inl e) = omega (arith, e)
+  at_most base d b (inr e) = omega (arith, e)
+
+  -- The levels at which frames begin do not fall.
+  pub entered_low : (x : Method) (t : Option Ty) (base d b : ℕ) (k : MethodKind) → Entered w j x t base (base + d) b k → base ≤ b
+  entered_low x t base d b method.New (inl e) = at_most base d b (inl e.1)
+  entered_low x t base d b method.New (inr e) = at_most base d b (inr e.1)
+  entered_low x t base d b method.Fun (inl e) = at_most base d b (inl e)
+  entered_low x t base d b method.Fun (inr e) = at_most base d b (inr e.0)
+  entered_low x t base d b method.Be (inl e) = at_most base d b (inl e)
+  entered_low x t base d b method.Be (inr e) = at_most base d b (inr e.0)
+  entered_low x t base d b method.Spawn (inl e) = at_most base d b (inl e)
+  entered_low x t base d b method.Spawn (inr e) = at_most base d b (inr e.0)
+
+  lower_still : (a b c : ℕ) → a ≤ b → b ≤ c → a ≤ c
+  lower_still a b c m n = omega (arith, m, n)
+
+  abbrev pub awaits_kept : (h b : ℕ) (x : Method) (f : Frame) → h < bound → b ≤ level → Awaits core ann w j h b x f → Awaits core ann w' j h b x f
+  awaits_kept h b x f low floor k = record {
     holds = holds_kept h f.method f.slots f.stack low k.holds;
     call = k.call;
-    entered = entered_kept x k.call.ty (k.holds.base + k.call.depth) b x.kind k.entered;
+    entered = entered_kept x k.call.ty k.holds.base (k.holds.base + k.call.depth) b x.kind floor k.entered;
     opened = λ l a z. ajar l (k.opened l a z);
     result = k.result;
     way = k.way;
@@ -62,6 +88,12 @@ module _
     next = k.next;
   }
 
-  pub wait_kept : (b m : ℕ) (fs : List Frame) → length fs ≤ bound → WaitFits core ann w j b m fs → WaitFits core ann w' j b m fs
-  wait_kept b m [] low k = k
-  wait_kept b m (f ∷ fs) low k = (k.0, k.1, awaits_kept (length fs) b k.0 f (omega (arith, low)) k.2, wait_kept k.2.holds.base f.method fs (omega (arith, low)) k.3)
+  pub wait_kept : (b m : ℕ) (fs : List Frame) → length fs ≤ bound → b ≤ level → WaitFits core ann w j b m fs → WaitFits core ann w' j b m fs
+  wait_kept b m [] low floor k = k
+  wait_kept b m (f ∷ fs) low floor k =
+      (
+        k.0,
+        k.1,
+        awaits_kept (length fs) b k.0 f (omega (arith, low)) floor k.2,
+        wait_kept k.2.holds.base f.method fs (omega (arith, low)) (lower_still k.2.holds.base b level (entered_low k.0 k.2.call.ty k.2.holds.base k.2.call.depth b k.0.kind k.2.entered) floor) k.3,
+      )

@@ -10,7 +10,7 @@ use Rattle.pc_semantics.specs.declared.frames.Frame.{Frame}
 use Rattle.pc_semantics.specs.declared.mailbox.Message.{Message}
 use Rattle.pc_rules.specs.Parts.{Ty}
 use Rattle.pc_caps.specs.declared.capability.Form.{Form}
-use Rattle.pc_sound.specs.RegionWorld.{World, Opened, InMail, InSlot, OnStack, Fits, AliasSome}
+use Rattle.pc_sound.specs.RegionWorld.{Over, World, Opened, InMail, InSlot, OnStack, Fits, AliasSome}
 use Rattle.pc_sound.specs.RegionTasks.{Entry}
 use Rattle.pc_sound.specs.RegionFrames.{TopAlias, FramesFit, MessageFits, MailFits}
 use Rattle.pc_sound.specs.RegionMoves.{Others}
@@ -37,10 +37,11 @@ module _ (core : CoreData) (ann : Ann) (w w' : World) (i count : ℕ) (to : Opti
     frames_kept (f ∷ fs) k =
         let slots = λ (h s l : ℕ) (g : Form) (v : Value) (low : h < suc (length fs)) (x : Fits w (InSlot j h s l) g v). o.fits (InSlot j h s l) g v another x in
         let stacks = λ (h d l : ℕ) (g : Form) (v : Value) (low : h < suc (length fs)) (x : Fits w (OnStack j h d l) g v). o.fits (OnStack j h d l) g v another x in
+        let over = λ (m l : ℕ) (low : l < k.0.holds.base) (x : Over w j (w.context j m) l). o.over j m l there differ x in
         let ajar = λ (l : ℕ) (x : w.stands (w.context j l) ≡ Opened j). o.opened j l there differ x in
         (
           record {
-            holds = holds_kept core ann w w' j (suc (length fs)) slots stacks ajar (length fs) f.method f.slots f.stack (omega arith) k.0.holds;
+            holds = holds_kept core ann w w' j (suc (length fs)) slots stacks ajar k.0.holds.base over (length fs) f.method f.slots f.stack (omega arith) k.0.holds;
             depth = k.0.depth;
             last = k.0.last ∙ sym (o.top j there differ);
             opened = λ l a z. o.opened j l there differ (k.0.opened l a z);
@@ -49,7 +50,7 @@ module _ (core : CoreData) (ann : Ann) (w w' : World) (i count : ℕ) (to : Opti
           },
           k.1,
           λ u. top_alias k.0.holds.base k.0.holds.entries f.stack (k.2 u),
-          wait_kept core ann w w' j (suc (length fs)) slots stacks ajar k.0.holds.base f.method fs (omega arith) k.3,
+          wait_kept core ann w w' j (suc (length fs)) slots stacks ajar k.0.holds.base over k.0.holds.base f.method fs (omega arith) (omega arith) k.3,
         )
 
   -- ---- messages

@@ -1,12 +1,12 @@
--- A shift of the world keeps what other actors, messages, fields and the frames below have to fit, and shifts follow one another.
-use Rattle.std.specs.Prelude.{◌≡◌, ℕ, ◌+◌, ◌<◌, Bool, true, false, List, length, None}
-use Rattle.std.proofs.Common.{ap, ◌∙◌, arith}
+-- A shift of the world keeps what other actors, messages, fields and the frames below have to fit.
+use Rattle.std.specs.Prelude.{◌≡◌, ℕ, ◌+◌, ◌<◌, ◌≤◌, Bool, true, false, List, length, None}
+use Rattle.std.proofs.Common.{sym, subst, ap, ◌∙◌, arith}
 use Rattle.pc_heap.specs.Objects.{ObjectMap}
 use Rattle.pc_heap.specs.declared.value.Address.{Address}
 use Rattle.pc_core.specs.CoreData.{CoreData}
 use Rattle.pc_ann.specs.declared.annotation.Ann.{Ann}
 use Rattle.pc_semantics.specs.declared.frames.Frame.{Frame}
-use Rattle.pc_sound.specs.RegionWorld.{Place, InSlot, OnStack, InField, World, Opened}
+use Rattle.pc_sound.specs.RegionWorld.{Over, Place, InSlot, OnStack, InField, World, Opened}
 use Rattle.pc_sound.specs.RegionFrames.{FieldsFit, WaitFits}
 use Rattle.pc_sound.specs.RegionMoves.{elsewhere, Others}
 use Rattle.pc_sound.specs.RegionPlaces.{Shifts}
@@ -26,6 +26,7 @@ module _ (w w' : World) (objects : ObjectMap) (count i b : ℕ) (gone : Place �
     sent = λ j there. no_more (w'.sent j) (w.sent j) (x.sent j);
     top = λ j there n. x.top j;
     opened = λ j l there n e. still_open j l e;
+    over = λ j m l there n o. subst (λ (q : ℕ). Over w' j q l) (sym (x.context j m)) (x.other j (w.context j m) l there n o);
     alias = λ j c f v there n a. x.alias j c f v there n a;
   }
 
@@ -35,6 +36,6 @@ module _ (w w' : World) (objects : ObjectMap) (count i b : ℕ) (gone : Place �
 
   -- Where no place of a frame below this height is left.
   pub below_kept : (core : CoreData) (ann : Ann) (bound : ℕ) → ((h s l : ℕ) → h < bound → gone (InSlot i h s l) ≡ false) → ((h d l : ℕ) → h < bound → gone (OnStack i h d l) ≡ false)
-      → (c m : ℕ) (fs : List Frame) → length fs ≡ bound → WaitFits core ann w i c m fs → WaitFits core ann w' i c m fs
-  below_kept core ann bound slots stacks c m fs is k =
-      wait_kept core ann w w' i bound (λ h s l f v low fit. x.fits (InSlot i h s l) f v (slots h s l low) fit) (λ h d l f v low fit. x.fits (OnStack i h d l) f v (stacks h d l low) fit) (λ l e. still_open i l e) c m fs (omega (arith, is)) k
+      → (c m : ℕ) (fs : List Frame) → length fs ≡ bound → c ≤ b → WaitFits core ann w i c m fs → WaitFits core ann w' i c m fs
+  below_kept core ann bound slots stacks c m fs is low k =
+      wait_kept core ann w w' i bound (λ h s l f v low fit. x.fits (InSlot i h s l) f v (slots h s l low) fit) (λ h d l f v low fit. x.fits (OnStack i h d l) f v (stacks h d l low) fit) (λ l e. still_open i l e) b (λ n l down o. subst (λ (q : ℕ). Over w' i q l) (sym (x.context i n)) (x.low (w.context i n) l down o)) c m fs (omega (arith, is)) low k

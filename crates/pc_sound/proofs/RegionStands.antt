@@ -114,7 +114,7 @@ module _
       ]
 
   -- Where r is not among what this level is over.
-  over_through : (j l : ℕ) → ((x : ℕ) → Over w j x l → r ≡ x → ⊥) → {x : ℕ} → Over w j x l → Over (standing w r s) j x l
+  pub over_through : (j l : ℕ) → ((x : ℕ) → Over w j x l → r ≡ x → ⊥) → {x : ℕ} → Over w j x l → Over (standing w r s) j x l
   over_through j l n {x} (over_loose e) = over_loose (other x (n x (over_loose e)) ∙ e)
   over_through j l n {x} (over_slot h t e) = over_slot h t (other x (n x (over_slot h t e)) ∙ e)
   over_through j l n {x} (over_own a k e t) = over_own a k (other x (n x (over_own a k e t)) ∙ e) t
@@ -235,5 +235,6 @@ module _
     sent = λ j. refl;
     opened = opened_on;
     alias = alias_on;
+    other = λ j q l there n o. over_other j there n o;
     low = λ q l m o. over_low l m o;
   }

@@ -25,7 +25,7 @@ use Rattle.pc_semantics.specs.declared.mailbox.Message.{Message}
 use Rattle.pc_semantics.specs.Configurations.{Configuration}
 use Rattle.pc_sub.specs.Declarations.{isolates}
 use Rattle.pc_rules.specs.Parts.{Ty, slot_of}
-use Rattle.pc_sound.specs.RegionWorld.{World, Opened, InSlot, OnStack, InField, InMail, Fits, FitsSome, AliasSome, WorldOk}
+use Rattle.pc_sound.specs.RegionWorld.{World, Opened, InSlot, OnStack, InField, InMail, Fits, FitsSome, AliasSome, Over, WorldOk}
 use Rattle.pc_sound.specs.RegionTasks.{Entry, Shallow, Below, Ascent, Climbs, top_of, SlotsShallow, TasksRise, uses_top}
 
 -- ---- one frame, of actor i, with h frames below it
@@ -65,11 +65,11 @@ abbrev pub SendableSome : Option Ty → Type 0
 SendableSome None = Unit {0}
 SendableSome (Some t) = sendable_form t.1 ≡ true
 
--- The frame above began at the level of the node that waits, or one level above: where its receiver is lent, so that only what may
--- be sent comes out, or where it makes an object in a context of its own.
-abbrev pub Entered : World → ℕ → Method → Option Ty → ℕ → ℕ → MethodKind → Type 0
-Entered w i x t at b method.New = ((isolates x.result.1 ≡ false) × (b ≡ at)) ⊎ ((isolates x.result.1 ≡ true) × (b ≡ suc at) × (w.stands (w.context i b) ≡ Opened i))
-Entered w i x t at b k = (b ≡ at) ⊎ ((b ≡ suc at) × SendableSome t)
+-- The frame above began at the level of the node that waits, or one level above: where it makes an object in a context of its own, or
+-- where its receiver is lent. Then only what may be sent comes out, and what is over the receiver is at a level of the frame that waits.
+abbrev pub Entered : World → ℕ → Method → Option Ty → ℕ → ℕ → ℕ → MethodKind → Type 0
+Entered w i x t base at b method.New = ((isolates x.result.1 ≡ false) × (b ≡ at)) ⊎ ((isolates x.result.1 ≡ true) × (b ≡ suc at) × (w.stands (w.context i b) ≡ Opened i))
+Entered w i x t base at b k = (b ≡ at) ⊎ ((b ≡ suc at) × SendableSome t × (l : ℕ) × (base ≤ l) × (l < b) × Over w i (w.context i b) l)
 
 -- The result goes to this type, if there is one.
 abbrev pub GoesTo : CoreData → Ty → Option Ty → Type 0
@@ -81,7 +81,7 @@ GoesTo core r (Some t) = Below core r t
 pub record Awaits (core : CoreData) (ann : Ann) (w : World) (i h b : ℕ) (x : Method) (f : Frame) : Type 0 where
   pub holds : Holds core ann w i h f.method f.slots f.stack
   pub call : Entry
-  pub entered : Entered w i x call.ty (holds.base + call.depth) b x.kind
+  pub entered : Entered w i x call.ty holds.base (holds.base + call.depth) b x.kind
   pub opened : OpenedTo w i holds.base call.depth
   pub result : GoesTo core x.result call.ty
   pub way : List Ascent

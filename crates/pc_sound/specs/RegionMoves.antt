@@ -12,7 +12,7 @@ use Rattle.pc_semantics.specs.declared.frames.Task.{Task}
 use Rattle.pc_semantics.specs.Configurations.{own_address}
 use Rattle.pc_semantics.specs.Step.{left}
 use Rattle.pc_semantics.specs.Around.{Around, Move, Stuck, Overflows, Goes, Writes, Makes, Spawns, Enters, Sends, Leaves}
-use Rattle.pc_sound.specs.RegionWorld.{World, Opened, Place, InSlot, OnStack, InField, InMail, Fits, Alias, WorldOk}
+use Rattle.pc_sound.specs.RegionWorld.{World, Opened, Place, InSlot, OnStack, InField, InMail, Fits, Alias, Over, WorldOk}
 use Rattle.pc_sound.specs.RegionTasks.{TasksRise, uses_top}
 use Rattle.pc_sound.specs.RegionFrames.{Active, WaitFits, FramesFit, TopAlias, FieldsFit, MessageFits}
 
@@ -34,6 +34,7 @@ pub record Others (w w' : World) (i count : ℕ) (to : Option ℕ) : Type 0 wher
   pub sent : (j : ℕ) → j < count → w'.sent j ≡ w.sent j + one_more to j
   pub top : (j : ℕ) → j < count → i ≢ j → w'.top j ≡ w.top j
   pub opened : (j l : ℕ) → j < count → i ≢ j → w.stands (w.context j l) ≡ Opened j → w'.stands (w'.context j l) ≡ Opened j
+  pub over : (j m l : ℕ) → j < count → i ≢ j → Over w j (w.context j m) l → Over w' j (w'.context j m) l
   pub alias : (j b : ℕ) (f : Form) (v : Value) → j < count → i ≢ j → Alias w j b (w.top j) f v → Alias w' j b (w.top j) f v
 
 -- A world has become another, which fits these objects, this many actors, and these frames of actor i.

@@ -106,4 +106,5 @@ pub record Shifts (w w' : World) (objects : ObjectMap) (count i b : ℕ) (gone :
   pub sent : (j : ℕ) → w'.sent j ≡ w.sent j
   pub opened : (q j : ℕ) → w.stands q ≡ Opened j → w'.stands q ≡ Opened j
   pub alias : (j c : ℕ) (f : Form) (v : Value) → j < count → i ≢ j → Alias w j c (w.top j) f v → Alias w' j c (w.top j) f v
+  pub other : (j q l : ℕ) → j < count → i ≢ j → Over w j q l → Over w' j q l
   pub low : (q l : ℕ) → l < b → Over w i q l → Over w' i q l
