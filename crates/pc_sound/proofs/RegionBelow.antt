@@ -16,12 +16,12 @@ use Rattle.pc_sound.specs.RegionFrames.{StackFits, Holds, Entered, Awaits, WaitF
 
 module _
   (core : CoreData) (ann : Ann) (w w' : World) (j bound : ℕ)
-  -- what fits the frames of actor j below this height fits them still, and what is open for it is
+  -- what fits the frames of actor j below this height fits them still, and what is open for it up to this level is
   (in_slot : (h s l : ℕ) (f : Form) (v : Value) → h < bound → Fits w (InSlot j h s l) f v → Fits w' (InSlot j h s l) f v)
   (on_stack : (h d l : ℕ) (f : Form) (v : Value) → h < bound → Fits w (OnStack j h d l) f v → Fits w' (OnStack j h d l) f v)
-  (ajar : (l : ℕ) → w.stands (w.context j l) ≡ Opened j → w'.stands (w'.context j l) ≡ Opened j)
+  (level : ℕ) (ajar : (l : ℕ) → l ≤ level → w.stands (w.context j l) ≡ Opened j → w'.stands (w'.context j l) ≡ Opened j)
   -- what is over its contexts at levels below this one is over them still
-  (level : ℕ) (over : (m l : ℕ) → l < level → Over w j (w.context j m) l → Over w' j (w'.context j m) l)
+  (over : (m l : ℕ) → m ≤ level → l < level → Over w j (w.context j m) l → Over w' j (w'.context j m) l)
   where
   some_fits : (h d l : ℕ) (t : Option Ty) (v : Value) → h < bound → FitsSome w (OnStack j h d l) t v → FitsSome w' (OnStack j h d l) t v
   some_fits h d l None v low k = tt
@@ -48,38 +48,41 @@ module _
 
   pub entered_kept : (x : Method) (t : Option Ty) (base at b : ℕ) (k : MethodKind) → b ≤ level → Entered w j x t base at b k → Entered w' j x t base at b k
   entered_kept x t base at b method.New low (inl e) = inl e
-  entered_kept x t base at b method.New low (inr e) = inr (e.0, e.1, ajar b e.2)
+  entered_kept x t base at b method.New low (inr e) = inr (e.0, e.1, ajar b low e.2)
   entered_kept x t base at b method.Fun low (inl e) = inl e
-  entered_kept x t base at b method.Fun low (inr e) = inr (e.0, e.1, e.2, e.3, e.4, over b e.2 (down e.2 b e.4 low) e.5)
+  entered_kept x t base at b method.Fun low (inr e) = inr (e.0, e.1, e.2, e.3, e.4, over b e.2 low (down e.2 b e.4 low) e.5)
   entered_kept x t base at b method.Be low (inl e) = inl e
-  entered_kept x t base at b method.Be low (inr e) = inr (e.0, e.1, e.2, e.3, e.4, over b e.2 (down e.2 b e.4 low) e.5)
+  entered_kept x t base at b method.Be low (inr e) = inr (e.0, e.1, e.2, e.3, e.4, over b e.2 low (down e.2 b e.4 low) e.5)
   entered_kept x t base at b method.Spawn low (inl e) = inl e
-  entered_kept x t base at b method.Spawn low (inr e) = inr (e.0, e.1, e.2, e.3, e.4, over b e.2 (down e.2 b e.4 low) e.5)
+  entered_kept x t base at b method.Spawn low (inr e) = inr (e.0, e.1, e.2, e.3, e.4, over b e.2 low (down e.2 b e.4 low) e.5)
 
-  at_most : (base d b : ℕ) → (b ≡ base + d) ⊎ (b ≡ suc (base + d)) → base ≤ b
-  at_most base d b (inl e) = omega (arith, e)
-  at_most base d b (inr e) = omega (arith, e)
+  at_most : (at b : ℕ) → (b ≡ at) ⊎ (b ≡ suc at) → at ≤ b
+  at_most at b (inl e) = omega (arith, e)
+  at_most at b (inr e) = omega (arith, e)
 
-  -- The levels at which frames begin do not fall.
-  pub entered_low : (x : Method) (t : Option Ty) (base d b : ℕ) (k : MethodKind) → Entered w j x t base (base + d) b k → base ≤ b
-  entered_low x t base d b method.New (inl e) = at_most base d b (inl e.1)
-  entered_low x t base d b method.New (inr e) = at_most base d b (inr e.1)
-  entered_low x t base d b method.Fun (inl e) = at_most base d b (inl e)
-  entered_low x t base d b method.Fun (inr e) = at_most base d b (inr e.0)
-  entered_low x t base d b method.Be (inl e) = at_most base d b (inl e)
-  entered_low x t base d b method.Be (inr e) = at_most base d b (inr e.0)
-  entered_low x t base d b method.Spawn (inl e) = at_most base d b (inl e)
-  entered_low x t base d b method.Spawn (inr e) = at_most base d b (inr e.0)
+  -- A frame begins at no lower level than that of the node that waits for it.
+  pub entered_at : (x : Method) (t : Option Ty) (base at b : ℕ) (k : MethodKind) → Entered w j x t base at b k → at ≤ b
+  entered_at x t base at b method.New (inl e) = at_most at b (inl e.1)
+  entered_at x t base at b method.New (inr e) = at_most at b (inr e.1)
+  entered_at x t base at b method.Fun (inl e) = at_most at b (inl e)
+  entered_at x t base at b method.Fun (inr e) = at_most at b (inr e.0)
+  entered_at x t base at b method.Be (inl e) = at_most at b (inl e)
+  entered_at x t base at b method.Be (inr e) = at_most at b (inr e.0)
+  entered_at x t base at b method.Spawn (inl e) = at_most at b (inl e)
+  entered_at x t base at b method.Spawn (inr e) = at_most at b (inr e.0)
 
-  lower_still : (a b c : ℕ) → a ≤ b → b ≤ c → a ≤ c
+  pub lower_still : (a b c : ℕ) → a ≤ b → b ≤ c → a ≤ c
   lower_still a b c m n = omega (arith, m, n)
+
+  no_less : (base d b level : ℕ) → base + d ≤ b → b ≤ level → base ≤ level
+  no_less base d b level m n = omega (arith, m, n)
 
   abbrev pub awaits_kept : (h b : ℕ) (x : Method) (f : Frame) → h < bound → b ≤ level → Awaits core ann w j h b x f → Awaits core ann w' j h b x f
   awaits_kept h b x f low floor k = record {
     holds = holds_kept h f.method f.slots f.stack low k.holds;
     call = k.call;
     entered = entered_kept x k.call.ty k.holds.base (k.holds.base + k.call.depth) b x.kind floor k.entered;
-    opened = λ l a z. ajar l (k.opened l a z);
+    opened = λ l a z. ajar l (lower_still l (k.holds.base + k.call.depth) level z (lower_still (k.holds.base + k.call.depth) b level (entered_at x k.call.ty k.holds.base (k.holds.base + k.call.depth) b x.kind k.entered) floor)) (k.opened l a z);
     result = k.result;
     way = k.way;
     climbs = k.climbs;
@@ -95,5 +98,5 @@ module _
         k.0,
         k.1,
         awaits_kept (length fs) b k.0 f (omega (arith, low)) floor k.2,
-        wait_kept k.2.holds.base f.method fs (omega (arith, low)) (lower_still k.2.holds.base b level (entered_low k.0 k.2.call.ty k.2.holds.base k.2.call.depth b k.0.kind k.2.entered) floor) k.3,
+        wait_kept k.2.holds.base f.method fs (omega (arith, low)) (no_less k.2.holds.base k.2.call.depth b level (entered_at k.0 k.2.call.ty k.2.holds.base (k.2.holds.base + k.2.call.depth) b k.0.kind k.2.entered) floor) k.3,
       )

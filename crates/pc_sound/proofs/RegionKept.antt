@@ -1,6 +1,6 @@
 -- What the other actors and the waiting messages have to fit is kept while an actor moves, and a move that keeps what it has to
 -- leaves a configuration that has regions.
-use Rattle.std.specs.Prelude.{◌≡◌, ◌≢◌, ℕ, suc, ◌<◌, true, not, List, [], ◌∷◌, ◌++◌, length, Option, Some, None, nat_eq, refl}
+use Rattle.std.specs.Prelude.{◌≡◌, ◌≢◌, ℕ, suc, ◌<◌, ◌≤◌, true, not, List, [], ◌∷◌, ◌++◌, length, Option, Some, None, nat_eq, refl}
 use Rattle.std.proofs.Common.{ap, sym, subst, ◌∙◌, arith}
 use Rattle.std.proofs.lemmas.Bool.{ne_eqb}
 use Rattle.pc_heap.specs.declared.value.Value.{Value}
@@ -37,11 +37,11 @@ module _ (core : CoreData) (ann : Ann) (w w' : World) (i count : ℕ) (to : Opti
     frames_kept (f ∷ fs) k =
         let slots = λ (h s l : ℕ) (g : Form) (v : Value) (low : h < suc (length fs)) (x : Fits w (InSlot j h s l) g v). o.fits (InSlot j h s l) g v another x in
         let stacks = λ (h d l : ℕ) (g : Form) (v : Value) (low : h < suc (length fs)) (x : Fits w (OnStack j h d l) g v). o.fits (OnStack j h d l) g v another x in
-        let over = λ (m l : ℕ) (low : l < k.0.holds.base) (x : Over w j (w.context j m) l). o.over j m l there differ x in
-        let ajar = λ (l : ℕ) (x : w.stands (w.context j l) ≡ Opened j). o.opened j l there differ x in
+        let over = λ (m l : ℕ) (up : m ≤ k.0.holds.base) (low : l < k.0.holds.base) (x : Over w j (w.context j m) l). o.over j m l there differ x in
+        let ajar = λ (l : ℕ) (up : l ≤ k.0.holds.base) (x : w.stands (w.context j l) ≡ Opened j). o.opened j l there differ x in
         (
           record {
-            holds = holds_kept core ann w w' j (suc (length fs)) slots stacks ajar k.0.holds.base over (length fs) f.method f.slots f.stack (omega arith) k.0.holds;
+            holds = holds_kept core ann w w' j (suc (length fs)) slots stacks k.0.holds.base ajar over (length fs) f.method f.slots f.stack (omega arith) k.0.holds;
             depth = k.0.depth;
             last = k.0.last ∙ sym (o.top j there differ);
             opened = λ l a z. o.opened j l there differ (k.0.opened l a z);
@@ -50,7 +50,7 @@ module _ (core : CoreData) (ann : Ann) (w w' : World) (i count : ℕ) (to : Opti
           },
           k.1,
           λ u. top_alias k.0.holds.base k.0.holds.entries f.stack (k.2 u),
-          wait_kept core ann w w' j (suc (length fs)) slots stacks ajar k.0.holds.base over k.0.holds.base f.method fs (omega arith) (omega arith) k.3,
+          wait_kept core ann w w' j (suc (length fs)) slots stacks k.0.holds.base ajar over k.0.holds.base f.method fs (omega arith) (omega arith) k.3,
         )
 
   -- ---- messages

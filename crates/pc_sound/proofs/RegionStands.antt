@@ -229,12 +229,11 @@ module _
   standing_shifts = record {
     world = world_on;
     fits = fits_on;
-    role = λ q. refl;
-    context = λ j l. refl;
-    top = λ j. refl;
     sent = λ j. refl;
-    opened = opened_on;
+    top = λ j n. refl;
+    context = λ j l n. refl;
+    opened = λ j l n e. opened_on (w.context j l) j e;
     alias = alias_on;
-    other = λ j q l there n o. over_other j there n o;
-    low = λ q l m o. over_low l m o;
+    over = λ j m l there n o. over_other j there n o;
+    low = λ m l n k o. over_low l k o;
   }

@@ -1,6 +1,6 @@
 -- Changes of a world: a region stands otherwise, becomes a part of another, or is left by the places that held it; a new one is
 -- opened, and a context comes or goes. What an actor does in a frame shifts a world, and keeps what is asked at the other places.
-use Rattle.std.specs.Prelude.{◌≡◌, ◌≢◌, ℕ, suc, ◌-◌, ◌<◌, Bool, false, ◌&&◌, cond, Option, Some, None, nat_eq, nat_lt}
+use Rattle.std.specs.Prelude.{◌≡◌, ◌≢◌, ◌⊎◌, ℕ, suc, ◌-◌, ◌<◌, ◌≤◌, Bool, false, ◌&&◌, cond, Option, Some, None, nat_eq, nat_lt}
 use Rattle.pc_heap.specs.Objects.{ObjectMap}
 use Rattle.pc_heap.specs.declared.value.Value.{Value}
 use Rattle.pc_caps.specs.declared.capability.Form.{Form}
@@ -95,16 +95,15 @@ without_last w i = record {
 
 -- ---- what is kept
 
--- While actor i runs a frame of level b, whose values at these places are asked for no more: every other value fits as it did, no
--- context changes, and what is over a region is kept for other actors, and below level b for this one.
+-- While actor i runs a frame of level b, whose values at these places are asked for no more: every other value fits as it did, the other
+-- actors keep their contexts and what is over them, and this one does up to level b.
 pub record Shifts (w w' : World) (objects : ObjectMap) (count i b : ℕ) (gone : Place → Bool) : Type 0 where
   pub world : WorldOk w' objects count
   pub fits : (p : Place) (f : Form) (v : Value) → gone p ≡ false → Fits w p f v → Fits w' p f v
-  pub role : (q : ℕ) → w'.role q ≡ w.role q
-  pub context : (j l : ℕ) → w'.context j l ≡ w.context j l
-  pub top : (j : ℕ) → w'.top j ≡ w.top j
   pub sent : (j : ℕ) → w'.sent j ≡ w.sent j
-  pub opened : (q j : ℕ) → w.stands q ≡ Opened j → w'.stands q ≡ Opened j
+  pub top : (j : ℕ) → i ≢ j → w'.top j ≡ w.top j
+  pub context : (j l : ℕ) → (i ≢ j) ⊎ (l ≤ b) → w'.context j l ≡ w.context j l
+  pub opened : (j l : ℕ) → (i ≢ j) ⊎ (l ≤ b) → w.stands (w.context j l) ≡ Opened j → w'.stands (w'.context j l) ≡ Opened j
   pub alias : (j c : ℕ) (f : Form) (v : Value) → j < count → i ≢ j → Alias w j c (w.top j) f v → Alias w' j c (w.top j) f v
-  pub other : (j q l : ℕ) → j < count → i ≢ j → Over w j q l → Over w' j q l
-  pub low : (q l : ℕ) → l < b → Over w i q l → Over w' i q l
+  pub over : (j m l : ℕ) → j < count → i ≢ j → Over w j (w.context j m) l → Over w' j (w'.context j m) l
+  pub low : (m l : ℕ) → m ≤ b → l < b → Over w i (w.context i m) l → Over w' i (w'.context i m) l
