@@ -47,33 +47,33 @@ use Rattle.pc_sound.proofs.Finish.{one_top, by_top, done_ok, own_is, rule_is, at
 -- ---- what the rules say
 
 -- A field of the origin's entity.
-record GetRule (core : CoreData) (ann : Ann) (x : Node) (t : Note) (behind : Masks) (name : ℕ) : Type 0 where
-  child : ℕ
-  children : x.children ≡ child ∷ []
-  origin : Ty
-  is_origin : type_of ann child ≡ Some origin
-  index : ℕ
-  field : FieldInfo
-  is_field : field_of core origin.0 name ≡ Some (index, field)
-  seen : Form
-  is_seen : view origin.1 field.cap ≡ Some seen
-  says : Says t (Some (field.entity, seen)) behind
+pub record GetRule (core : CoreData) (ann : Ann) (x : Node) (t : Note) (behind : Masks) (name : ℕ) : Type 0 where
+  pub child : ℕ
+  pub children : x.children ≡ child ∷ []
+  pub origin : Ty
+  pub is_origin : type_of ann child ≡ Some origin
+  pub index : ℕ
+  pub field : FieldInfo
+  pub is_field : field_of core origin.0 name ≡ Some (index, field)
+  pub seen : Form
+  pub is_seen : view origin.1 field.cap ≡ Some seen
+  pub says : Says t (Some (field.entity, seen)) behind
 
 -- A field of the method's entity that is set.
-record OwnGetRule (core : CoreData) (ann : Ann) (x : Node) (t : Note) (behind : Masks) (name : ℕ) : Type 0 where
-  own : Method
-  is_own : slice_get core.methods x.method ≡ Some own
-  origin : OwnOrigin core x own
-  index : ℕ
-  field : FieldInfo
-  is_field : field_of core own.entity name ≡ Some (index, field)
-  seen : Form
-  is_seen : view form.Ref field.cap ≡ Some seen
-  set : has behind.1 index ≡ true
-  says : Says t (Some (field.entity, seen)) behind
+pub record OwnGetRule (core : CoreData) (ann : Ann) (x : Node) (t : Note) (behind : Masks) (name : ℕ) : Type 0 where
+  pub own : Method
+  pub is_own : slice_get core.methods x.method ≡ Some own
+  pub origin : OwnOrigin core x own
+  pub index : ℕ
+  pub field : FieldInfo
+  pub is_field : field_of core own.entity name ≡ Some (index, field)
+  pub seen : Form
+  pub is_seen : view form.Ref field.cap ≡ Some seen
+  pub set : has behind.1 index ≡ true
+  pub says : Says t (Some (field.entity, seen)) behind
 
 module _ (core : CoreData) (ann : Ann) (x : Node) (t : Note) (behind : Masks) (is_behind : through ann x.children (before t) ≡ Some behind) (name : ℕ) where
-  read_is : read_says core ann x name (before t) ≡ Some (said_by t) → GetRule core ann x t behind name
+  pub read_is : read_says core ann x name (before t) ≡ Some (said_by t) → GetRule core ann x t behind name
   read_is e =
       let c = bind_some (one_child x.children) _ (said_by t) e in
       let o = bind_some (type_of ann c.0) _ (said_by t) c.2 in
@@ -96,7 +96,7 @@ module _ (core : CoreData) (ann : Ann) (x : Node) (t : Note) (behind : Masks) (i
         says = said_type t (g.0.1.entity, v.0) y.0 behind n.0 ty is n.2;
       }
 
-  own_read_is : incomplete core ann x ≡ true → own_read_says core ann x name (before t) ≡ Some (said_by t) → OwnGetRule core ann x t behind name
+  pub own_read_is : incomplete core ann x ≡ true → own_read_says core ann x name (before t) ≡ Some (said_by t) → OwnGetRule core ann x t behind name
   own_read_is lacks e =
       let g = bind_some (own_field core x name) _ (said_by t) e in
       let m = bind_some (slice_get core.methods x.method) _ g.0 g.1 in
@@ -118,7 +118,7 @@ module _ (core : CoreData) (ann : Ann) (x : Node) (t : Note) (behind : Masks) (i
       }
 
 -- The last of one child is that child.
-only_last : (cs : List ℕ) (c : ℕ) → length cs ≡ 1 → last_child cs ≡ Some c → cs ≡ c ∷ []
+pub only_last : (cs : List ℕ) (c : ℕ) → length cs ≡ 1 → last_child cs ≡ Some c → cs ≡ c ∷ []
 only_last [] c one e = absurd (omega (arith, one))
 only_last (a ∷ []) c one e = ap (λ (k : ℕ). k ∷ []) (same_Some a c e)
 only_last (a ∷ b ∷ cs) c one e = absurd (omega (arith, one))

@@ -36,3 +36,14 @@ pub mod Needed
 pub mod Starts
 pub mod AllTasks
 pub mod Sound
+mod RegionSafe
+mod RegionBelow
+mod RegionKept
+mod RegionMade
+mod RegionSteps
+mod RegionAccess
+mod RegionQuiet
+mod RegionStart
+mod RegionAll
+mod RegionStands
+mod RegionShifts

@@ -89,7 +89,7 @@ module _ (core : CoreData) where
 
   -- ---- new objects
 
-  no_value : {T : Type 0} (n i : ℕ) (v : T) → slice_get (replicate n None) i ≡ Some (Some v) → ⊥
+  pub no_value : {T : Type 0} (n i : ℕ) (v : T) → slice_get (replicate n None) i ≡ Some (Some v) → ⊥
   no_value zero i v e = none-some (Some v) e
   no_value (suc n) zero v e = none-some v (same_Some None (Some v) e)
   no_value (suc n) (suc i) v e = no_value n i v e

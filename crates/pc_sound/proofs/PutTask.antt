@@ -57,43 +57,43 @@ use Rattle.pc_sound.proofs.Places.{goes_lower}
 -- ---- what the rules say
 
 -- A field of the origin's entity, to which the value goes.
-record PutRule (core : CoreData) (ann : Ann) (x : Node) (t : Note) (behind : Masks) (name : ℕ) : Type 0 where
-  value : ℕ
-  origin : ℕ
-  children : x.children ≡ value ∷ origin ∷ []
-  value_ty : Ty
-  is_value : type_of ann value ≡ Some value_ty
-  origin_ty : Ty
-  is_origin : type_of ann origin ≡ Some origin_ty
-  index : ℕ
-  field : FieldInfo
-  is_field : field_of core origin_ty.0 name ≡ Some (index, field)
-  goes : goes_to core value_ty (place field) ≡ true
-  old : Form
-  is_old : taken origin_ty.1 field.cap ≡ Some old
-  says : Says t (Some (field.entity, old)) behind
+pub record PutRule (core : CoreData) (ann : Ann) (x : Node) (t : Note) (behind : Masks) (name : ℕ) : Type 0 where
+  pub value : ℕ
+  pub origin : ℕ
+  pub children : x.children ≡ value ∷ origin ∷ []
+  pub value_ty : Ty
+  pub is_value : type_of ann value ≡ Some value_ty
+  pub origin_ty : Ty
+  pub is_origin : type_of ann origin ≡ Some origin_ty
+  pub index : ℕ
+  pub field : FieldInfo
+  pub is_field : field_of core origin_ty.0 name ≡ Some (index, field)
+  pub goes : goes_to core value_ty (place field) ≡ true
+  pub old : Form
+  pub is_old : taken origin_ty.1 field.cap ≡ Some old
+  pub says : Says t (Some (field.entity, old)) behind
 
 -- The old value of an own field, where it is set.
-abbrev OldOwn : ℕ → FieldInfo → Mask → Option Ty → Type 0
+abbrev pub OldOwn : ℕ → FieldInfo → Mask → Option Ty → Type 0
 OldOwn i g s old = (old ≡ None) ⊎ ((has s i ≡ true) × (f : Form) × (taken form.Ref g.cap ≡ Some f) × (old ≡ Some (g.entity, f)))
 
 -- A field of the method's entity, to which the value goes, and which is set then.
-record OwnPutRule (core : CoreData) (ann : Ann) (x : Node) (t : Note) (behind : Masks) (name : ℕ) : Type 0 where
-  own : Method
-  is_own : slice_get core.methods x.method ≡ Some own
-  origin : OwnOrigin core x own
-  value : ℕ
-  last : ℕ
-  children : x.children ≡ value ∷ last ∷ []
-  value_ty : Ty
-  is_value : type_of ann value ≡ Some value_ty
-  index : ℕ
-  field : FieldInfo
-  is_field : field_of core own.entity name ≡ Some (index, field)
-  goes : goes_to core value_ty (place field) ≡ true
-  old : Option Ty
-  is_old : OldOwn index field behind.1 old
-  says : Says t old (behind.0, with_number behind.1 index)
+pub record OwnPutRule (core : CoreData) (ann : Ann) (x : Node) (t : Note) (behind : Masks) (name : ℕ) : Type 0 where
+  pub own : Method
+  pub is_own : slice_get core.methods x.method ≡ Some own
+  pub origin : OwnOrigin core x own
+  pub value : ℕ
+  pub last : ℕ
+  pub children : x.children ≡ value ∷ last ∷ []
+  pub value_ty : Ty
+  pub is_value : type_of ann value ≡ Some value_ty
+  pub index : ℕ
+  pub field : FieldInfo
+  pub is_field : field_of core own.entity name ≡ Some (index, field)
+  pub goes : goes_to core value_ty (place field) ≡ true
+  pub old : Option Ty
+  pub is_old : OldOwn index field behind.1 old
+  pub says : Says t old (behind.0, with_number behind.1 index)
 
 abbrev given_up : ℕ → FieldInfo → Mask → Form → Option Ty
 given_up i g s f = cond (has s i) (Some (g.entity, f)) None
@@ -117,7 +117,7 @@ written_is core v o name f e =
     (g.0.0, subst (λ (z : FieldInfo). field_of core o.0 name ≡ Some (g.0.0, z)) is g.1, subst (λ (z : FieldInfo). goes_to core v (place z) ≡ true) is q.0)
 
 module _ (core : CoreData) (ann : Ann) (x : Node) (t : Note) (behind : Masks) (is_behind : through ann x.children (before t) ≡ Some behind) (name : ℕ) where
-  write_is : write_says core ann x name (before t) ≡ Some (said_by t) → PutRule core ann x t behind name
+  pub write_is : write_says core ann x name (before t) ≡ Some (said_by t) → PutRule core ann x t behind name
   write_is e =
       let v = bind_some (two_types ann x.children) _ (said_by t) e in
       let y = bind_some (old_type core v.0.0 v.0.1 name) _ (said_by t) v.2 in
@@ -145,7 +145,7 @@ module _ (core : CoreData) (ann : Ann) (x : Node) (t : Note) (behind : Masks) (i
         says = said_type t (w.0.entity, o.0) y.0 behind n.0 ty is n.2;
       }
 
-  own_write_is : incomplete core ann x ≡ true → own_write_says core ann x name (before t) ≡ Some (said_by t) → OwnPutRule core ann x t behind name
+  pub own_write_is : incomplete core ann x ≡ true → own_write_says core ann x name (before t) ≡ Some (said_by t) → OwnPutRule core ann x t behind name
   own_write_is lacks e =
       let g = bind_some (own_field core x name) _ (said_by t) e in
       let m = bind_some (slice_get core.methods x.method) _ g.0 g.1 in

@@ -64,7 +64,7 @@ position_is w xs e differ at =
 
 module _ (core : CoreData) (formed : Formed core) where
   -- Main and its constructor are found.
-  main_found : main_create core ≡ Some (formed.main.entity, formed.main.number)
+  pub main_found : main_create core ≡ Some (formed.main.entity, formed.main.number)
   main_found =
       let m = formed.main in
       let named : entity_named core (codes "Main") ≡ Some m.entity = position_is (codes "Main") (map (λ x. x.name) core.entities) m.entity formed.entity_names (get_map (λ x. x.name) core.entities m.entity m.main m.is_entity ∙ ap Some m.name) in
@@ -72,16 +72,20 @@ module _ (core : CoreData) (formed : Formed core) where
       let number : method_named core m.entity m.create.name ≡ Some m.number = found_is core m.entity m.create.name m.number m.main formed m.is_entity (m.create, m.is_method, m.own, refl) (method_named core m.entity m.create.name) refl in
       rw (named, word, number) refl
 
+  -- The environment, with its field.
+  pub env_is : environment core ≡ record { entity = 4; fields = Some (At (own_address 0)) ∷ [] }
+  env_is = ap (λ (x : Option EntityDef). with_field (new_object 4 (fields_in x)) 0 (At (own_address 0))) formed.built_in.env
+
 -- ---- the objects
 
 -- The objects of a program that begins: the stream's, the environment, and Main's.
-abbrev with_stream : CoreData → ObjectMap
+abbrev pub with_stream : CoreData → ObjectMap
 with_stream core = insert empty (own_address 0) (blank_object core 5)
 
-abbrev with_environment : CoreData → ObjectMap
+abbrev pub with_environment : CoreData → ObjectMap
 with_environment core = insert (with_stream core) environment_address (environment core)
 
-abbrev with_main : CoreData → ℕ → ObjectMap
+abbrev pub with_main : CoreData → ℕ → ObjectMap
 with_main core main = insert (with_environment core) (own_address 1) (blank_object core main)
 
 none_there : (q : Address) (o : Object) → get (empty {X = Object} {R = address_cmp}) q ≡ Some o → ⊥
@@ -119,9 +123,6 @@ module _ (core : CoreData) (ann : Ann) (formed : Formed core) (valid : Valid cor
 
   -- ---- the environment
 
-  env_is : environment core ≡ record { entity = 4; fields = Some (At (own_address 0)) ∷ [] }
-  env_is = ap (λ (x : Option EntityDef). with_field (new_object 4 (fields_in x)) 0 (At (own_address 0))) formed.built_in.env
-
   env_free : get (with_stream core) environment_address ≡ None
   env_free = get_after empty (own_address 0) (blank_object core 5) environment_address ∙ get-empty address_cmp environment_address
 
@@ -143,7 +144,7 @@ module _ (core : CoreData) (ann : Ann) (formed : Formed core) (valid : Valid cor
   }
 
   env_object : ObjectOk core (with_environment core) (environment core)
-  env_object = subst (ObjectOk core (with_environment core)) (sym env_is) (record {
+  env_object = subst (ObjectOk core (with_environment core)) (sym (env_is core formed)) (record {
     entity = _;
     is_entity = formed.built_in.env;
     placed = refl;
@@ -173,7 +174,7 @@ module _ (core : CoreData) (ann : Ann) (formed : Formed core) (valid : Valid cor
   env_all o is (suc i) l = let m : suc i < 1 = subst (λ (p : Object). suc i < length p.fields) is l in absurd (omega (arith, m))
 
   env_finished : Finished (with_environment core) (At environment_address)
-  env_finished = (environment core, get_here (with_stream core) environment_address (environment core), env_all (environment core) env_is)
+  env_finished = (environment core, get_here (with_stream core) environment_address (environment core), env_all (environment core) (env_is core formed))
 
   -- ---- Main
 

@@ -3,4 +3,10 @@ pub mod Tasks
 pub mod Frames
 pub mod Typed
 pub mod Moves
+pub mod RegionWorld
+pub mod RegionTasks
+pub mod RegionFrames
+pub mod RegionMoves
+pub mod RegionPlaces
+pub mod RegionLaws
 pub mod Laws

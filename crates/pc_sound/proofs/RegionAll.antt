@@ -1,0 +1,30 @@
+-- From what each task keeps in regions to the safety of every valid core.
+use Rattle.pc_semantics.specs.declared.frames.Task.{Task}
+use Rattle.pc_semantics.specs.Configurations.{start}
+use Rattle.pc_semantics.specs.Runs.{after}
+use Rattle.pc_sound.specs.Typed.{WellTyped}
+use Rattle.pc_sound.specs.RegionFrames.{HasRegions}
+use Rattle.pc_sound.specs.RegionLaws.{ValidIsSafe}
+use Rattle.pc_sound.proofs.Needs.{Needs}
+use Rattle.pc_sound.proofs.Needed.{needed}
+use Rattle.pc_sound.proofs.Steps.{run_ok}
+use Rattle.pc_sound.proofs.AllTasks.{keeps}
+use Rattle.pc_sound.proofs.Takes.{takes}
+use Rattle.pc_sound.proofs.Starts.{start_typed}
+use Rattle.pc_sound.proofs.Sound.{accepted_never_lacks}
+use Rattle.pc_sound.proofs.RegionQuiet.{quiet, races_not}
+use Rattle.pc_sound.proofs.RegionStart.{start_in_regions}
+use Rattle.pc_sound.proofs.RegionSteps.{KeepsRegions, TakesRegions, run_in_regions}
+
+module _ (keep : (t : Task) → KeepsRegions t) (take : TakesRegions) where
+  pub valid_is_safe : ValidIsSafe
+  valid_is_safe core ann formed valid list =
+      let needs : Needs core ann = needed core formed ann valid in
+      let first = start_typed core ann formed valid in
+      let typed : WellTyped core ann (after core list) = run_ok keeps takes core ann needs list (start core) first in
+      let in_them : HasRegions core ann (after core list) = run_in_regions keep take core ann needs list (start core) first (start_in_regions core ann formed) in
+      record {
+        no_race = races_not core ann needs (after core list) typed in_them.0 in_them.1;
+        quiet = quiet core ann needs (after core list) typed in_them.0 in_them.1;
+        lacks_nothing = accepted_never_lacks core ann formed valid list;
+      }
