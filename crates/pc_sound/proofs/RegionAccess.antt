@@ -89,8 +89,7 @@ module _ (core : CoreData) (ann : Ann) (needs : Needs core ann) (around : Around
       let both : StackFits w around.actor (length fs) s.active.holds.base (e ∷ below) (v ∷ rest) =
       subst (StackFits w around.actor (length fs) s.active.holds.base (e ∷ below)) at (subst (λ (es : List Entry). StackFits w around.actor (length fs) s.active.holds.base es f.stack) is s.active.holds.stack_fit) in
       let alias : AliasSome w around.actor s.active.holds.base (w.top around.actor) (type_of ann c) v =
-      subst (TopAlias w around.actor s.active.holds.base (e ∷ below)) at (subst (λ (es : List Entry). TopAlias w around.actor s.active.holds.base es f.stack) is (s.fresh used)) in
-      (
+      subst (TopAlias w around.actor s.active.holds.base (e ∷ below)) at (subst (λ (es : List Entry). TopAlias w around.actor s.active.holds.base es f.stack) is (s.fresh used)) in (
         subst (λ (u : Option Ty). FitsSome w (OnStack around.actor (length fs) (length rest) (w.top around.actor)) u v) typed (place_at (length rest) (s.active.holds.base + s.active.depth) s.active.last (type_of ann c) v both.0),
         subst (λ (u : Option Ty). AliasSome w around.actor s.active.holds.base (w.top around.actor) u v) typed alias,
       )

@@ -38,8 +38,7 @@ module _ (core : CoreData) (ann : Ann) (w w' : World) (i count : ℕ) (to : Opti
         let slots = λ (h s l : ℕ) (g : Form) (v : Value) (low : h < suc (length fs)) (x : Fits w (InSlot j h s l) g v). o.fits (InSlot j h s l) g v another x in
         let stacks = λ (h d l : ℕ) (g : Form) (v : Value) (low : h < suc (length fs)) (x : Fits w (OnStack j h d l) g v). o.fits (OnStack j h d l) g v another x in
         let over = λ (m l : ℕ) (up : m ≤ k.0.holds.base) (low : l < k.0.holds.base) (x : Over w j (w.context j m) l). o.over j m l there differ x in
-        let ajar = λ (l : ℕ) (up : l ≤ k.0.holds.base) (x : w.stands (w.context j l) ≡ Opened j). o.opened j l there differ x in
-        (
+        let ajar = λ (l : ℕ) (up : l ≤ k.0.holds.base) (x : w.stands (w.context j l) ≡ Opened j). o.opened j l there differ x in (
           record {
             holds = holds_kept core ann w w' j (suc (length fs)) slots stacks k.0.holds.base ajar over (length fs) f.method f.slots f.stack (omega arith) k.0.holds;
             depth = k.0.depth;

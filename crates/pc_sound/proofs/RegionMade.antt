@@ -121,10 +121,12 @@ module _ (core : CoreData) (ann : Ann) (c : Configuration) (i : ℕ) (a : Actor)
   made_regions fs (Makes at o h f) k = (k.0, goes_on k.0 (insert c.objects at o) (h ∷ f ∷ fs) k.1)
   made_regions fs (Spawns o m f) k =
       let n : ℕ = length (slice_set c.actors i (gone_on (f ∷ fs))) in
-      let at : n ≡ length c.actors = length-set c.actors i (gone_on (f ∷ fs)) in
-      (k.0, comes k.0 n o m (f ∷ fs) at
-      (subst (λ (q : ℕ). Turned core ann w k.0 i (length c.actors) None (insert c.objects (own_address q) o) (q + 1) (f ∷ fs)) (sym at) k.1)
-      (subst (λ (q : ℕ). MessageFits core k.0 q 0 m) (sym at) k.2) (ap k.0.sent at ∙ k.3) (ap k.0.top at ∙ k.4))
+      let at : n ≡ length c.actors = length-set c.actors i (gone_on (f ∷ fs)) in (
+        k.0,
+        comes k.0 n o m (f ∷ fs) at
+            (subst (λ (q : ℕ). Turned core ann w k.0 i (length c.actors) None (insert c.objects (own_address q) o) (q + 1) (f ∷ fs)) (sym at) k.1)
+            (subst (λ (q : ℕ). MessageFits core k.0 q 0 m) (sym at) k.2) (ap k.0.sent at ∙ k.3) (ap k.0.top at ∙ k.4),
+      )
   made_regions fs (Enters h f) k = (k.0, goes_on k.0 c.objects (h ∷ f ∷ fs) k.1)
   made_regions fs (Sends j m f) k = (k.1, delivers k.1 (f ∷ fs) j m (slice_get (slice_set c.actors i (gone_on (f ∷ fs))) j) refl k.0 k.2 k.3)
   made_regions fs (Leaves v) k = (k.0, goes_on k.0 c.objects (left v fs) k.1)

@@ -1,5 +1,6 @@
 //! What is proved of valid annotations and of runs. Each call does nothing, and its contract is the law.
 ghost use Rattle.pc_sound.specs.Laws as law;
+ghost use Rattle.pc_sound.specs.RegionLaws as region;
 
 /// The start of a core with a valid annotation is well typed.
 pub fn start_is_typed()
@@ -19,4 +20,14 @@ pub fn steps_keep_types()
 /// What has a valid annotation never lacks anything, over every schedule.
 pub fn accepted_never_lacks()
     ensures { law.AcceptedNeverLacks }
+{}
+
+/// Regions exclude races and let waiting messages alone.
+pub fn regions_exclude_races()
+    ensures { region.RegionsExcludeRaces }
+{}
+
+/// A program begins with regions.
+pub fn start_has_regions()
+    ensures { region.StartHasRegions }
 {}

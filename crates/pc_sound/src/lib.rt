@@ -4,4 +4,7 @@
 
 mod laws;
 
-pub use laws::{accepted_never_lacks, moves_keep_types, start_is_typed, steps_keep_types};
+pub use laws::{
+    accepted_never_lacks, moves_keep_types, regions_exclude_races, start_has_regions,
+    start_is_typed, steps_keep_types,
+};
