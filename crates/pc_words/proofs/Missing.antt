@@ -1,13 +1,13 @@
--- Words without a subcommand are refused.
-use Rattle.std.proofs.Common.{◌≡◌, Bool, true, false, List, [], ◌∷◌, Option, Some, None, refl, is_some, option_map, ap, subst, not, ◌&&◌}
+-- Words without a subcommand have a fault, and are not taken.
+use Rattle.std.proofs.Common.{◌≡◌, Bool, true, false, List, [], ◌∷◌, Option, Some, None, refl, is_some, option_map, ap, subst, not, ◌&&◌, ◌||◌}
 use Rattle.clap.specs.Kinds.{Kinds, or_else, check_kinds}
 use Rattle.clap.specs.Faults.{check_fault, defaults_fault, entered_fault, level_fault, settle_fault, walk_fault}
-use Rattle.clap.specs.Takes.{is_given}
+use Rattle.clap.specs.Takes.{default_passes, entered_passes, is_given, is_valid, level_passes, settle_passes, walk_passes}
 use Rattle.clap.specs.Facts.{explicit_source}
-use Rattle.std.specs.List.{list_any}
-use Rattle.clap.specs.Simple.{Shape, built, argument_words, names_of}
+use Rattle.std.specs.List.{list_all, list_any}
+use Rattle.clap.specs.Simple.{Shape, built, is_simple, argument_words, names_of}
 use Rattle.clap.specs.Walk.{Held, Names, finished, nothing_held, settled, walk, walk_from}
-use Rattle.clap.specs.Words.{Row, Text, fault_of, subcommand_of}
+use Rattle.clap.specs.Words.{Row, Text, fault_of, subcommand_of, takes}
 use Rattle.pc_words.specs.Asked.{named}
 use Rattle.pc_words.specs.Line.{rcap}
 
@@ -45,3 +45,38 @@ missing words e f =
 pub nothing_named : (o : Option (Text × List Row)) → None ≡ option_map named o → o ≡ None
 nothing_named None e = refl
 nothing_named (Some p) e = cc
+
+-- ---- the same by what the command line takes
+
+and_right : (a b : Bool) → (a && b) ≡ true → b ≡ true
+and_right true b e = e
+and_right false b e = cc
+
+and_left : (a b : Bool) → (a && b) ≡ true → a ≡ true
+and_left true b e = refl
+and_left false b e = cc
+
+not_wanted : (b : Bool) → b ≡ true → (not b || false) ≡ true → ⊥
+not_wanted true r e = cc
+not_wanted false r e = cc
+
+invalid : (s : Shape) (rows : List Row) → s.subcommand_required ≡ true → is_valid s rows false ≡ true → ⊥
+invalid s rows required e =
+    let a = and_right (not s.arg_required_else_help || (false || list_any (λ r. explicit_source r.source) rows)) _ e in
+    not_wanted s.subcommand_required required (and_left (not s.subcommand_required || false) _ a)
+
+passes_without : (s : Shape) (names : Names) (h : Held) (words : List Text) → s.subcommand_required ≡ true → level_passes s names h words false ≡ true → ⊥
+passes_without s names h words required e =
+    let end = (walk s.rules names h words).held in
+    let a = and_right (walk_passes s names (walk_from h) words) _ e in
+    let b = and_right (settle_passes s.rules s.args_override_self end) _ a in
+    let c = and_right (list_all default_passes s.rules) _ b in
+    invalid s (finished s.rules (walk s.rules names h words).held) required c
+
+pub untaken_without : (words : List Text) → subcommand_of rcap words ≡ None → takes rcap words ≡ true → ⊥
+untaken_without words e t =
+    let a = built rcap in
+    let stop = (walk a.top.rules (names_of a) nothing_held (argument_words a words)).stopped in
+    let P : Bool → Type 0 = λ b. level_passes a.top (names_of a) nothing_held (argument_words a words) b ≡ true in
+    passes_without a.top (names_of a) nothing_held (argument_words a words) refl
+    (subst P (ap is_some e) (and_right (entered_passes a stop) _ (and_right (is_simple rcap) _ t)))

@@ -5,5 +5,5 @@ mod laws;
 mod line;
 mod words;
 
-pub use laws::written_forms_are_taken;
+pub use laws::{only_refused_words_ask_for_nothing, written_forms_are_taken};
 pub use words::{Command, WordsFault, read_words};
