@@ -59,7 +59,8 @@ fn touched_name(core: &Core, task: Task) -> Option<(u32, bool)>
 
 // The field of the object on top of a frame's stack.
 fn access_on(core: &Core, heap: &Heap, frame: &Frame, name: u32, write: bool) -> Option<Access>
-    ensures { result ≡ spec.access_of core.now (record { objects = heap.now.objects; actors = []; printed = [] }) frame.now (name, write) }
+    ensures { result
+        ≡ spec.access_of core.now (record { objects = heap.now.objects; actors = []; printed = [] }) frame.now (name, write) }
 {
     let value = frame.stack.top()?;
     let address = address_of(value)?;

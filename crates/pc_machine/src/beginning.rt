@@ -9,7 +9,8 @@ ghost use Rattle.pc_semantics.specs.Configurations as spec;
 ghost use Rattle.pc_machine.specs.States.{configuration_of};
 
 use crate::actors::{Actors, idle_actor, waiting_actor};
-use crate::lookups::{fields_of, message_of};
+use crate::arguments::message_of;
+use crate::lookups::fields_of;
 use crate::state::State;
 use pc_caps::List;
 use pc_core::{Core, EntityDef};
@@ -108,7 +109,9 @@ fn start_objects(alloc: Global, core: &Core, main: u32) -> Result<Heap, AllocErr
 
 // The stream, and Main with the message of its constructor.
 fn start_actors(alloc: Global, create: u32) -> Result<Actors, AllocError>
-    ensures { IfOk result (λ actors. actors ≡ record { mailbox = []; frames = [] } ∷ record { mailbox = record { method = create; arguments = At spec.environment_address ∷ [] } ∷ []; frames = [] } ∷ []) }
+    ensures { IfOk result (λ actors. actors ≡
+        record { mailbox = []; frames = [] }
+        ∷ record { mailbox = record { method = create; arguments = At spec.environment_address ∷ [] } ∷ []; frames = [] } ∷ []) }
 {
     let environment = Value::At(Address {
         maker: 0,

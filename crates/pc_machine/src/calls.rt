@@ -1,12 +1,14 @@
 //! What constructors are about to do.
-ghost use Rattle.std.specs.Prelude.{◌≡◌, length, drop, slice_get, IfOk};
-ghost use Rattle.pc_semantics.specs.Around.{Around, with_tasks};
+ghost use Rattle.std.specs.Prelude.{◌≡◌, length, slice_get, IfOk};
+ghost use Rattle.pc_semantics.specs.Around.{Around};
 ghost use Rattle.pc_semantics.specs.Calls.{make_of, make_task, spawn_of, spawn_task};
+ghost use Rattle.pc_tasks.specs.Inside.{relieved};
 ghost use Rattle.pc_machine.specs.Plans.{after_call, move_of, Fits};
 ghost use Rattle.pc_semantics.specs.declared.frames.Frame.{Frame};
 
+use crate::arguments::{arguments_on, message_of};
 use crate::frames::begin_frame;
-use crate::lookups::{arguments_on, fields_of, message_of};
+use crate::lookups::fields_of;
 use crate::plan::Plan;
 use pc_core::{Core, Node, NodeKind};
 use pc_heap::Value;
@@ -20,7 +22,8 @@ fn plan_object(
     number: u32,
     arguments: &[Value],
 ) -> Result<Plan, AllocError>
-    ensures means { IfOk result (λ plan. (around : Around) (f : Frame) → move_of around plan f ≡ make_of core.now around number arguments.now (after_call (length arguments.now) f) (slice_get core.now.methods number)) }
+    ensures means { IfOk result (λ plan. (around : Around) (f : Frame) → move_of around plan f
+        ≡ make_of core.now around number arguments.now (after_call (length arguments.now) f) (slice_get core.now.methods number)) }
     ensures fits { IfOk result (λ plan. Fits plan (length arguments.now)) }
 {
     let Some(method) = core.method_at(number) else {
@@ -43,7 +46,8 @@ fn plan_object(
 
 /// What the task Make of a node is about to do.
 pub fn plan_make(alloc: Global, core: &Core, frame: &Frame, node: &Node) -> Result<Plan, AllocError>
-    ensures means { IfOk result (λ plan. (around : Around) → move_of around plan frame.now ≡ make_task core.now around (with_tasks frame.now (drop 1 frame.now.tasks)) node.now.children node.now.kind) }
+    ensures means { IfOk result (λ plan. (around : Around) → move_of around plan frame.now
+        ≡ make_task core.now around (relieved frame.now) node.now.children node.now.kind) }
     ensures fits { IfOk result (λ plan. Fits plan (length frame.now.stack)) }
 {
     let NodeKind::New(number) = &node.kind else {
@@ -62,7 +66,8 @@ fn plan_actor(
     number: u32,
     arguments: &[Value],
 ) -> Result<Plan, AllocError>
-    ensures means { IfOk result (λ plan. (around : Around) (f : Frame) → move_of around plan f ≡ spawn_of core.now around number arguments.now (after_call (length arguments.now) f) (slice_get core.now.methods number)) }
+    ensures means { IfOk result (λ plan. (around : Around) (f : Frame) → move_of around plan f
+        ≡ spawn_of core.now around number arguments.now (after_call (length arguments.now) f) (slice_get core.now.methods number)) }
     ensures fits { IfOk result (λ plan. Fits plan (length arguments.now)) }
 {
     let Some(method) = core.method_at(number) else {
@@ -87,7 +92,8 @@ pub fn plan_spawn(
     frame: &Frame,
     node: &Node,
 ) -> Result<Plan, AllocError>
-    ensures means { IfOk result (λ plan. (around : Around) → move_of around plan frame.now ≡ spawn_task core.now around (with_tasks frame.now (drop 1 frame.now.tasks)) node.now.children node.now.kind) }
+    ensures means { IfOk result (λ plan. (around : Around) → move_of around plan frame.now
+        ≡ spawn_task core.now around (relieved frame.now) node.now.children node.now.kind) }
     ensures fits { IfOk result (λ plan. Fits plan (length frame.now.stack)) }
 {
     let NodeKind::Spawn(number) = &node.kind else {

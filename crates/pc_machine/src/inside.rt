@@ -22,7 +22,8 @@ fn run_top(
     frames: &mut Stack<Frame>,
 ) -> Result<Outcome, AllocError>
     requires { IsSomeAnd (slice_get frames.old 0) (λ f. IsInside (slice_get f.tasks 0)) }
-    ensures ok { IfOk result (λ o. IfSome (slice_get frames.old 0) (λ f. Ran core.now heap.old.objects f (drop 1 frames.old) o heap.new.objects frames.new)) }
+    ensures ok { IfOk result (λ o. IfSome (slice_get frames.old 0)
+        (λ f. Ran core.now heap.old.objects f (drop 1 frames.old) o heap.new.objects frames.new)) }
     ensures objects { OnErr result (heap.new.objects ≡ heap.old.objects) }
     ensures frames { OnErr result (frames.new ≡ frames.old) }
 {

@@ -1,15 +1,16 @@
 //! What the call of a method by its name is about to do.
-ghost use Rattle.std.specs.Prelude.{◌≡◌, ◌+◌, ◌-◌, ℕ, length, drop, slice_get, IfOk};
+ghost use Rattle.std.specs.Prelude.{◌≡◌, ◌+◌, ℕ, length, IfOk};
 ghost use Rattle.pc_heap.specs.Objects.{ObjectMap};
 ghost use Rattle.pc_semantics.specs.Around as around;
-ghost use Rattle.pc_semantics.specs.Around.{Around, with_tasks};
+ghost use Rattle.pc_semantics.specs.Around.{Around};
 ghost use Rattle.pc_semantics.specs.Calls as spec;
-ghost use Rattle.pc_tasks.specs.Inside.{amid};
+ghost use Rattle.pc_tasks.specs.Inside.{amid, relieved};
 ghost use Rattle.pc_machine.specs.Plans.{after_call, receiver_in, move_of, Fits};
 ghost use Rattle.pc_semantics.specs.declared.frames.Frame.{Frame};
 
+use crate::arguments::{arguments_below, message_of};
 use crate::frames::begin_frame;
-use crate::lookups::{arguments_below, entity_of, message_of};
+use crate::lookups::entity_of;
 use crate::plan::{Change, Plan};
 use crate::strings::plan_string;
 use pc_core::{Core, Method, MethodKind, Node, NodeKind};
@@ -26,7 +27,8 @@ fn plan_function(
     arguments: &[Value],
 ) -> Result<Plan, AllocError>
     ensures means { IfOk result (λ plan. (around : Around) (f : Frame) → move_of around plan f
-        ≡ spec.counted method.now arguments.now (spec.enter number method.now this.now arguments.now (after_call (length arguments.now + 1) f) method.now.body)) }
+        ≡ spec.counted method.now arguments.now
+        (spec.enter number method.now this.now arguments.now (after_call (length arguments.now + 1) f) method.now.body)) }
     ensures fits { IfOk result (λ plan. Fits plan (length arguments.now + 1)) }
 {
     if arguments.len() != method.params.len() {
@@ -92,7 +94,8 @@ fn plan_method(
     arguments: &[Value],
 ) -> Result<Plan, AllocError>
     ensures means { IfOk result (λ plan. (objects : ObjectMap) (i : ℕ) (f : Frame) → move_of (amid objects i actors) plan f
-        ≡ spec.invoke_kind (amid objects i actors) number method.now this.now arguments.now (after_call (length arguments.now + 1) f) method.now.kind) }
+        ≡ spec.invoke_kind (amid objects i actors) number method.now this.now arguments.now
+        (after_call (length arguments.now + 1) f) method.now.kind) }
     ensures fits { IfOk result (λ plan. Fits plan (length arguments.now + 1)) }
 {
     match method.kind {
@@ -113,7 +116,8 @@ fn plan_call(
     arguments: &[Value],
 ) -> Result<Plan, AllocError>
     ensures means { IfOk result (λ plan. (i : ℕ) (f : Frame) → move_of (amid heap.now.objects i actors) plan f
-        ≡ spec.invoke_on core.now (amid heap.now.objects i actors) name this.now arguments.now (after_call (length arguments.now + 1) f) (around.entity_of heap.now.objects this.now)) }
+        ≡ spec.invoke_on core.now (amid heap.now.objects i actors) name this.now arguments.now
+        (after_call (length arguments.now + 1) f) (around.entity_of heap.now.objects this.now)) }
     ensures fits { IfOk result (λ plan. Fits plan (length arguments.now + 1)) }
 {
     let Some(entity) = entity_of(heap, this) else {
@@ -138,7 +142,7 @@ pub fn plan_invoke(
     node: &Node,
 ) -> Result<Plan, AllocError>
     ensures means { IfOk result (λ plan. (i : ℕ) → move_of (amid heap.now.objects i actors) plan frame.now
-        ≡ spec.invoke_task core.now (amid heap.now.objects i actors) (with_tasks frame.now (drop 1 frame.now.tasks)) node.now.children node.now.kind) }
+        ≡ spec.invoke_task core.now (amid heap.now.objects i actors) (relieved frame.now) node.now.children node.now.kind) }
     ensures fits { IfOk result (λ plan. Fits plan (length frame.now.stack)) }
 {
     let NodeKind::Call(name) = &node.kind else {

@@ -4,6 +4,7 @@
 
 mod access;
 mod actors;
+mod arguments;
 mod beginning;
 mod calls;
 mod frames;

@@ -25,7 +25,8 @@ fn change_actor(
 ) -> Result<(), AllocError>
     requires running { 0 < length (frames_of actors.old actor) }
     requires suits { IfSome (slice_get (frames_of actors.old actor) 0) (λ f. Suits change (length f.stack)) }
-    ensures ok { OnOk result (actors.new ≡ changed actors.old actor (framed (frames_changed change (frames_of actors.old actor)))) }
+    ensures ok { OnOk result
+        (actors.new ≡ changed actors.old actor (framed (frames_changed change (frames_of actors.old actor)))) }
     ensures err { OnErr result (actors.new ≡ actors.old) }
 {
     let mut frames = actors.swap_frames(actor, Stack::new(alloc));
@@ -67,7 +68,8 @@ fn send(
     requires enough { IfSome (slice_get (frames_of state.old.actors actor) 0) (λ f. count ≤ length f.stack) }
     requires there { receiver < length state.old.actors }
     requires few { messages_in state.old.actors + 1 < 2 ^ 32 }
-    ensures ok { IfOk result (λ o. (o, configuration_of state.new) ≡ planned (configuration_of state.old) actor (Plan.Sends count receiver message)) }
+    ensures ok { IfOk result (λ o. (o, configuration_of state.new)
+        ≡ planned (configuration_of state.old) actor (Plan.Sends count receiver message)) }
     ensures err { OnErr result (configuration_of state.new ≡ configuration_of state.old) }
 {
     state.actors.deliver(receiver, message)?;
@@ -89,7 +91,8 @@ fn make(
     requires small { fields ≤ field_limit }
     requires slots { 0 < length frame.slots }
     requires few { len state.old.heap.objects < object_limit }
-    ensures ok { IfOk result (λ o. (o, configuration_of state.new) ≡ planned (configuration_of state.old) actor (Plan.Makes count entity fields frame)) }
+    ensures ok { IfOk result (λ o. (o, configuration_of state.new)
+        ≡ planned (configuration_of state.old) actor (Plan.Makes count entity fields frame)) }
     ensures err { OnErr result (configuration_of state.new ≡ configuration_of state.old) }
 {
     state.heap.reserve(alloc, actor, fields)?;
@@ -122,7 +125,8 @@ fn spawn(
     requires few { len state.old.heap.objects < object_limit }
     requires few_messages { messages_in state.old.actors + 1 < 2 ^ 32 }
     requires peopled { IsPeopled (configuration_of state.old) }
-    ensures ok { IfOk result (λ o. (o, configuration_of state.new) ≡ planned (configuration_of state.old) actor (Plan.Spawns count entity fields message)) }
+    ensures ok { IfOk result (λ o. (o, configuration_of state.new)
+        ≡ planned (configuration_of state.old) actor (Plan.Spawns count entity fields message)) }
     ensures err { OnErr result (configuration_of state.new ≡ configuration_of state.old) }
 {
     let number = state.actors.len() as u32;

@@ -20,7 +20,8 @@ fn plan_leave(alloc: Global, value: &Value) -> Result<Plan, AllocError>
 
 /// What the task Return of a frame is about to do.
 pub fn plan_return(alloc: Global, core: &Core, frame: &Frame) -> Result<Plan, AllocError>
-    ensures means { IfOk result (λ plan. (around : Around) → move_of around plan frame.now ≡ return_task (relieved frame.now) (slice_get core.now.methods frame.now.method)) }
+    ensures means { IfOk result (λ plan. (around : Around) → move_of around plan frame.now
+        ≡ return_task (relieved frame.now) (slice_get core.now.methods frame.now.method)) }
     ensures fits { IfOk result (λ plan. Fits plan (length frame.now.stack)) }
 {
     let Some(method) = core.method_at(frame.method) else {

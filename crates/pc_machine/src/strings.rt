@@ -63,7 +63,8 @@ pub fn plan_string(
     this: &Value,
     arguments: &[Value],
 ) -> Result<Plan, AllocError>
-    ensures means { IfOk result (λ plan. (around : Around) (f : Frame) → move_of around plan f ≡ spec.string_of core.now name this.now arguments.now (after_call (length arguments.now + 1) f)) }
+    ensures means { IfOk result (λ plan. (around : Around) (f : Frame) → move_of around plan f
+        ≡ spec.string_of core.now name this.now arguments.now (after_call (length arguments.now + 1) f)) }
     ensures fits { IfOk result (λ plan. Fits plan (length arguments.now + 1)) }
 {
     if !is_string(core, name, arguments) {

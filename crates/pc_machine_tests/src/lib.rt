@@ -7,3 +7,5 @@ mod memory;
 mod reading;
 #[cfg(test)]
 mod runs;
+#[cfg(test)]
+mod turns;

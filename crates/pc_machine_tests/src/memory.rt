@@ -1,9 +1,9 @@
 //! A run in which memory is refused once, at any request.
-use crate::reading::{core_of, counts, has_printed, step};
+use crate::reading::core_of;
+use crate::turns::{counts, has_printed, step};
 use pc_core::Core;
 use pc_machine::{Machine, Outcome, start};
 use std::alloc::Global;
-use std::test::Fail;
 
 /// An actor that is made and sent to twice, each time with more arguments than stand in a message itself.
 const PROGRAM: &[u8] = b"class C
@@ -26,50 +26,67 @@ actor Main
 ";
 
 fn read(alloc: Global) -> Option<Core> {
-    match core_of(alloc, PROGRAM) {
-        Some(core) => Some(core),
-        None => core_of(alloc, PROGRAM),
+    if let Some(core) = core_of(alloc, PROGRAM) {
+        return Some(core);
     }
+    core_of(alloc, PROGRAM)
 }
 
-/// A step of an actor, tried once more where memory was refused. Whether nothing changed in between is answered too.
-fn retried(machine: &mut Machine<'_>, actor: u32) -> (Option<Outcome>, bool) {
+fn started(alloc: Global, core: &Core) -> Option<Machine<'_>> {
+    if let Ok(machine) = start(alloc, core) {
+        return Some(machine);
+    }
+    start(alloc, core).ok()
+}
+
+/// Whether a step of an actor ends so, tried once more where memory was refused, and nothing that is seen changes in
+/// between.
+fn ends(machine: &mut Machine<'_>, actor: u32, outcome: Outcome) -> bool {
     let before = counts(machine);
     let access = machine.access(actor);
+    if let Ok(first) = step(machine, actor) {
+        return first == outcome;
+    }
+    if counts(machine) != before || machine.access(actor) != access {
+        return false;
+    }
     match step(machine, actor) {
-        Ok(outcome) => (Some(outcome), true),
-        Err(_) => {
-            let same = counts(machine) == before && machine.access(actor) == access;
-            (step(machine, actor).ok(), same)
-        }
+        Ok(second) => second == outcome,
+        Err(_) => false,
     }
 }
 
-/// Whether all steps of an actor that move, so many of them, leave the counts as they were where memory is refused.
+/// Whether so many steps of an actor move, and then one is skipped.
 fn run(machine: &mut Machine<'_>, actor: u32, times: u32) -> bool {
     for _ in 0..times {
-        let (outcome, same) = retried(machine, actor);
-        if outcome != Some(Outcome::Moved) || !same {
+        if !ends(machine, actor, Outcome::Moved) {
             return false;
         }
     }
-    retried(machine, actor) == (Some(Outcome::Skipped), true)
+    ends(machine, actor, Outcome::Skipped)
+}
+
+fn all_runs(machine: &mut Machine<'_>) -> bool {
+    run(machine, 1, 29)
+        && counts(machine) == (3, 4, 3, 0)
+        && run(machine, 2, 85)
+        && counts(machine) == (3, 6, 2, 0)
+        && run(machine, 0, 2)
+        && counts(machine) == (3, 6, 0, 2)
+        && has_printed(machine, &[b"x!4", b"y!5"])
+}
+
+fn ends_the_same(alloc: Global) -> bool {
+    let Some(core) = read(alloc) else {
+        return false;
+    };
+    match started(alloc, &core) {
+        Some(mut machine) => all_runs(&mut machine),
+        None => false,
+    }
 }
 
 #[test]
-fn memory_may_be_refused(rt: HostRuntime) -> Result<(), Fail> {
-    let core = read(rt.alloc()).ok_or("core")?;
-    let mut machine = match start(rt.alloc(), &core) {
-        Ok(machine) => machine,
-        Err(_) => start(rt.alloc(), &core)?,
-    };
-    assert!(rt; run(&mut machine, 1, 29));
-    assert_eq!(rt; counts(&machine), (3, 4, 3, 0));
-    assert!(rt; run(&mut machine, 2, 85));
-    assert_eq!(rt; counts(&machine), (3, 6, 2, 0));
-    assert!(rt; run(&mut machine, 0, 2));
-    assert_eq!(rt; counts(&machine), (3, 6, 0, 2));
-    assert!(rt; has_printed(&machine, 0, b"x!4"));
-    assert!(rt; has_printed(&machine, 1, b"y!5"));
-    Ok(())
+fn memory_may_be_refused(rt: HostRuntime) {
+    assert!(rt; ends_the_same(rt.alloc()));
 }

@@ -1,96 +1,138 @@
 //! Programs run step by step. The numbers of steps are counted by hand, from the tasks of each node.
-use crate::reading::{core_of, counts, has_printed, step, steps};
-use pc_machine::{Access, Lack, Outcome, start};
-use std::test::Fail;
+use crate::turns::{Counts, Turn, access_behind, outcome_behind, runs};
+use pc_machine::{Lack, Outcome};
 
-const HELLO: &[u8] = b"actor Main\n  new create(env: Env) =>\n    env.out.print(\"hi\")\n";
+const fn turn(actor: u32, steps: u32, moved: u32, counts: Counts) -> Turn {
+    Turn {
+        actor,
+        steps,
+        moved,
+        counts,
+    }
+}
+
+const HELLO: &[u8] = b"actor Main
+  new create(env: Env) =>
+    env.out.print(\"hi\")
+";
 
 /// The take, the body, the sequence, the call, the text, the field, the local, the read, the invocation and the return;
-/// and then the stream prints.
+/// and then the stream prints. There is no actor 7.
 #[test]
-fn hello(rt: HostRuntime) -> Result<(), Fail> {
-    let core = core_of(rt.alloc(), HELLO).ok_or("core")?;
-    let mut machine = start(rt.alloc(), &core)?;
-    assert_eq!(rt; counts(&machine), (2, 3, 1, 0));
-    assert_eq!(rt; step(&mut machine, 0)?, Outcome::Skipped);
-    assert_eq!(rt; step(&mut machine, 1)?, Outcome::Moved);
-    assert_eq!(rt; counts(&machine), (2, 3, 0, 0));
-    assert_eq!(rt; steps(&mut machine, 1, 6)?, 6);
-    assert!(rt; machine.access(1).is_some_and(|access| access.field == 0 && !access.write));
-    assert_eq!(rt; steps(&mut machine, 1, 2)?, 2);
-    assert_eq!(rt; machine.access(1), None);
-    assert_eq!(rt; counts(&machine), (2, 3, 1, 0));
-    assert_eq!(rt; steps(&mut machine, 1, 7)?, 1);
-    assert_eq!(rt; step(&mut machine, 7)?, Outcome::Skipped);
-    assert_eq!(rt; steps(&mut machine, 0, 7)?, 1);
-    assert_eq!(rt; counts(&machine), (2, 3, 0, 1));
-    assert!(rt; has_printed(&machine, 0, b"hi"));
-    Ok(())
+fn hello(rt: HostRuntime) {
+    let turns = [
+        turn(0, 5, 0, (2, 3, 1, 0)),
+        turn(1, 1, 1, (2, 3, 0, 0)),
+        turn(7, 5, 0, (2, 3, 0, 0)),
+        turn(1, 7, 7, (2, 3, 0, 0)),
+        turn(1, 1, 1, (2, 3, 1, 0)),
+        turn(1, 5, 1, (2, 3, 1, 0)),
+        turn(0, 5, 1, (2, 3, 0, 1)),
+    ];
+    assert!(rt; runs(rt.alloc(), HELLO, &turns, &[b"hi"]));
 }
 
-const SPAWN: &[u8] = b"actor A\n  new create(n: U64) =>\n    None\nactor Main\n  new create(env: Env) =>\n    A(5)\n";
+const SPAWN: &[u8] = b"actor A
+  new create(n: U64) =>
+    None
+actor Main
+  new create(env: Env) =>
+    A(5)
+";
 
-/// A new actor has its object and its message, which it takes in its own turn.
+/// The sixth step makes an actor with its object and its message, which it takes in its own turn.
 #[test]
-fn spawned(rt: HostRuntime) -> Result<(), Fail> {
-    let core = core_of(rt.alloc(), SPAWN).ok_or("core")?;
-    let mut machine = start(rt.alloc(), &core)?;
-    assert_eq!(rt; step(&mut machine, 2)?, Outcome::Skipped);
-    assert_eq!(rt; steps(&mut machine, 1, 5)?, 5);
-    assert_eq!(rt; counts(&machine), (2, 3, 0, 0));
-    assert_eq!(rt; steps(&mut machine, 1, 1)?, 1);
-    assert_eq!(rt; counts(&machine), (3, 4, 1, 0));
-    assert_eq!(rt; steps(&mut machine, 1, 9)?, 1);
-    assert_eq!(rt; steps(&mut machine, 2, 9)?, 5);
-    assert_eq!(rt; counts(&machine), (3, 4, 0, 0));
-    Ok(())
+fn spawned(rt: HostRuntime) {
+    let turns = [
+        turn(2, 5, 0, (2, 3, 1, 0)),
+        turn(1, 5, 5, (2, 3, 0, 0)),
+        turn(1, 1, 1, (3, 4, 1, 0)),
+        turn(1, 9, 1, (3, 4, 1, 0)),
+        turn(2, 9, 5, (3, 4, 0, 0)),
+    ];
+    assert!(rt; runs(rt.alloc(), SPAWN, &turns, &[]));
 }
 
-const CALL: &[u8] = b"actor Main\n  new create(env: Env) =>\n    env.out.print(twice(21).string())\n  fun twice(n: U64): U64 =>\n    n + n\n";
+const CALL: &[u8] = b"actor Main
+  new create(env: Env) =>
+    env.out.print(twice(21).string())
+  fun twice(n: U64): U64 =>
+    n + n
+";
 
-/// Nine steps up to the invocation of the function, seven in it with its return, and six behind.
+/// Nine steps up to the invocation of the function, seven in it with its return, and six behind it.
 #[test]
-fn called(rt: HostRuntime) -> Result<(), Fail> {
-    let core = core_of(rt.alloc(), CALL).ok_or("core")?;
-    let mut machine = start(rt.alloc(), &core)?;
-    assert_eq!(rt; steps(&mut machine, 1, 99)?, 22);
-    assert_eq!(rt; counts(&machine), (2, 3, 1, 0));
-    assert_eq!(rt; steps(&mut machine, 0, 9)?, 1);
-    assert!(rt; has_printed(&machine, 0, b"42"));
-    Ok(())
+fn called(rt: HostRuntime) {
+    let turns = [turn(1, 99, 22, (2, 3, 1, 0)), turn(0, 9, 1, (2, 3, 0, 1))];
+    assert!(rt; runs(rt.alloc(), CALL, &turns, &[b"42"]));
 }
 
-const MAKE: &[u8] = b"class C\n  var n: U64\n  new create(m: U64) =>\n    n = m\nactor Main\n  new create(env: Env) =>\n    let c: C = C(7)\n    env.out.print(c.n.string())\n";
+const MAKE: &[u8] = b"class C
+  var n: U64
+  new create(m: U64) =>
+    n = m
+actor Main
+  new create(env: Env) =>
+    let c: C = C(7)
+    env.out.print(c.n.string())
+";
 
-/// The constructor of a class gives its object, whose field is read.
+/// Seven steps make the object. The constructor's frame has a body, a sequence and a write, and gives the object.
 #[test]
-fn made(rt: HostRuntime) -> Result<(), Fail> {
-    let core = core_of(rt.alloc(), MAKE).ok_or("core")?;
-    let mut machine = start(rt.alloc(), &core)?;
-    // the take, the body, the sequence, the definition, the constructor, the number, the making
-    assert_eq!(rt; steps(&mut machine, 1, 7)?, 7);
-    assert_eq!(rt; counts(&machine), (2, 4, 0, 0));
-    // the body, the sequence, the write, the local, `this`
-    assert_eq!(rt; steps(&mut machine, 1, 5)?, 5);
-    let access: Access = machine.access(1).ok_or("access")?;
-    assert!(rt; access.write && access.address.maker == 1 && access.address.serial == 1);
-    // the writing, the return, the storing and the discarding, and the print
-    assert_eq!(rt; steps(&mut machine, 1, 99)?, 15);
-    assert_eq!(rt; steps(&mut machine, 0, 9)?, 1);
-    assert!(rt; has_printed(&machine, 0, b"7"));
-    Ok(())
+fn made(rt: HostRuntime) {
+    let turns = [
+        turn(1, 6, 6, (2, 3, 0, 0)),
+        turn(1, 1, 1, (2, 4, 0, 0)),
+        turn(1, 99, 20, (2, 4, 1, 0)),
+        turn(0, 9, 1, (2, 4, 0, 1)),
+    ];
+    assert!(rt; runs(rt.alloc(), MAKE, &turns, &[b"7"]));
 }
 
-const LACK: &[u8] = b"actor Main\n  new create(env: Env) =>\n    1 + true\n";
+/// Before its writing and its reading an actor is about to touch the field of the object that it made.
+#[test]
+fn touched(rt: HostRuntime) {
+    let before = [turn(1, 12, 12, (2, 4, 0, 0))];
+    let access = access_behind(rt.alloc(), MAKE, &before, 1);
+    assert!(rt; access.is_some_and(|found| found.write && found.field == 0
+        && found.address.maker == 1 && found.address.serial == 1));
+    let behind = [turn(1, 21, 21, (2, 4, 0, 0))];
+    let access = access_behind(rt.alloc(), MAKE, &behind, 1);
+    assert!(rt; access.is_some_and(|found| !found.write && found.address.serial == 1));
+    assert!(rt; access_behind(rt.alloc(), MAKE, &[], 1).is_none());
+}
+
+const LACK: &[u8] = b"actor Main
+  new create(env: Env) =>
+    1 + true
+";
 
 /// A step that lacks something changes nothing, however often.
 #[test]
-fn lacking(rt: HostRuntime) -> Result<(), Fail> {
-    let core = core_of(rt.alloc(), LACK).ok_or("core")?;
-    let mut machine = start(rt.alloc(), &core)?;
-    assert_eq!(rt; steps(&mut machine, 1, 99)?, 6);
-    assert_eq!(rt; step(&mut machine, 1)?, Outcome::Lacks(Lack::Value));
-    assert_eq!(rt; step(&mut machine, 1)?, Outcome::Lacks(Lack::Value));
-    assert_eq!(rt; counts(&machine), (2, 3, 0, 0));
-    Ok(())
+fn lacking(rt: HostRuntime) {
+    let turns = [turn(1, 99, 6, (2, 3, 0, 0)), turn(1, 99, 0, (2, 3, 0, 0))];
+    let outcome = outcome_behind(rt.alloc(), LACK, &turns, 1);
+    assert!(rt; outcome == Some(Outcome::Lacks(Lack::Value)));
+}
+
+const LONG: &[u8] = b"class C
+  new create(n: U64) =>
+    None
+actor Main
+  new create(env: Env) =>
+    var t: U64 = 0
+    while t < 1000000 do
+      C(t)
+      env.out.print(\"x\")
+      t = next(t)
+    end
+  fun next(n: U64): U64 =>
+    n + 1
+";
+
+/// A million steps, in which objects and messages grow many.
+#[test]
+fn a_million_steps(rt: HostRuntime) {
+    let turns = [turn(1, 1_000_000, 1_000_000, (2, 0, 0, 0))];
+    assert!(rt; runs(rt.alloc(), LONG, &turns, &[]));
 }

@@ -1,7 +1,7 @@
 use Rattle.std.proofs.Common.{◌<◌, length, sym, inl, inr, ◌∙◌, refl}
 use Rattle.std.proofs.lemmas.Bool.{cases_lt, true≢false}
 use Rattle.pc_machine.proofs.Popped.{below_is, below_short}
-use Rattle.pc_machine.proofs.lookups.arguments_below.Goals as goal
+use Rattle.pc_machine.proofs.arguments.arguments_below.Goals as goal
 
 pub returns-in_err-values-clause-values : goal.returns-in_err-values-clause-values
 returns-in_err-values-clause-values c =
