@@ -38,7 +38,8 @@ fn report_of(machine: &Machine<'_>, counts: Counts) -> Report
 
 /// Lets a machine that was just started take all turns, and then writes what was printed, each text with a line end by one
 /// call of `put`, and the line of the run's numbers by one more. The times of the turns sum to at most 1,000,000, and over
-/// no list of actors does a step of the core lack anything. It takes no memory for the turns, whatever their times.
+/// no list of actors does a step of the core lack anything. The times of a turn are counted through, and no list of all steps
+/// is kept.
 ///
 /// # Errors
 /// - `TooLong(n)` where the n-th step of the turns, counted from 1, would make a text that is too long. The texts that were
