@@ -1,6 +1,10 @@
 //! Programs, read.
-ghost use Rattle.std.specs.Prelude.{◌≤◌, length, IfOk};
+ghost use Rattle.std.specs.Prelude.{IfOk, IfSome};
+ghost use Rattle.pc_core.specs.Words.{Ascends};
+ghost use Rattle.pc_elab.specs.Cores.{Spelled};
 ghost use Rattle.pc_expr.specs.Gives.{EndsWithEnd};
+ghost use Rattle.pc_order.specs.Laws.{starts};
+ghost use Rattle.pc_tree.specs.View.{file_view};
 
 use pc_caps::List;
 use pc_core::Core;
@@ -9,10 +13,12 @@ use pc_lex::{LexFault, Token, lex};
 use pc_names::collect;
 use pc_order::tokens_are_in_order;
 use pc_parse::file;
+use pc_tree::File;
 use std::alloc::Global;
 
 fn tokens_of(alloc: Global, text: &[u8]) -> Result<List<Token>, LexFault>
-    ensures { IfOk result EndsWithEnd }
+    ensures end { IfOk result EndsWithEnd }
+    ensures ascend { IfOk result (λ tokens. Ascends (starts tokens)) }
 {
     if text.len() > 1_048_576 {
         return Err(LexFault::Memory);
@@ -21,11 +27,26 @@ fn tokens_of(alloc: Global, text: &[u8]) -> Result<List<Token>, LexFault>
     lex(alloc, text)
 }
 
+fn tree_of(alloc: Global, text: &[u8]) -> Option<File>
+    ensures { IfSome result (λ tree. Spelled (file_view tree)) }
+{
+    let Ok(tokens) = tokens_of(alloc, text) else {
+        return None;
+    };
+    match file(alloc, tokens.as_slice()) {
+        Ok(tree) => Some(tree),
+        Err(_) => None,
+    }
+}
+
 /// The core of a program.
 pub fn core_of(alloc: Global, text: &[u8]) -> Option<Core> {
-    tokens_are_in_order();
-    let tokens = tokens_of(alloc, text).ok()?;
-    let tree = file(alloc, tokens.as_slice()).ok()?;
-    let names = collect(alloc, &tree).ok()?;
-    elaborate(alloc, &tree, &names).ok()
+    let tree = tree_of(alloc, text)?;
+    let Ok(names) = collect(alloc, &tree) else {
+        return None;
+    };
+    match elaborate(alloc, &tree, &names) {
+        Ok(core) => Some(core),
+        Err(_) => None,
+    }
 }

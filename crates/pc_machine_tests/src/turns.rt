@@ -8,6 +8,7 @@ pub type Counts = (u32, u64, u64, usize);
 
 /// The turn of an actor: it is given so many steps, of which so many move before one does not, and then so many things are
 /// there.
+#[derive(Drop)]
 pub struct Turn {
     pub actor: u32,
     pub steps: u32,
@@ -26,7 +27,12 @@ pub fn step(machine: &mut Machine<'_>, actor: u32) -> Result<Outcome, AllocError
 
 pub fn counts(machine: &Machine<'_>) -> Counts {
     let texts = machine.printed().len();
-    (machine.actors(), machine.objects(), machine.waiting(), texts)
+    (
+        machine.actors(),
+        machine.objects(),
+        machine.waiting(),
+        texts,
+    )
 }
 
 // How many of so many steps of an actor move before one does not.
@@ -58,7 +64,10 @@ fn all_go(machine: &mut Machine<'_>, turns: &[Turn]) -> bool {
 pub fn has_printed(machine: &Machine<'_>, texts: &[&[u8]]) -> bool {
     let printed = machine.printed().as_slice();
     printed.len() == texts.len()
-        && printed.iter().zip(texts).all(|(one, other)| one.as_slice() == *other)
+        && printed
+            .iter()
+            .zip(texts)
+            .all(|(one, other)| one.as_slice() == *other)
 }
 
 /// Whether the program of a text begins with two actors, three objects and a message that waits, takes these turns and
@@ -77,12 +86,28 @@ pub fn runs(alloc: Global, text: &[u8], turns: &[Turn], printed: &[&[u8]]) -> bo
     }
 }
 
+fn outcome_of(machine: &mut Machine<'_>, turns: &[Turn], actor: u32) -> Option<Outcome> {
+    if all_go(machine, turns) {
+        step(machine, actor).ok()
+    } else {
+        None
+    }
+}
+
 /// How the step of an actor ends behind these turns of a program.
 pub fn outcome_behind(alloc: Global, text: &[u8], turns: &[Turn], actor: u32) -> Option<Outcome> {
     let core = core_of(alloc, text)?;
     match start(alloc, &core) {
-        Ok(mut machine) if all_go(&mut machine, turns) => step(&mut machine, actor).ok(),
-        _ => None,
+        Ok(mut machine) => outcome_of(&mut machine, turns, actor),
+        Err(_) => None,
+    }
+}
+
+fn access_of(machine: &mut Machine<'_>, turns: &[Turn], actor: u32) -> Option<Access> {
+    if all_go(machine, turns) {
+        machine.access(actor)
+    } else {
+        None
     }
 }
 
@@ -90,7 +115,7 @@ pub fn outcome_behind(alloc: Global, text: &[u8], turns: &[Turn], actor: u32) ->
 pub fn access_behind(alloc: Global, text: &[u8], turns: &[Turn], actor: u32) -> Option<Access> {
     let core = core_of(alloc, text)?;
     match start(alloc, &core) {
-        Ok(mut machine) if all_go(&mut machine, turns) => machine.access(actor),
-        _ => None,
+        Ok(mut machine) => access_of(&mut machine, turns, actor),
+        Err(_) => None,
     }
 }
