@@ -8,5 +8,6 @@ pub mod RegionTasks
 pub mod RegionFrames
 pub mod RegionMoves
 pub mod RegionPlaces
+pub mod RegionClimb
 pub mod RegionLaws
 pub mod Laws
