@@ -9,5 +9,6 @@ pub mod RegionFrames
 pub mod RegionMoves
 pub mod RegionPlaces
 pub mod RegionClimb
+pub mod RegionScope
 pub mod RegionLaws
 pub mod Laws
