@@ -12,3 +12,4 @@ pub mod RegionClimb
 pub mod RegionScope
 pub mod RegionLaws
 pub mod Laws
+pub mod RegionSettle
