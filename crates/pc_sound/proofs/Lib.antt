@@ -47,3 +47,4 @@ mod RegionStands
 mod RegionShifts
 mod RegionRise
 mod RegionChildren
+mod RegionControl
