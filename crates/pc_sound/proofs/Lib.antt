@@ -45,3 +45,4 @@ mod RegionStart
 mod RegionAll
 mod RegionStands
 mod RegionShifts
+mod RegionMerge
