@@ -48,3 +48,6 @@ mod RegionShifts
 mod RegionRise
 mod RegionChildren
 mod RegionControl
+mod RegionSlot
+mod RegionValue
+mod RegionMerge

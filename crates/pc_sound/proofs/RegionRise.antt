@@ -33,7 +33,7 @@ use Rattle.pc_sound.proofs.RegionShifts.{others_kept, fields_kept, below_kept}
 
 -- ---- what is passed
 
-and_none : (a b : Bool) → b ≡ false → (a && b) ≡ false
+pub and_none : (a b : Bool) → b ≡ false → (a && b) ≡ false
 and_none true b e = e
 and_none false b e = refl
 
@@ -41,7 +41,7 @@ or_none : (a b : Bool) → a ≡ false → b ≡ false → (a || b) ≡ false
 or_none true b e g = e
 or_none false b e g = g
 
-not_here : (a b : Bool) → not a ≡ true → (a && b) ≡ false
+pub not_here : (a b : Bool) → not a ≡ true → (a && b) ≡ false
 not_here true b e = absurd (false_true e)
 not_here false b e = refl
 
@@ -52,7 +52,7 @@ passed_elsewhere i h n k (OnStack j g d l) e = not_here (nat_eq i j) (nat_eq h g
 passed_elsewhere i h n k (InField a f) e = refl
 passed_elsewhere i h n k (InMail j t f) e = refl
 
-lower_frame : (a : Bool) (h g : ℕ) (b : Bool) → g < h → (a && (nat_eq h g && b)) ≡ false
+pub lower_frame : (a : Bool) (h g : ℕ) (b : Bool) → g < h → (a && (nat_eq h g && b)) ≡ false
 lower_frame a h g b low = and_none a (nat_eq h g && b) (ap (λ (c : Bool). c && b) (ne_eqb h g (λ e. absurd (omega (arith, e, low)))))
 
 pub slot_kept : (i h n k s l : ℕ) → l ≤ k → passed i h n k (InSlot i h s l) ≡ false
@@ -64,7 +64,7 @@ stack_kept i h n k d l under low =
     (or_none (nat_eq n d) (nat_lt k l) (ne_eqb n d (λ e. absurd (omega (arith, e, under)))) (le-ltb k l low)))
 
 -- The depth of a live slot.
-slot_depth : (core : CoreData) (ann : Ann) (m s d : ℕ) (live : Mask) (y : Slot × (ℕ × Cap)) → SlotsShallow core m live d → IsIn live s → slot_of core ann m s ≡ Some y → y.0.depth ≤ d
+pub slot_depth : (core : CoreData) (ann : Ann) (m s d : ℕ) (live : Mask) (y : Slot × (ℕ × Cap)) → SlotsShallow core m live d → IsIn live s → slot_of core ann m s ≡ Some y → y.0.depth ≤ d
 slot_depth core ann m s d live y flat is e =
     let a = bind_some (slice_get core.methods m) _ y e in
     let b = bind_some (slice_get core.slots (a.0.first_slot + s)) _ y a.2 in
@@ -161,6 +161,21 @@ module _ (core : CoreData) (ann : Ann) (climb : ClimbLaw core) (objects : Object
       })
 
 -- ---- the world stays
+
+-- A world that is as it was.
+pub shifts_same : (w : World) (objects : ObjectMap) (count i b : ℕ) (gone : Place → Bool) → WorldOk w objects count → Shifts w w objects count i b gone
+shifts_same w objects count i b gone ok = record {
+  world = ok;
+  fits = λ p f v e k. k;
+  sent = λ j. refl;
+  top = λ j n. refl;
+  context = λ l n. refl;
+  contexts = λ j l there n k. refl;
+  opened = λ j l n e. e;
+  alias = λ j c f v there n a. a;
+  over = λ j m l there n o. o;
+  low = λ m l n k o. o;
+}
 
 no_more : (n m : ℕ) → n ≡ m → n ≡ m + 0
 no_more n m e = omega (arith, e)

@@ -1,0 +1,170 @@
+-- Eval at literals, `this` and slots, in regions.
+use Rattle.std.specs.Prelude.{◌≡◌, ◌≢◌, ◌⊎◌, ℕ, zero, suc, ◌+◌, ◌<◌, ◌≤◌, Bool, true, false, ◌&&◌, ◌||◌, cond, List, [], ◌∷◌, length, Option, Some, None, nat_eq, slice_get, slice_set, refl}
+use Rattle.std.proofs.Common.{inl, inr, ap, sym, subst, ◌∙◌, arith}
+use Rattle.std.proofs.lemmas.Bool.{eqb-true, eq-eqb, ne_eqb, and_parts}
+use Rattle.std.proofs.lemmas.Option.{same_Some, none-some}
+use Rattle.pc_heap.specs.declared.value.Value.{Value}
+use Rattle.pc_heap.specs.declared.value.Value.TheVariants.{Num, Truth, Text, Prim, At}
+use Rattle.pc_caps.specs.Gets.{get_set}
+use Rattle.pc_caps.specs.Tables.{plain, unalias, sendable}
+use Rattle.pc_caps.specs.declared.capability.Cap.{Cap}
+use Rattle.pc_caps.specs.declared.capability.Cap.TheVariants as cap
+use Rattle.pc_caps.specs.declared.capability.Form.{Form}
+use Rattle.pc_caps.specs.declared.capability.Form.TheVariants as form
+use Rattle.pc_core.specs.declared.declarations.Method.{Method}
+use Rattle.pc_core.specs.declared.nodes.Node.{Node}
+use Rattle.pc_core.specs.declared.nodes.NodeKind.{NodeKind}
+use Rattle.pc_core.specs.declared.nodes.NodeKind.TheVariants as nodes
+use Rattle.pc_core.specs.declared.nodes.Slot.{Slot}
+use Rattle.pc_core.specs.CoreData.{CoreData}
+use Rattle.pc_core.specs.Members.{bind_some}
+use Rattle.pc_core.specs.Methods.{this_slot}
+use Rattle.pc_core.specs.Nodes.{NamesFit}
+use Rattle.pc_ann.specs.declared.mask.Mask.{Mask}
+use Rattle.pc_ann.specs.declared.annotation.Note.{Note}
+use Rattle.pc_ann.specs.declared.annotation.Ann.{Ann}
+use Rattle.pc_ann.specs.Masks.{IsIn, without_number}
+use Rattle.pc_ann.specs.MaskLaws.{without_number_bits}
+use Rattle.pc_semantics.specs.declared.frames.Frame.{Frame}
+use Rattle.pc_semantics.specs.declared.frames.Task.TheVariants as task
+use Rattle.pc_semantics.specs.Around.{Around, Goes, pushed, with_slot}
+use Rattle.pc_semantics.specs.Evaluation.{push_slot, take_slot}
+use Rattle.pc_rules.specs.Parts.{Ty, slot_of, reachable, full, before}
+use Rattle.pc_rules.specs.Values.{this_form}
+use Rattle.pc_rules.specs.Threads.{false_true}
+use Rattle.pc_sound.specs.Types.{OfType, OfSome, held_in}
+use Rattle.pc_sound.specs.Tasks.{Within, EvalOk, TasksOk}
+use Rattle.pc_sound.specs.Moves.{Runs}
+use Rattle.pc_sound.specs.RegionWorld.{Place, InSlot, OnStack, InField, InMail, World, Fits, Alias, AliasIn, FitsSome, AliasSome}
+use Rattle.pc_sound.specs.RegionTasks.{Entry, Rises, entry_of, EvalRises, TasksRise}
+use Rattle.pc_sound.specs.RegionFrames.{OpenedTo, ThisFits, SlotsFit, StackFits}
+use Rattle.pc_sound.specs.RegionMoves.{elsewhere, RegionMoveOk, Situated}
+use Rattle.pc_sound.specs.RegionPlaces.{Shifts}
+use Rattle.pc_sound.specs.RegionClimb.{ClimbLaw}
+use Rattle.pc_sound.specs.RegionSettle.{TakeLaw}
+use Rattle.pc_sound.proofs.Needs.{Needs}
+use Rattle.pc_sound.proofs.Needed.{first_own, not_first}
+use Rattle.pc_sound.proofs.Basic.{of_lower}
+use Rattle.pc_sound.proofs.EvalValue.{not_zero, taken_lower, own_at, seen_this, slot_ok}
+use Rattle.pc_sound.proofs.EvalChildren.{within_is}
+use Rattle.pc_sound.proofs.Inverse.{Says, Used, ThisRule, LocalRule, ConsumeRule}
+use Rattle.pc_sound.proofs.RegionShifts.{others_kept, fields_kept, below_kept}
+use Rattle.pc_sound.proofs.RegionRise.{Pushes, rise, slot_depth, shifts_same, others_both, and_none, not_here, lower_frame}
+use Rattle.pc_sound.proofs.RegionChildren.{at_depth}
+use Rattle.pc_sound.proofs.RegionSlot.{slot_read, iso_free, trn_free}
+
+either : (a b : Bool) → (a || b) ≡ true → (a ≡ true) ⊎ (b ≡ true)
+either true b e = inl refl
+either false b e = inr e
+
+-- ---- forms that say nothing
+
+pub tag_fits : (w : World) (p : Place) (v : Value) → Fits w p form.Tag v
+tag_fits w p (At a) = tt
+tag_fits w p (Num n) = tt
+tag_fits w p (Truth b) = tt
+tag_fits w p (Text t) = tt
+tag_fits w p (Prim e) = tt
+
+pub tag_alias : (w : World) (i b k : ℕ) (v : Value) → Alias w i b k form.Tag v
+tag_alias w i b k (At a) = tt
+tag_alias w i b k (Num n) = tt
+tag_alias w i b k (Truth t) = tt
+tag_alias w i b k (Text t) = tt
+tag_alias w i b k (Prim e) = tt
+
+-- What a place holds is no alias.
+stored_alias : (w : World) (i b l : ℕ) (k : Cap) (q : ℕ) → AliasIn w i b l (unalias k) q
+stored_alias w i b l cap.Iso q = tt
+stored_alias w i b l cap.Trn q = tt
+stored_alias w i b l cap.Ref q = tt
+stored_alias w i b l cap.Val q = tt
+stored_alias w i b l cap.Box q = tt
+stored_alias w i b l cap.Tag q = tt
+
+pub no_alias : (w : World) (i b l : ℕ) (k : Cap) (v : Value) → Alias w i b l (unalias k) v
+no_alias w i b l k (At a) = stored_alias w i b l k (w.region a)
+no_alias w i b l k (Num n) = tt
+no_alias w i b l k (Truth t) = tt
+no_alias w i b l k (Text t) = tt
+no_alias w i b l k (Prim e) = tt
+
+-- ---- one slot
+
+-- This slot of the frame of height h, at any level.
+abbrev one_slot : (i h s : ℕ) → Place → Bool
+one_slot i h s (InSlot j g t l) = nat_eq i j && (nat_eq h g && nat_eq s t)
+one_slot i h s (OnStack j g d l) = false
+one_slot i h s (InField a f) = false
+one_slot i h s (InMail j t f) = false
+
+that_slot : (i h s l : ℕ) → one_slot i h s (InSlot i h s l) ≡ true
+that_slot i h s l = ap (λ (b : Bool). b && (nat_eq h h && nat_eq s s)) (eq-eqb i i refl) ∙ ap (λ (b : Bool). b && nat_eq s s) (eq-eqb h h refl) ∙ eq-eqb s s refl
+
+other_slot : (i h s t l : ℕ) → s ≢ t → one_slot i h s (InSlot i h t l) ≡ false
+other_slot i h s t l n = and_none (nat_eq i i) (nat_eq h h && nat_eq s t) (and_none (nat_eq h h) (nat_eq s t) (ne_eqb s t n))
+
+slot_elsewhere : (i h s : ℕ) (p : Place) → elsewhere i p ≡ true → one_slot i h s p ≡ false
+slot_elsewhere i h s (InSlot j g t l) e = not_here (nat_eq i j) (nat_eq h g && nat_eq s t) e
+slot_elsewhere i h s (OnStack j g d l) e = refl
+slot_elsewhere i h s (InField a f) e = refl
+slot_elsewhere i h s (InMail j t f) e = refl
+
+module _ (core : CoreData) (ann : Ann) (needs : Needs core ann) (climb : ClimbLaw core) (around : Around) (f : Frame) (fs : List Frame) (r : Runs core ann around f fs) (w : World) (n : ℕ) (s : Situated core ann w around f (task.Eval n ∷ f.tasks) fs)
+  (e : EvalRises core ann f.method s.active.depth s.active.holds.live s.active.holds.entries n (λ d l g. TasksRise core ann f.method f.tasks d l g)) (t : EvalOk core ann f.method r.held.live r.held.set r.held.wants n (λ l z g. TasksOk core ann f.method f.tasks l z g)) where
+  abbrev i : ℕ
+  i = around.actor
+
+  abbrev h : ℕ
+  h = length fs
+
+  abbrev base : ℕ
+  base = s.active.holds.base
+
+  abbrev d : ℕ
+  d = s.active.depth
+
+  abbrev place : Place
+  place = OnStack i h (length f.stack) (base + d)
+
+  top_at : w.top i ≡ base + d
+  top_at = sym s.active.last
+
+  pushes : Pushes core ann w around.objects around.actors i f.method base d s.active.holds.live s.active.holds.entries f.slots f.stack fs
+  pushes = record {
+    world = s.world;
+    fields = s.fields;
+    here = s.here;
+    top = top_at;
+    opened = s.active.opened;
+    this_fits = s.active.holds.this_fits;
+    slots_fit = s.active.holds.slots_fit;
+    stack_fit = s.active.holds.stack_fit;
+    wait = s.wait;
+  }
+
+  follows_at : (ty : Option Ty) → e.note.ty ≡ ty → Rises core f.method e.note.live_after (at_depth d ty) s.active.holds.entries (λ d l g. TasksRise core ann f.method f.tasks d l g)
+  follows_at ty is =
+      let at : entry_of e.node e.note ≡ at_depth d ty = ap (λ (k : ℕ). at_depth k e.note.ty) e.depth ∙ ap (at_depth d) is in
+      subst (λ (x : Entry). Rises core f.method e.note.live_after x s.active.holds.entries (λ d l g. TasksRise core ann f.method f.tasks d l g)) at e.follows
+
+  -- A value of the note's type, by a node that leaves slots as they are.
+  leaf_goes : (ty : Ty) (v : Value) → Says e.note (Some ty) (before e.note) → OfType core around.objects ty v → Fits w place ty.1 v → Alias w i base (base + d) ty.1 v → RegionMoveOk core ann w around fs (Goes (pushed f v))
+  leaf_goes ty v q typed fits alias =
+      rise core ann climb around.objects around.actors i f.method base d s.active.holds.live s.active.holds.entries f.slots f.stack fs w pushes e.note.live_after (Some ty) v f.tasks
+      (subst (λ (m : Mask). Within m s.active.holds.live) (sym q.live) e.live) typed fits alias (follows_at (Some ty) q.ty)
+
+  pub number_goes : (k : ℕ) → Says e.note (Some (1, form.Val)) (before e.note) → RegionMoveOk core ann w around fs (Goes (pushed f (Num k)))
+  number_goes k q = leaf_goes (1, form.Val) (Num k) q (record { entity = 1; is_entity = refl; below = inl refl; kind = tt; finished = λ h. tt }) tt tt
+
+  pub truth_goes : (b : Bool) → Says e.note (Some (2, form.Val)) (before e.note) → RegionMoveOk core ann w around fs (Goes (pushed f (Truth b)))
+  truth_goes b q = leaf_goes (2, form.Val) (Truth b) q (record { entity = 2; is_entity = refl; below = inl refl; kind = tt; finished = λ h. tt }) tt tt
+
+  pub text_goes : (x : List ℕ) → Says e.note (Some (3, form.Val)) (before e.note) → RegionMoveOk core ann w around fs (Goes (pushed f (Text x)))
+  text_goes x q = leaf_goes (3, form.Val) (Text x) q (record { entity = 3; is_entity = refl; below = inl refl; kind = tt; finished = λ h. tt }) tt tt
+
+  pub prim_goes : (p : ℕ) → e.node.kind ≡ nodes.Prim p → Says e.note (Some (p, form.Val)) (before e.note) → RegionMoveOk core ann w around fs (Goes (pushed f (Prim p)))
+  prim_goes p is q = leaf_goes (p, form.Val) (Prim p) q (record { entity = p; is_entity = refl; below = inl refl; kind = names_at (nodes.Prim p) is; finished = λ h. tt }) tt tt
+    where
+      names_at : (k : NodeKind) → e.node.kind ≡ k → NamesFit core e.node.method k
+      names_at k is = subst (NamesFit core e.node.method) is (needs.formed.nodes n e.node e.is_node).names
