@@ -33,7 +33,7 @@ use Rattle.pc_rules.specs.Parts.{Ty, slot_of, reachable, full, before}
 use Rattle.pc_rules.specs.Values.{this_form}
 use Rattle.pc_rules.specs.Threads.{false_true}
 use Rattle.pc_sound.specs.Types.{OfType, OfSome, held_in}
-use Rattle.pc_sound.specs.Tasks.{Within, EvalOk, TasksOk}
+use Rattle.pc_sound.specs.Tasks.{Within, Follows, EvalOk, TasksOk}
 use Rattle.pc_sound.specs.Moves.{Runs}
 use Rattle.pc_sound.specs.RegionWorld.{Place, InSlot, OnStack, InField, InMail, World, Fits, Alias, AliasIn, FitsSome, AliasSome}
 use Rattle.pc_sound.specs.RegionTasks.{Entry, Rises, entry_of, EvalRises, TasksRise}
@@ -168,3 +168,77 @@ module _ (core : CoreData) (ann : Ann) (needs : Needs core ann) (climb : ClimbLa
     where
       names_at : (k : NodeKind) → e.node.kind ≡ k → NamesFit core e.node.method k
       names_at k is = subst (NamesFit core e.node.method) is (needs.formed.nodes n e.node e.is_node).names
+
+  -- ---- the typed evaluation, of the same node and note
+
+  abbrev typed_eval : EvalOk core ann f.method r.held.live r.held.set r.held.wants n (λ l z g. TasksOk core ann f.method f.tasks l z g)
+  typed_eval = record {
+    node = e.node;
+    is_node = e.is_node;
+    note = e.note;
+    is_note = e.is_note;
+    own = e.own;
+    live = subst (λ (u : Note). Within u.live_before r.held.live) note_is t.live;
+    set = subst (λ (u : Note). Within u.set_before r.held.set) note_is t.set;
+    follows = subst (λ (x : Node). Follows core x e.note r.held.wants (λ l z g. TasksOk core ann f.method f.tasks l z g)) node_is
+        (subst (λ (u : Note). Follows core t.node u r.held.wants (λ l z g. TasksOk core ann f.method f.tasks l z g)) note_is t.follows);
+  }
+    where
+      node_is : t.node ≡ e.node
+      node_is = same_Some t.node e.node (sym t.is_node ∙ e.is_node)
+
+      note_is : t.note ≡ e.note
+      note_is = same_Some t.note e.note (sym t.is_note ∙ e.is_note)
+
+  -- ---- `this`
+
+  own_method : slice_get core.methods e.node.method ≡ Some r.held.own
+  own_method = ap (slice_get core.methods) e.own ∙ r.held.is_own
+
+  -- The slot of `this` is of depth 0.
+  this_depth : (y : Slot × (ℕ × Cap)) → slot_of core ann e.node.method 0 ≡ Some y → y.0.depth ≡ 0
+  this_depth y is =
+      let a = bind_some (slice_get core.methods e.node.method) _ y is in
+      let b = bind_some (slice_get core.slots (a.0.first_slot + 0)) _ y a.2 in
+      let c = bind_some (slice_get ann.slots (a.0.first_slot + 0)) _ y b.2 in
+      let at : b.0 ≡ y.0 = ap (λ (z : Slot × (ℕ × Cap)). z.0) (same_Some (b.0, c.0) y c.2) in
+      let first : b.0 ≡ this_slot e.node.method a.0 = same_Some b.0 (this_slot e.node.method a.0) (sym b.1 ∙ first_own core needs.formed e.node.method a.0 a.1 (not_first core needs.formed n e.node e.is_node)) in
+      ap (λ (z : Slot). z.depth) (sym at ∙ first)
+
+  -- What is reachable is of the same depth, or may be sent.
+  near_slot : (y : Slot × (ℕ × Cap)) → reachable e.node y ≡ true → (y.0.depth ≡ d) ⊎ (sendable y.1.1 ≡ true)
+  near_slot y is =
+      elim (either (nat_eq y.0.depth e.node.depth) (sendable y.1.1) is) [
+        | inl q ↦ inl (eqb-true y.0.depth e.node.depth q ∙ e.depth)
+        | inr q ↦ inr q
+      ]
+
+  level_zero : base + 0 ≡ base
+  level_zero = omega arith
+
+  this_read : (k : Cap) → k ≡ r.held.own.receiver → (0 ≡ d) ⊎ (sendable k ≡ true) → Fits w place (plain k) r.held.this × Alias w i base (base + d) (plain k) r.held.this
+  this_read k is near =
+      slot_read w around.objects around.actors i base d s.world s.here top_at s.active.opened h 0 (length f.stack) 0 (omega arith) k r.held.this near
+      (subst (λ (l : ℕ). Fits w (InSlot i h 0 l) (unalias k) r.held.this) (sym level_zero)
+      (subst (λ (c : Cap). Fits w (InSlot i h 0 base) (unalias c) r.held.this) (sym is) (s.active.holds.this_fits r.held.own r.held.this r.held.is_own r.held.is_this)))
+
+  this_seen : (b : Bool) (k : Cap) → (b ≡ true → Fits w place (plain k) r.held.this × Alias w i base (base + d) (plain k) r.held.this)
+      → Fits w place (cond b (plain k) form.Tag) r.held.this × Alias w i base (base + d) (cond b (plain k) form.Tag) r.held.this
+  this_seen true k read = read refl
+  this_seen false k read = (tag_fits w place r.held.this, tag_alias w i base (base + d) r.held.this)
+
+  pub this_goes : ThisRule core ann e.node e.note → RegionMoveOk core ann w around fs (push_slot f (slice_get f.slots 0))
+  this_goes q =
+      let own : q.own ≡ r.held.own = same_Some q.own r.held.own (sym q.is_own ∙ own_method) in
+      let slot : q.slot.1 ≡ (r.held.own.entity, r.held.own.receiver) = needs.this_slot n e.node r.held.own q.slot e.is_node own_method q.is_slot in
+      let ty : Ty = (r.held.own.entity, this_form core e.node r.held.own.entity q.slot e.note.set_before) in
+      let said : Says e.note (Some ty) (before e.note) = subst (λ (x : Method). Says e.note (Some (x.entity, this_form core e.node x.entity q.slot e.note.set_before)) (before e.note)) own q.says in
+      let typed : OfType core around.objects ty r.held.this = record { entity = r.held.own.entity; is_entity = r.held.this_ok.is_entity; below = inl refl; kind = r.held.this_ok.kind; finished = seen_this core ann needs around f fs r n typed_eval q.slot slot } in
+      let read = this_seen (full core r.held.own.entity e.note.set_before && reachable e.node q.slot) q.slot.1.1
+          (λ b. this_read q.slot.1.1 (ap (λ (p : ℕ × Cap). p.1) slot)
+          (elim (near_slot q.slot (and_parts (full core r.held.own.entity e.note.set_before) (reachable e.node q.slot) b).1) [
+            | inl z ↦ inl (sym (this_depth q.slot q.is_slot) ∙ z)
+            | inr z ↦ inr z
+          ]))
+      in
+      subst (λ (o : Option (Option Value)). RegionMoveOk core ann w around fs (push_slot f o)) (sym r.held.is_this) (leaf_goes ty r.held.this said typed read.0 read.1)
