@@ -35,13 +35,13 @@ use Rattle.pc_rules.specs.Threads.{false_true}
 use Rattle.pc_sound.specs.Types.{OfType, OfSome, held_in}
 use Rattle.pc_sound.specs.Tasks.{Within, Follows, EvalOk, TasksOk}
 use Rattle.pc_sound.specs.Moves.{Runs}
-use Rattle.pc_sound.specs.RegionWorld.{Place, InSlot, OnStack, InField, InMail, World, Fits, Alias, AliasIn, FitsSome, AliasSome}
+use Rattle.pc_sound.specs.RegionWorld.{Place, InSlot, OnStack, InField, InMail, Opened, World, Seen, Fits, Alias, AliasIn, FitsSome, AliasSome}
 use Rattle.pc_sound.specs.RegionTasks.{Entry, Rises, entry_of, EvalRises, TasksRise}
 use Rattle.pc_sound.specs.RegionFrames.{OpenedTo, ThisFits, SlotsFit, StackFits}
 use Rattle.pc_sound.specs.RegionMoves.{elsewhere, RegionMoveOk, Situated}
 use Rattle.pc_sound.specs.RegionPlaces.{Shifts}
 use Rattle.pc_sound.specs.RegionClimb.{ClimbLaw}
-use Rattle.pc_sound.specs.RegionSettle.{TakeLaw}
+use Rattle.pc_sound.specs.RegionSettle.{Free, Takes, TakeLaw}
 use Rattle.pc_sound.proofs.Needs.{Needs}
 use Rattle.pc_sound.proofs.Needed.{first_own, not_first}
 use Rattle.pc_sound.proofs.Basic.{of_lower}
@@ -89,6 +89,29 @@ no_alias w i b l k (Truth t) = tt
 no_alias w i b l k (Text t) = tt
 no_alias w i b l k (Prim e) = tt
 
+-- ---- places that live with one region
+
+val_moved : (w : World) (p q : Place) (v : Value) → Fits w p form.Val v → Fits w q form.Val v
+val_moved w p q (At a) e = e
+val_moved w p q (Num n) e = tt
+val_moved w p q (Truth b) e = tt
+val_moved w p q (Text t) e = tt
+val_moved w p q (Prim n) e = tt
+
+ref_moved : (w : World) (i h s n l k : ℕ) (v : Value) → w.context i l ≡ w.context i k → Fits w (InSlot i h s l) form.Ref v → Fits w (OnStack i h n k) form.Ref v
+ref_moved w i h s n l k (At a) is e = e ∙ is
+ref_moved w i h s n l k (Num m) is e = tt
+ref_moved w i h s n l k (Truth b) is e = tt
+ref_moved w i h s n l k (Text t) is e = tt
+ref_moved w i h s n l k (Prim m) is e = tt
+
+box_moved : (w : World) (i h s n l k : ℕ) (v : Value) → w.context i l ≡ w.context i k → Fits w (InSlot i h s l) form.Box v → Fits w (OnStack i h n k) form.Box v
+box_moved w i h s n l k (At a) is e = subst (λ (u : ℕ). Seen w u (w.region a)) is e
+box_moved w i h s n l k (Num m) is e = tt
+box_moved w i h s n l k (Truth b) is e = tt
+box_moved w i h s n l k (Text t) is e = tt
+box_moved w i h s n l k (Prim m) is e = tt
+
 -- ---- one slot
 
 -- This slot of the frame of height h, at any level.
@@ -110,7 +133,7 @@ slot_elsewhere i h s (OnStack j g d l) e = refl
 slot_elsewhere i h s (InField a f) e = refl
 slot_elsewhere i h s (InMail j t f) e = refl
 
-module _ (core : CoreData) (ann : Ann) (needs : Needs core ann) (climb : ClimbLaw core) (around : Around) (f : Frame) (fs : List Frame) (r : Runs core ann around f fs) (w : World) (n : ℕ) (s : Situated core ann w around f (task.Eval n ∷ f.tasks) fs)
+module _ (core : CoreData) (ann : Ann) (needs : Needs core ann) (climb : ClimbLaw core) (take : TakeLaw) (around : Around) (f : Frame) (fs : List Frame) (r : Runs core ann around f fs) (w : World) (n : ℕ) (s : Situated core ann w around f (task.Eval n ∷ f.tasks) fs)
   (e : EvalRises core ann f.method s.active.depth s.active.holds.live s.active.holds.entries n (λ d l g. TasksRise core ann f.method f.tasks d l g)) (t : EvalOk core ann f.method r.held.live r.held.set r.held.wants n (λ l z g. TasksOk core ann f.method f.tasks l z g)) where
   abbrev i : ℕ
   i = around.actor
@@ -242,3 +265,129 @@ module _ (core : CoreData) (ann : Ann) (needs : Needs core ann) (climb : ClimbLa
           ]))
       in
       subst (λ (o : Option (Option Value)). RegionMoveOk core ann w around fs (push_slot f o)) (sym r.held.is_this) (leaf_goes ty r.held.this said typed read.0 read.1)
+
+  -- ---- slots
+
+  names_slot : (k : NodeKind) → e.node.kind ≡ k → NamesFit core e.node.method k
+  names_slot k is = subst (NamesFit core e.node.method) is (needs.formed.nodes n e.node e.is_node).names
+
+  module _ (z : ℕ) (low : 0 < z) (p : ℕ × Cap) (u : Used core ann e.node z e.note.live_before p) where
+    value_at : Rattle.pc_sound.proofs.EvalValue.InSlot core ann needs around f fs r n typed_eval z p
+    value_at = slot_ok core ann needs around f fs r n typed_eval z p low u
+
+    slot_here : slot_of core ann f.method z ≡ Some u.slot
+    slot_here = subst (λ (m : ℕ). slot_of core ann m z ≡ Some u.slot) e.own u.is_slot
+
+    is_outer : u.slot.0.depth ≤ d
+    is_outer = slot_depth core ann f.method z d s.active.holds.live u.slot s.active.not_deeper (e.live z u.live) slot_here
+
+    held_fits : Fits w (InSlot i h z (base + u.slot.0.depth)) (unalias p.1) value_at.value
+    held_fits = subst (λ (y : ℕ × Cap). Fits w (InSlot i h z (base + u.slot.0.depth)) (unalias y.1) value_at.value) u.ty (s.active.holds.slots_fit z low (e.live z u.live) value_at.value value_at.is_value u.slot slot_here)
+
+    near_it : (u.slot.0.depth ≡ d) ⊎ (sendable p.1 ≡ true)
+    near_it = subst (λ (y : ℕ × Cap). (u.slot.0.depth ≡ d) ⊎ (sendable y.1 ≡ true)) u.ty (near_slot u.slot u.near)
+
+    pub slot_goes : Says e.note (Some (p.0, plain p.1)) (before e.note) → RegionMoveOk core ann w around fs (push_slot f (slice_get f.slots z))
+    slot_goes q =
+        let read = slot_read w around.objects around.actors i base d s.world s.here top_at s.active.opened h z (length f.stack) u.slot.0.depth is_outer p.1 value_at.value near_it held_fits in
+        subst (λ (o : Option (Option Value)). RegionMoveOk core ann w around fs (push_slot f o)) (sym value_at.is_value) (leaf_goes (held_in p) value_at.value q value_at.typed read.0 read.1)
+
+    -- ---- the slot is emptied
+
+    module _ (q : Says e.note (Some (p.0, unalias p.1)) (without_number e.note.live_before z, e.note.set_before)) where
+      here_typed : OfType core around.objects (p.0, unalias p.1) value_at.value
+      here_typed = of_lower core ann needs around.objects (held_in p) (p.0, unalias p.1) value_at.value (taken_lower core p) value_at.typed
+
+      module _ (v : World) (x : Shifts w v around.objects around.actors i base (one_slot i h z)) (last : v.top i ≡ base + d) (ajar : OpenedTo v i base d) (fits : Fits v place (unalias p.1) value_at.value) where
+        this_left : ThisFits core v i h f.method base (slice_set f.slots z None)
+        this_left y c a b =
+            elim (get_set f.slots z None 0 (Some c) b) [
+              | inl k ↦ absurd (not_zero z low k.0)
+              | inr k ↦ x.fits (InSlot i h 0 base) (unalias y.receiver) c (other_slot i h z 0 base (λ g. absurd (omega (arith, g, low)))) (s.active.holds.this_fits y c a k)
+            ]
+
+        slots_left : SlotsFit core ann v i h f.method base e.note.live_after (slice_set f.slots z None)
+        slots_left k up is c at y slot =
+            let apart = (without_number_bits e.note.live_before z k).0 (subst (λ (m : Mask). IsIn m k) q.live is) in
+            elim (get_set f.slots z None k (Some c) at) [
+              | inl g ↦ absurd (none-some c (sym g.1))
+              | inr g ↦ x.fits (InSlot i h k (base + y.0.depth)) (unalias y.1.1) c (other_slot i h z k (base + y.0.depth) (λ same. apart.0 (sym same))) (s.active.holds.slots_fit k up (e.live k apart.1) c g y slot)
+            ]
+
+        some_left : (l : ℕ) (b : ℕ) (o : Option Ty) (c : Value) → FitsSome w (OnStack i h l b) o c → FitsSome v (OnStack i h l b) o c
+        some_left l b None c k = tt
+        some_left l b (Some y) c k = x.fits (OnStack i h l b) y.1 c refl k
+
+        stack_left : (es : List Entry) (vs : List Value) → StackFits w i h base es vs → StackFits v i h base es vs
+        stack_left [] [] k = k
+        stack_left [] (c ∷ vs) k = k
+        stack_left (y ∷ es) [] k = k
+        stack_left (y ∷ es) (c ∷ vs) k = (some_left (length vs) (base + y.depth) y.ty c k.0, stack_left es vs k.1)
+
+        left_pushes : Pushes core ann v around.objects around.actors i f.method base d e.note.live_after s.active.holds.entries (slice_set f.slots z None) f.stack fs
+        left_pushes = record {
+          world = x.world;
+          fields = fields_kept w v around.objects around.actors i base (one_slot i h z) x core (λ a k. refl) s.fields;
+          here = s.here;
+          top = last;
+          opened = ajar;
+          this_fits = this_left;
+          slots_fit = slots_left;
+          stack_fit = stack_left s.active.holds.entries f.stack s.active.holds.stack_fit;
+          wait = below_kept w v around.objects around.actors i base (one_slot i h z) x core ann h (λ g k l under. lower_frame (nat_eq i i) h g (nat_eq z k) under) (λ g k l under. refl) base f.method fs refl (omega arith) s.wait;
+        }
+
+        taken_goes : RegionMoveOk core ann w around fs (Goes (pushed (with_slot f z None) value_at.value))
+        taken_goes =
+            let up = rise core ann climb around.objects around.actors i f.method base d e.note.live_after s.active.holds.entries (slice_set f.slots z None) f.stack fs v left_pushes e.note.live_after (Some (p.0, unalias p.1)) value_at.value f.tasks
+                (λ k b. b) here_typed fits (no_alias v i base (base + d) p.1 value_at.value) (follows_at (Some (p.0, unalias p.1)) q.ty)
+            in
+            (up.0, record {
+              world = up.1.world;
+              fields = up.1.fields;
+              others = others_both w v up.0 i around.actors (others_kept w v around.objects around.actors i base (one_slot i h z) x (λ y g. slot_elsewhere i h z y g)) up.1.others;
+              frames = up.1.frames;
+            })
+
+      -- What is not `iso` or `trn` is only copied.
+      copied : Fits w place (unalias p.1) value_at.value → RegionMoveOk core ann w around fs (Goes (pushed (with_slot f z None) value_at.value))
+      copied fits = taken_goes w (shifts_same w around.objects around.actors i base (one_slot i h z) s.world) top_at s.active.opened fits
+
+      abbrev held_at : Place
+      held_at = InSlot i h z (base + u.slot.0.depth)
+
+      -- What is, is held by the stack.
+      moved : (k : Form) → k ≡ unalias p.1 → Takes w held_at k place → Fits w held_at k value_at.value → Free w i base value_at.value → RegionMoveOk core ann w around fs (Goes (pushed (with_slot f z None) value_at.value))
+      moved k is may fits free =
+          let above = λ (j : ℕ) (a : base < j) (b : j ≤ w.top i). s.active.opened j a (subst (λ (l : ℕ). j ≤ l) top_at b) in
+          let got = take w around.objects around.actors s.world i s.here base above held_at (one_slot i h z) (that_slot i h z (base + u.slot.0.depth)) h (length f.stack) (base + d) (omega (arith, top_at)) k value_at.value fits free may in
+          taken_goes got.0 got.1.shifts (got.1.top i ∙ top_at)
+          (λ j a b. subst (λ (c : ℕ). got.0.stands c ≡ Opened i) (sym (got.1.context i j s.here (omega (arith, b, top_at)))) (got.1.opened (w.context i j) i (s.active.opened j a b)))
+          (subst (λ (o : Form). Fits got.0 place o value_at.value) is got.1.fits)
+
+      same_level : (k : Cap) → p.1 ≡ k → sendable k ≡ false → u.slot.0.depth ≡ d
+      same_level k is bound =
+          elim near_it [
+            | inl c ↦ c
+            | inr c ↦ absurd (false_true (sym bound ∙ ap sendable (sym is) ∙ c))
+          ]
+
+      as_form : (k : Cap) → p.1 ≡ k → Fits w held_at (unalias k) value_at.value
+      as_form k is = subst (λ (c : Cap). Fits w held_at (unalias c) value_at.value) is held_fits
+
+      at_place : (k : Cap) → p.1 ≡ k → Fits w place (unalias k) value_at.value → Fits w place (unalias p.1) value_at.value
+      at_place k is fit = subst (λ (c : Cap). Fits w place (unalias c) value_at.value) (sym is) fit
+
+      near_home : (k : Cap) → p.1 ≡ k → sendable k ≡ false → w.context i (base + u.slot.0.depth) ≡ w.context i (base + d)
+      near_home k is bound = ap (λ (l : ℕ). w.context i (base + l)) (same_level k is bound)
+
+      emptied : (k : Cap) → p.1 ≡ k → RegionMoveOk core ann w around fs (Goes (pushed (with_slot f z None) value_at.value))
+      emptied cap.Iso is = moved form.IsoE (ap unalias (sym is)) tt (as_form cap.Iso is) (iso_free w around.objects around.actors i base d s.world s.here top_at s.active.opened h z (length f.stack) u.slot.0.depth is_outer value_at.value (as_form cap.Iso is))
+      emptied cap.Trn is = moved form.TrnE (ap unalias (sym is)) (sym (near_home cap.Trn is refl)) (as_form cap.Trn is) (trn_free w around.objects around.actors i base d s.world s.here top_at s.active.opened h z (length f.stack) u.slot.0.depth is_outer value_at.value (as_form cap.Trn is))
+      emptied cap.Ref is = copied (at_place cap.Ref is (ref_moved w i h z (length f.stack) (base + u.slot.0.depth) (base + d) value_at.value (near_home cap.Ref is refl) (as_form cap.Ref is)))
+      emptied cap.Val is = copied (at_place cap.Val is (val_moved w held_at place value_at.value (as_form cap.Val is)))
+      emptied cap.Box is = copied (at_place cap.Box is (box_moved w i h z (length f.stack) (base + u.slot.0.depth) (base + d) value_at.value (near_home cap.Box is refl) (as_form cap.Box is)))
+      emptied cap.Tag is = copied (at_place cap.Tag is (tag_fits w place value_at.value))
+
+      pub consume_goes : RegionMoveOk core ann w around fs (take_slot f z (slice_get f.slots z))
+      consume_goes = subst (λ (o : Option (Option Value)). RegionMoveOk core ann w around fs (take_slot f z o)) (sym value_at.is_value) (emptied p.1 refl)
