@@ -46,3 +46,4 @@ mod RegionAll
 mod RegionStands
 mod RegionShifts
 mod RegionMerge
+mod RegionSettle
