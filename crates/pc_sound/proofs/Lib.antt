@@ -45,3 +45,6 @@ mod RegionStart
 mod RegionAll
 mod RegionStands
 mod RegionShifts
+mod RegionRules
+mod RegionArguments
+mod RegionBegins
