@@ -10,3 +10,4 @@ pub mod RegionMoves
 pub mod RegionPlaces
 pub mod RegionLaws
 pub mod Laws
+pub mod RegionSettle
