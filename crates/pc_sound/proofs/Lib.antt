@@ -48,3 +48,7 @@ mod RegionShifts
 mod RegionRules
 mod RegionArguments
 mod RegionBegins
+mod RegionRise
+mod RegionChildren
+mod RegionPasses
+mod RegionCallers
