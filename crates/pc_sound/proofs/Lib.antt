@@ -52,3 +52,4 @@ mod RegionRise
 mod RegionChildren
 mod RegionPasses
 mod RegionCallers
+mod RegionMerge

@@ -77,7 +77,7 @@ near_sent w p f g to e = absurd (false_true e)
 pub record Calm (w w' : World) (objects : ObjectMap) (count i : ℕ) (gone : Place → Bool) : Type 0 where
   pub shifts : Shifts w w' objects count i (w.top i) gone
   pub role : (q : ℕ) → w'.role q ≡ w.role q
-  pub context : (j l : ℕ) → w'.context j l ≡ w.context j l
+  pub context : (j l : ℕ) → j < count → l ≤ w.top j → w'.context j l ≡ w.context j l
   pub top : (j : ℕ) → w'.top j ≡ w.top j
   pub opened : (q j : ℕ) → w.stands q ≡ Opened j → w'.stands q ≡ Opened j
   pub over : (j : ℕ) {q l : ℕ} → Over w j q l → Over w' j q l
@@ -93,6 +93,7 @@ wider w w' objects count i b gone more sub x = record {
   sent = x.sent;
   top = x.top;
   context = x.context;
+  contexts = x.contexts;
   opened = x.opened;
   alias = x.alias;
   over = x.over;
@@ -107,7 +108,7 @@ calm_both w v u objects count i gone x y = record {
   shifts = wider w u objects count i (w.top i) (λ p. gone p || gone p) gone (λ p none. twice (gone p) none)
       (shifts_both w v u objects count i (w.top i) gone gone x.shifts (subst (λ (b : ℕ). Shifts v u objects count i b gone) (x.top i) y.shifts));
   role = λ q. y.role q ∙ x.role q;
-  context = λ j l. y.context j l ∙ x.context j l;
+  context = λ j l there low. y.context j l there (subst (λ (t : ℕ). l ≤ t) (sym (x.top j)) low) ∙ x.context j l there low;
   top = λ j. y.top j ∙ x.top j;
   opened = λ q j e. y.opened q j (x.opened q j e);
   over = λ j o. y.over j (x.over j o);
@@ -125,14 +126,15 @@ calm_same w objects count i gone ok = record {
     fits = λ p f v e k. k;
     sent = λ j. refl;
     top = λ j n. refl;
-    context = λ j l n. refl;
+    context = λ l low. refl;
+    contexts = λ j l there n low. refl;
     opened = λ j l n e. e;
     alias = λ j c f v there n a. a;
     over = λ j m l there n o. o;
     low = λ m l n k o. o;
   };
   role = λ q. refl;
-  context = λ j l. refl;
+  context = λ j l there low. refl;
   top = λ j. refl;
   opened = λ q j e. e;
   over = λ j o. o;
@@ -175,6 +177,13 @@ one_from i h n (OnStack j g d l) e = both_false (nat_eq i j) (nat_eq h g) (nat_l
 one_from i h n (InSlot j g s l) e = refl
 one_from i h n (InField a k) e = refl
 one_from i h n (InMail j t k) e = refl
+
+-- Places from a depth on have those from a greater one.
+pub one_later : (i h n m : ℕ) → n ≤ m → (p : Place) → from_place i h n p ≡ false → the_place i h m p ≡ false
+one_later i h n m up (OnStack j g d l) e = both_false (nat_eq i j) (nat_eq h g) (nat_lt n (suc d)) (nat_eq m d) (λ k. ne_eqb m d (λ is. not_below n d k (omega (arith, is, up)))) e
+one_later i h n m up (InSlot j g s l) e = refl
+one_later i h n m up (InField a k) e = refl
+one_later i h n m up (InMail j t k) e = refl
 
 pub more_from : (i h n : ℕ) (p : Place) → from_place i h n p ≡ false → from_place i h (suc n) p ≡ false
 more_from i h n (OnStack j g d l) e = both_false (nat_eq i j) (nat_eq h g) (nat_lt n (suc d)) (nat_lt (suc n) (suc d)) (more_above n d) e
@@ -260,6 +269,17 @@ module _ (core : CoreData) (ann : Ann) (settle : SettleLaw) (objects : ObjectMap
   stand_on w w' n calm m [] (v ∷ vs) up k = k
   stand_on w w' n calm m (c ∷ cs) [] up k = k
   stand_on w w' n calm m (c ∷ cs) (v ∷ vs) up k = (some_on (type_of ann c) k.0, stand_on w w' n calm (suc m) cs vs (omega (arith, up)) k.1)
+    where
+      some_on : (o : Option (ℕ × Form)) → FitsSome w (OnStack i h m l) o v → FitsSome w' (OnStack i h m l) o v
+      some_on None e = tt
+      some_on (Some t) e = calm.shifts.fits (OnStack i h m l) t.1 v (other_place i h n m l (λ is. absurd (omega (arith, is, up)))) e
+
+  -- Those below are, too.
+  pub stand_under : (w w' : World) (n : ℕ) → Calm w w' objects count i (the_place i h n) → (m : ℕ) (cs : List ℕ) (vs : List Value) → m + length vs ≤ n → ArgumentsStand ann w i h l m cs vs → ArgumentsStand ann w' i h l m cs vs
+  stand_under w w' n calm m [] [] up k = k
+  stand_under w w' n calm m [] (v ∷ vs) up k = k
+  stand_under w w' n calm m (c ∷ cs) [] up k = k
+  stand_under w w' n calm m (c ∷ cs) (v ∷ vs) up k = (some_on (type_of ann c) k.0, stand_under w w' n calm (suc m) cs vs (omega (arith, up)) k.1)
     where
       some_on : (o : Option (ℕ × Form)) → FitsSome w (OnStack i h m l) o v → FitsSome w' (OnStack i h m l) o v
       some_on None e = tt

@@ -206,6 +206,7 @@ module _
 
   world_on : WorldOk (standing w r s) objects count
   world_on = record {
+    zero = ok.zero;
     named = ok.named;
     roles = ok.roles;
     root = λ j there. opened_on (w.context j 0) j (ok.root j there);
@@ -231,7 +232,8 @@ module _
     fits = fits_on;
     sent = λ j. refl;
     top = λ j n. refl;
-    context = λ j l n. refl;
+    context = λ l n. refl;
+    contexts = λ j l there n t. refl;
     opened = λ j l n e. opened_on (w.context j l) j e;
     alias = alias_on;
     over = λ j m l there n o. over_other j there n o;

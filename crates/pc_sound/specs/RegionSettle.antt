@@ -50,7 +50,7 @@ Near w p f g to = NearFrom w p f to
 pub record Settled (w w' : World) (objects : ObjectMap) (count i : ℕ) (gone : Place → Bool) (f g : Form) (to : Place) (v : Value) : Type 0 where
   pub shifts : Shifts w w' objects count i (w.top i) gone
   pub role : (q : ℕ) → w'.role q ≡ w.role q
-  pub context : (j l : ℕ) → w'.context j l ≡ w.context j l
+  pub context : (j l : ℕ) → j < count → l ≤ w.top j → w'.context j l ≡ w.context j l
   pub top : (j : ℕ) → w'.top j ≡ w.top j
   pub opened : (q j : ℕ) → w.stands q ≡ Opened j → w'.stands q ≡ Opened j
   pub over : (j : ℕ) {q l : ℕ} → Over w j q l → Over w' j q l
@@ -73,7 +73,7 @@ pub record Taken (w w' : World) (objects : ObjectMap) (count i b : ℕ) (gone : 
   pub shifts : Shifts w w' objects count i b gone
   pub region : w'.region ≡ w.region
   pub role : (q : ℕ) → w'.role q ≡ w.role q
-  pub context : (j l : ℕ) → w'.context j l ≡ w.context j l
+  pub context : (j l : ℕ) → j < count → l ≤ w.top j → w'.context j l ≡ w.context j l
   pub top : (j : ℕ) → w'.top j ≡ w.top j
   pub opened : (q j : ℕ) → w.stands q ≡ Opened j → w'.stands q ≡ Opened j
   pub fits : Fits w' to f v
