@@ -45,5 +45,12 @@ mod RegionStart
 mod RegionAll
 mod RegionStands
 mod RegionShifts
+mod RegionRules
+mod RegionArguments
+mod RegionBegins
+mod RegionRise
+mod RegionChildren
+mod RegionPasses
+mod RegionCallers
 mod RegionMerge
 mod RegionSettle
