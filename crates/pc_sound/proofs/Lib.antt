@@ -51,3 +51,12 @@ mod RegionControl
 mod RegionSlot
 mod RegionValue
 mod RegionMerge
+mod RegionRules
+mod RegionArguments
+mod RegionBegins
+mod RegionRise
+mod RegionChildren
+mod RegionPasses
+mod RegionCallers
+mod RegionMerge
+mod RegionSettle

@@ -92,7 +92,7 @@ module _ (core : CoreData) (formed : Formed core) where
       let fit = slots_fit m f at other in
       (own_slot 0 f (this_slot m f) (ap (λ (ys : List Slot). slice_get ys 0) fit.1)).1
 
-  param_own : (m i : ℕ) (f : Method) (p : ParamInfo) → slice_get core.methods m ≡ Some f → m ≢ 0 → slice_get f.params i ≡ Some p → slice_get core.slots (f.first_slot + suc i) ≡ Some (param_slot m p)
+  pub param_own : (m i : ℕ) (f : Method) (p : ParamInfo) → slice_get core.methods m ≡ Some f → m ≢ 0 → slice_get f.params i ≡ Some p → slice_get core.slots (f.first_slot + suc i) ≡ Some (param_slot m p)
   param_own m i f p at other e =
       let fit = slots_fit m f at other in
       (own_slot (suc i) f (param_slot m p) (ap (λ (ys : List Slot). slice_get ys (suc i)) fit.1 ∙ get_front (map (param_slot m) f.params) fit.0 i (param_slot m p) (get_map (param_slot m) f.params i p e))).1
