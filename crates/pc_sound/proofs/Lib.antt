@@ -50,13 +50,11 @@ mod RegionChildren
 mod RegionControl
 mod RegionSlot
 mod RegionValue
+mod RegionClose
 mod RegionMerge
 mod RegionRules
 mod RegionArguments
 mod RegionBegins
-mod RegionRise
-mod RegionChildren
 mod RegionPasses
 mod RegionCallers
-mod RegionMerge
 mod RegionSettle
