@@ -51,6 +51,7 @@ mod RegionControl
 mod RegionSlot
 mod RegionValue
 mod RegionClose
+mod RegionClimb
 mod RegionMerge
 mod RegionRules
 mod RegionArguments

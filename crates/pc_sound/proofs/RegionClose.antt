@@ -76,7 +76,7 @@ module _
   fits_in p form.Box q e = subst (λ (c : ℕ). Seen (standing w u s) c q) (sym (home_same p)) (seen_closed e)
   fits_in p form.Tag q e = tt
 
-  fits_closed : (p : Place) (f : Form) (v : Value) → Fits w p f v → Fits (standing w u s) p f v
+  pub fits_closed : (p : Place) (f : Form) (v : Value) → Fits w p f v → Fits (standing w u s) p f v
   fits_closed p f (At a) e = fits_in p f (w.region a) e
   fits_closed p f (Num n) e = tt
   fits_closed p f (Truth t) e = tt
@@ -116,7 +116,7 @@ module _
   context_other : (j l : ℕ) → j < count → l ≤ w.top j → u ≡ w.context j l → ⊥
   context_other j l there t is = none-some (j, l) (sym bare ∙ ap w.role is ∙ ok.named j l there t)
 
-  opened_closed : (j l : ℕ) → j < count → l ≤ w.top j → w.stands (w.context j l) ≡ Opened j → (standing w u s).stands (w.context j l) ≡ Opened j
+  pub opened_closed : (j l : ℕ) → j < count → l ≤ w.top j → w.stands (w.context j l) ≡ Opened j → (standing w u s).stands (w.context j l) ≡ Opened j
   opened_closed j l there t e = other (w.context j l) (context_other j l there t) ∙ e
 
   opened_other : (j x : ℕ) → i ≢ j → w.stands x ≡ Opened j → (standing w u s).stands x ≡ Opened j

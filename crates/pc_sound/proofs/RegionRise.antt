@@ -37,7 +37,7 @@ pub and_none : (a b : Bool) → b ≡ false → (a && b) ≡ false
 and_none true b e = e
 and_none false b e = refl
 
-or_none : (a b : Bool) → a ≡ false → b ≡ false → (a || b) ≡ false
+pub or_none : (a b : Bool) → a ≡ false → b ≡ false → (a || b) ≡ false
 or_none true b e g = e
 or_none false b e g = g
 

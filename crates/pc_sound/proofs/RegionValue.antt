@@ -91,7 +91,7 @@ no_alias w i b l k (Prim e) = tt
 
 -- ---- places that live with one region
 
-val_moved : (w : World) (p q : Place) (v : Value) → Fits w p form.Val v → Fits w q form.Val v
+pub val_moved : (w : World) (p q : Place) (v : Value) → Fits w p form.Val v → Fits w q form.Val v
 val_moved w p q (At a) e = e
 val_moved w p q (Num n) e = tt
 val_moved w p q (Truth b) e = tt
