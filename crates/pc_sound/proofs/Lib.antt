@@ -54,3 +54,4 @@ mod RegionPasses
 mod RegionCallers
 mod RegionMerge
 mod RegionSettle
+mod RegionRenewed
