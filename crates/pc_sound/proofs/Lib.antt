@@ -55,3 +55,4 @@ mod RegionCallers
 mod RegionMerge
 mod RegionSettle
 mod RegionRenewed
+mod RegionContexts
