@@ -59,3 +59,5 @@ mod RegionBegins
 mod RegionPasses
 mod RegionCallers
 mod RegionSettle
+mod RegionRenewed
+mod RegionContexts
