@@ -53,3 +53,5 @@ mod RegionChildren
 mod RegionPasses
 mod RegionCallers
 mod RegionMerge
+mod RegionEnter
+mod RegionCall
