@@ -55,3 +55,4 @@ mod RegionCallers
 mod RegionMerge
 mod RegionEnter
 mod RegionCall
+mod RegionSent

@@ -48,7 +48,7 @@ use Rattle.pc_sound.proofs.RegionShifts.{shifts_both}
 use Rattle.pc_sound.proofs.RegionRules.{CallRule, LendRule}
 use Rattle.pc_sound.proofs.RegionArguments.{ArgumentsStand, Pulled, pull, pulled_is, piled_last, stands_below}
 use Rattle.pc_sound.proofs.RegionBegins.{ArgumentsAt}
-use Rattle.pc_sound.proofs.RegionPasses.{lower_still, near_home, the_place, from_place, one_later, wider, Calm, calm_wider, calm_both, PassedOne, pass_near, Passed, pass_all, stand_under}
+use Rattle.pc_sound.proofs.RegionPasses.{lower_still, near_home, the_place, from_place, one_later, wider, Calm, calm_wider, calm_both, calm_same, PassedOne, pass_near, Passed, pass_all, stand_under}
 use Rattle.pc_sound.proofs.RegionCallers.{live_left, follows_at, fields_on, others_on, rests_on}
 use Rattle.pc_sound.proofs.RegionEnter.{finish_at, enters_frames}
 
@@ -192,6 +192,15 @@ module _ (settle : SettleLaw) (core : CoreData) (ann : Ann) (needs : Needs core 
   pub next_level : level ≤ suc level
   next_level = omega arith
 
+  last_level : suc level ≤ suc level
+  last_level = omega arith
+
+  up_one : (a b : ℕ) → b ≡ suc a → a ≤ b
+  up_one a b e = omega (arith, e)
+
+  up_to : (l a k : ℕ) → l ≤ a → a ≡ k → l < suc k
+  up_to l a k low e = omega (arith, low, e)
+
   -- Where the receiver and the arguments stand.
   pub stands : (by : CalledRule core ann g.node name g.note) (c : Calls by) → CallStands ann w around.actor (length fs) s.active.holds.base s.active.depth (arguments g.node.children) g.below c.under c.popped.values c.popped.rest by.receiver.1 c.this
   stands by c =
@@ -288,3 +297,66 @@ module _ (settle : SettleLaw) (core : CoreData) (ann : Ann) (needs : Needs core 
       (pass_near core ann settle around.objects around.actors i h level level s.here same_level w s.world is_top (length c.under) (InSlot i (suc h) 0 level) by.receiver.1 g2 c.this less (stands by c).receiver
       (near_home w (OnStack i h (length c.under) level) by.receiver.1 g2 (InSlot i (suc h) 0 level) refl) (refl, subst (λ (z : ℕ). level ≤ z) (sym is_top) same_level))
       (subst (GoesTo core c.found.own.result) (sym rule.ty) (below_result by c))
+
+  -- ---- a receiver that is lent
+
+  module _ (lends : LentLaw) (rule : LendRule core ann g.node name g.note) (c : Calls rule.by) where
+    comes_out : GoesTo core c.found.own.result g.note.ty × SendableSome g.note.ty
+    comes_out = lent_goes core c.found.own.result rule.by.own.result (below_result rule.by c) g.note.ty rule.ty
+
+    base_low : s.active.holds.base ≤ w.top around.actor
+    base_low = let last = s.active.last in omega (arith, last)
+
+    lend_at : (a : Address) → c.this ≡ At a → RegionMoveOk core ann w around fs (invoke_task core around f g.node.children (nodes.Call name))
+    lend_at a is =
+        let i : ℕ = around.actor in
+        let h : ℕ = length fs in
+        let m : ℕ = length c.popped.rest in
+        let q : ℕ = w.region a in
+        let by = rule.by in
+        let st = stands by c in
+        let alias : AliasIn w i s.active.holds.base (w.top i) by.receiver.1 q = subst (λ (v : Value). Alias w i s.active.holds.base (w.top i) by.receiver.1 v) is (alias_of by c) in
+        let under = under_alias w around.objects around.actors i s.active.holds.base by.receiver.1 q s.world s.here base_low rule.isolated alias in
+        let lend = lends w around.objects around.actors s.world i s.here q under.level under.free under.to under.over in
+        let v : World = lent w i q in
+        let top : v.top i ≡ suc level = lent_top w i q level is_top in
+        let home_is : v.context i (suc level) ≡ q = lent_context w i q level is_top in
+        let g2 : Form = unalias c.found.own.receiver in
+        let this_fits : Fits v (InSlot i (suc h) 0 (suc level)) g2 c.this =
+        subst (λ (z : Value). Fits v (InSlot i (suc h) 0 (suc level)) g2 z) (sym is)
+        (lent_in v (InSlot i (suc h) 0 (suc level)) q by.own.receiver c.found.own.receiver rule.lent ((below_iff (unalias by.own.receiver) g2).1 c.found.stands.receiver) (sym home_is))
+        in
+        let all = pass_all core ann settle around.objects around.actors i h level (suc level) s.here next_level v lend.shifts.world top m (λ k. InSlot i (suc h) (suc k) (suc level))
+        (arguments g.node.children) by.own.params c.found.own.params c.popped.values by.goes c.found.stands.count (λ k p b z y. stands_below core p z (c.found.stands.params k p b z y))
+        (stand_kept ann w v i h level (λ d k z fit. lend.shifts.fits (OnStack i h d level) k z refl fit) m (arguments g.node.children) c.popped.values st.stand)
+        (λ u t k z b d. (refl, subst (λ (j : ℕ). suc level ≤ j) (sym t) last_level)) (λ k d. refl) (inr (inr rule.sendable))
+        in
+        let u : World = all.world in
+        let x : Shifts w u around.objects around.actors i (w.top i) (from_place i h m) =
+        shifts_both w v u around.objects around.actors i (w.top i) (λ p. false) (from_place i h m) lend.shifts
+        (lower_shift v u around.objects around.actors i (v.top i) (w.top i) (from_place i h m) (up_one (w.top i) (v.top i) (top ∙ ap suc (sym is_top))) all.calm.shifts)
+        in
+        let context : u.context i (suc level) ≡ q = all.calm.context i (suc level) s.here (subst (λ (j : ℕ). suc level ≤ j) (sym top) last_level) ∙ home_is in
+        begins_at by rule.kind c u (suc level) x (all.calm.top i ∙ top) (all.calm.shifts.fits (InSlot i (suc h) 0 (suc level)) g2 c.this refl this_fits) all.fit
+        (inr (refl, comes_out.1, under.level, under.from, up_to under.level (w.top i) level under.to is_top, subst (λ (z : ℕ). Over u i z under.level) (sym context) (all.calm.over i lend.over)))
+        comes_out.0
+
+    lend_plain : is_at c.this ≡ false → RegionMoveOk core ann w around fs (invoke_task core around f g.node.children (nodes.Call name))
+    lend_plain plain =
+        begins_here rule.by rule.kind c
+        (record {
+          world = w;
+          calm = calm_same w around.objects around.actors around.actor (the_place around.actor (length fs) (length c.under)) s.world;
+          fits = plain_fits w (InSlot around.actor (suc (length fs)) 0 level) (unalias c.found.own.receiver) c.this plain;
+        })
+        comes_out.0
+
+    by_value : (v : Value) → c.this ≡ v → RegionMoveOk core ann w around fs (invoke_task core around f g.node.children (nodes.Call name))
+    by_value (At a) is = lend_at a is
+    by_value (Num k) is = lend_plain (ap is_at is)
+    by_value (Truth b) is = lend_plain (ap is_at is)
+    by_value (Text t) is = lend_plain (ap is_at is)
+    by_value (Prim k) is = lend_plain (ap is_at is)
+
+  pub lend_ok : LentLaw → LendRule core ann g.node name g.note → RegionMoveOk core ann w around fs (invoke_task core around f g.node.children (nodes.Call name))
+  lend_ok lends rule = let c = calls rule.by in by_value lends rule c c.this refl
