@@ -56,3 +56,4 @@ mod RegionMerge
 mod RegionEnter
 mod RegionCall
 mod RegionSent
+mod RegionInvoke
