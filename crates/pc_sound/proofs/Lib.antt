@@ -57,3 +57,6 @@ mod RegionEnter
 mod RegionCall
 mod RegionSent
 mod RegionInvoke
+mod RegionSettle
+mod RegionRenewed
+mod RegionContexts
