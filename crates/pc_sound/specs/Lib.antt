@@ -13,8 +13,5 @@ pub mod RegionScope
 pub mod RegionLaws
 pub mod Laws
 pub mod RegionSettle
-<<<<<<< HEAD
 pub mod RegionLent
-=======
 pub mod RegionContexts
->>>>>>> c7c2183d528dce664aa345c28d62cef624df17d9
