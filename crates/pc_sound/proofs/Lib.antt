@@ -58,6 +58,11 @@ mod RegionArguments
 mod RegionBegins
 mod RegionPasses
 mod RegionCallers
+mod RegionMerge
+mod RegionEnter
+mod RegionCall
+mod RegionSent
+mod RegionInvoke
 mod RegionSettle
 mod RegionRenewed
 mod RegionContexts
