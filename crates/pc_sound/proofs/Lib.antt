@@ -54,6 +54,7 @@ mod RegionValue
 mod RegionClose
 mod RegionClimb
 mod RegionEval
+mod RegionChoices
 mod RegionMerge
 mod RegionRules
 mod RegionArguments

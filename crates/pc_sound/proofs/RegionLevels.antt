@@ -21,7 +21,7 @@ use Rattle.pc_sound.proofs.RegionRise.{slot_depth}
 
 -- ---- no way leads deeper
 
-ascend_lower : (a : Ascent) (e : Entry) → (ascend a e).depth ≤ e.depth
+pub ascend_lower : (a : Ascent) (e : Entry) → (ascend a e).depth ≤ e.depth
 ascend_lower (Joins t) e = omega arith
 ascend_lower Decides e = omega arith
 ascend_lower (Recovers k) e = omega arith
