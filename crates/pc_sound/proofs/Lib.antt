@@ -55,6 +55,7 @@ mod RegionClose
 mod RegionClimb
 mod RegionEval
 mod RegionChoices
+mod RegionApply
 mod RegionMerge
 mod RegionRules
 mod RegionArguments
