@@ -56,6 +56,7 @@ mod RegionClimb
 mod RegionEval
 mod RegionChoices
 mod RegionApply
+mod RegionGet
 mod RegionMerge
 mod RegionRules
 mod RegionArguments

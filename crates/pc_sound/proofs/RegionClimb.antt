@@ -122,7 +122,7 @@ lift_alias w i b k f (Text t) = tt
 lift_alias w i b k f (Prim e) = tt
 
 -- What is seen from a frozen region is frozen.
-seen_cold : (w : World) (p : ℕ) {q : ℕ} → Frozen w p → Seen w p q → Frozen w q
+pub seen_cold : (w : World) (p : ℕ) {q : ℕ} → Frozen w p → Seen w p q → Frozen w q
 seen_cold w p cold (same e) = subst (Frozen w) (sym e) cold
 seen_cold w p cold (under u at e k) = under_ice u at e (seen_cold w p cold k)
 seen_cold w p cold (frozen f) = f
