@@ -43,7 +43,7 @@ use Rattle.pc_sound.proofs.RegionValue.{tag_fits, no_alias, val_moved}
 -- ---- what is passed
 
 -- The place itself, at each level.
-passed_self : (i h n k l : ℕ) → passed i h n k (OnStack i h n l) ≡ true
+pub passed_self : (i h n k l : ℕ) → passed i h n k (OnStack i h n l) ≡ true
 passed_self i h n k l =
     ap (λ (b : Bool). b && (nat_eq h h && (nat_eq n n || nat_lt k l))) (eq-eqb i i refl) ∙ ap (λ (b : Bool). b && (nat_eq n n || nat_lt k l)) (eq-eqb h h refl) ∙ ap (λ (b : Bool). b || nat_lt k l) (eq-eqb n n refl)
 
@@ -93,7 +93,7 @@ from_same w i h n l form.Val = tt
 from_same w i h n l form.Box = refl
 from_same w i h n l form.Tag = tt
 
-near_same : (w : World) (i h n l : ℕ) (f g : Form) → Near w (OnStack i h n l) f g (OnStack i h n l)
+pub near_same : (w : World) (i h n l : ℕ) (f g : Form) → Near w (OnStack i h n l) f g (OnStack i h n l)
 near_same w i h n l f form.IsoE = tt
 near_same w i h n l f form.TrnE = from_same w i h n l f
 near_same w i h n l f form.Iso = tt

@@ -4,15 +4,20 @@ use Rattle.std.proofs.Common.{ap, sym, subst, ◌∙◌, arith}
 use Rattle.std.proofs.lemmas.Option.{same_Some, none-some}
 use Rattle.pc_heap.specs.Objects.{ObjectMap}
 use Rattle.pc_heap.specs.declared.value.Address.{Address}
+use Rattle.pc_heap.specs.declared.value.Value.{Value}
+use Rattle.pc_heap.specs.declared.value.Value.TheVariants.{Num, Truth, Text, Prim, At}
+use Rattle.pc_caps.specs.Order.{is_below}
 use Rattle.pc_caps.specs.Tables.{unalias, view}
 use Rattle.pc_caps.specs.declared.capability.Cap.{Cap}
 use Rattle.pc_caps.specs.declared.capability.Cap.TheVariants as cap
 use Rattle.pc_caps.specs.declared.capability.Form.{Form}
 use Rattle.pc_caps.specs.declared.capability.Form.TheVariants as form
-use Rattle.pc_sound.specs.RegionWorld.{Place, OnStack, InField, Opened, Held, Child, World, Frozen, ice, in_ice, under_ice, Seen, same, under, frozen, Over, over_own, over_field, over_part, steady, FitsIn, AliasIn, WorldOk}
+use Rattle.pc_sound.specs.RegionWorld.{Place, OnStack, InField, Opened, Held, Child, World, Frozen, ice, in_ice, under_ice, Seen, same, under, frozen, Over, over_own, over_field, over_part, steady, FitsIn, Fits, AliasIn, Alias, WorldOk}
 use Rattle.pc_sound.specs.RegionFrames.{OpenedTo}
+use Rattle.pc_sound.specs.RegionSettle.{Settled, SettleLaw}
+use Rattle.pc_sound.specs.RegionClimb.{passed}
 use Rattle.pc_sound.proofs.RegionSlot.{no_role}
-use Rattle.pc_sound.proofs.RegionClimb.{seen_cold}
+use Rattle.pc_sound.proofs.RegionClimb.{passed_self, near_same, seen_cold}
 
 -- What is seen from what is seen is seen.
 pub seen_far : (w : World) (p r : ℕ) {q : ℕ} → Seen w p r → Seen w r q → Seen w p q
@@ -112,3 +117,67 @@ module _ (w : World) (objects : ObjectMap) (count i base d : ℕ) (ok : WorldOk 
   seen_through form.Val g c q is f al no_iso no_trn e = from_val c q g is f e
   seen_through form.Box g c q is f al no_iso no_trn e = from_box c q g is f e
   seen_through form.Tag g c q is f al no_iso no_trn e = absurd (none-some g is)
+
+  -- The same of values.
+  pub value_seen : (o g : Form) (c : Cap) (z : Value) → view o c ≡ Some g → Fits w place o (At a) → Alias w i base (base + d) o (At a) → (o ≡ form.IsoE → ⊥) → (o ≡ form.TrnE → ⊥) → Fits w (InField a j) (unalias c) z → Fits w place g z × Alias w i base (base + d) g z
+  value_seen o g c (At b) is f al no_iso no_trn e = seen_through o g c (w.region b) is f al no_iso no_trn e
+  value_seen o g c (Num m) is f al no_iso no_trn e = (tt, tt)
+  value_seen o g c (Truth t) is f al no_iso no_trn e = (tt, tt)
+  value_seen o g c (Text t) is f al no_iso no_trn e = (tt, tt)
+  value_seen o g c (Prim m) is f al no_iso no_trn e = (tt, tt)
+
+-- ---- an origin is let go
+
+-- The form of an alias of what is let go, through which as much is seen.
+abbrev pub let_go : Form → Form
+let_go form.IsoE = form.Iso
+let_go form.TrnE = form.Trn
+let_go f = f
+
+pub let_go_above : (f : Form) → is_below f (let_go f) ≡ true
+let_go_above form.IsoE = refl
+let_go_above form.TrnE = refl
+let_go_above form.Iso = refl
+let_go_above form.Trn = refl
+let_go_above form.Ref = refl
+let_go_above form.Val = refl
+let_go_above form.Box = refl
+let_go_above form.Tag = refl
+
+pub let_go_sees : (f : Form) (c : Cap) → view (let_go f) c ≡ view f c
+let_go_sees form.IsoE c = refl
+let_go_sees form.TrnE c = refl
+let_go_sees form.Iso c = refl
+let_go_sees form.Trn c = refl
+let_go_sees form.Ref c = refl
+let_go_sees form.Val c = refl
+let_go_sees form.Box c = refl
+let_go_sees form.Tag c = refl
+
+pub let_go_iso : (f : Form) → let_go f ≡ form.IsoE → ⊥
+let_go_iso form.IsoE e = cc
+let_go_iso form.TrnE e = cc
+let_go_iso form.Iso e = cc
+let_go_iso form.Trn e = cc
+let_go_iso form.Ref e = cc
+let_go_iso form.Val e = cc
+let_go_iso form.Box e = cc
+let_go_iso form.Tag e = cc
+
+pub let_go_trn : (f : Form) → let_go f ≡ form.TrnE → ⊥
+let_go_trn form.IsoE e = cc
+let_go_trn form.TrnE e = cc
+let_go_trn form.Iso e = cc
+let_go_trn form.Trn e = cc
+let_go_trn form.Ref e = cc
+let_go_trn form.Val e = cc
+let_go_trn form.Box e = cc
+let_go_trn form.Tag e = cc
+
+-- The origin on top of the stack is let go: its alias may be used still.
+pub origin_goes : SettleLaw → (w : World) (objects : ObjectMap) (count : ℕ) → WorldOk w objects count → (i : ℕ) → i < count → (h n base d : ℕ) → w.top i ≡ base + d → (f : Form) (v : Value) → Fits w (OnStack i h n (base + d)) f v → Alias w i base (base + d) f v
+    → (x : World) × Settled w x objects count i (passed i h n (base + d)) f (let_go f) (OnStack i h n (base + d)) v × Alias x i base (base + d) (let_go f) v
+origin_goes settle w objects count ok i here h n base d top f v fit alias =
+    let low : base + d ≤ w.top i = omega (arith, top) in
+    let got = settle w objects count ok i here h n (base + d) low (passed i h n (base + d)) (passed_self i h n (base + d) (base + d)) (OnStack i h n (base + d)) f (let_go f) v (let_go_above f) fit (near_same w i h n (base + d) f (let_go f)) (refl, low) in
+    (got.0, got.1, subst (λ (k : ℕ). Alias got.0 i base k (let_go f) v) top (got.1.fresh base (omega (arith, top)) (λ is. ap (w.context i) (sym top)) (subst (λ (k : ℕ). Alias w i base k f v) (sym top) alias)))
