@@ -56,3 +56,4 @@ mod RegionMerge
 mod RegionSettle
 mod RegionRenewed
 mod RegionContexts
+mod RegionEnds
