@@ -74,7 +74,7 @@ module _ (core : CoreData) (formed : Formed core) where
   -- ---- the slots of a method
 
   -- The first method has no nodes.
-  not_first : (n : ℕ) (x : Node) → slice_get core.nodes n ≡ Some x → x.method ≢ 0
+  pub not_first : (n : ℕ) (x : Node) → slice_get core.nodes n ≡ Some x → x.method ≢ 0
   not_first n x at none =
       let h = home_of n x at in
       let number : h.number ≡ 0 = sym (home_method core n x h at) ∙ none in

@@ -51,6 +51,7 @@ pub record Pulled (ann : Ann) (w : World) (i h base d : ℕ) (cs : List ℕ) (be
   pub is : (more : List Value) → popped (length cs) vs more ≡ Some (values ++ more, rest)
   pub stand : ArgumentsStand ann w i h (base + d) (length rest) cs values
   pub fits : StackFits w i h base below rest
+  pub total : length vs ≡ length rest + length values
 
 -- One more value is popped.
 popped_more : (k : ℕ) (vs more a b : List Value) (v : Value) → popped k vs more ≡ Some (a, v ∷ b) → popped (suc k) vs more ≡ Some (v ∷ a, b)
@@ -58,8 +59,14 @@ popped_more zero vs more a b v e = let p = some_pair_parts more a vs (v ∷ b) e
 popped_more (suc k) [] more a b v e = absurd (none-some (a, v ∷ b) e)
 popped_more (suc k) (x ∷ vs) more a b v e = popped_more k vs (x ∷ more) a b v e
 
+none_more : (n : ℕ) → n ≡ n + 0
+none_more n = omega arith
+
+one_total : (n r v b : ℕ) → n ≡ r + v → r ≡ suc b → n ≡ b + suc v
+one_total n r v b e g = omega (arith, e, g)
+
 pub pull : (ann : Ann) (w : World) (i h base d : ℕ) (cs : List ℕ) (below : List Entry) (vs : List Value) → StackFits w i h base (piled ann d cs below) vs → Pulled ann w i h base d cs below vs
-pull ann w i h base d [] below vs k = record { values = []; rest = vs; is = λ more. refl; stand = tt; fits = k }
+pull ann w i h base d [] below vs k = record { values = []; rest = vs; is = λ more. refl; stand = tt; fits = k; total = none_more (length vs) }
 pull ann w i h base d (c ∷ cs) below vs k =
     let e : Entry = record { ty = type_of ann c; depth = d } in
     let r = pull ann w i h base d cs (e ∷ below) vs k in
@@ -70,6 +77,7 @@ pull ann w i h base d (c ∷ cs) below vs k =
       is = λ more. popped_more (length cs) vs more (r.values ++ more) t.below t.top (r.is more ∙ ap (λ (rest : List Value). Some (r.values ++ more, rest)) t.is);
       stand = (t.fits, subst (λ (n : ℕ). ArgumentsStand ann w i h (base + d) n cs r.values) (ap length t.is) r.stand);
       fits = t.rest;
+      total = one_total (length vs) (length r.rest) (length r.values) (length t.below) r.total (ap length t.is);
     }
 
 -- They are what is popped.

@@ -70,6 +70,10 @@ module _ (core : CoreData) (ann : Ann) (around : Around) (f : Frame) (fs : List 
   pub live_left : (behind : Masks) → through ann e.node.children (before e.note) ≡ Some behind → e.note.live_after ≡ behind.0 → Within e.note.live_after s.active.holds.live
   live_left behind is left = (left_within (through ann e.node.children (before e.note)) e.behind behind e.note.live_after behind.1 s.active.holds.live e.behind.1 e.is_behind is left refl e.live (within_same e.behind.1)).0
 
+  -- What follows the node, at the frame's depth.
+  pub follows_at : Rises core f.method e.note.live_after (record { ty = e.note.ty; depth = s.active.depth }) e.below go
+  follows_at = subst (λ (k : ℕ). Rises core f.method e.note.live_after (record { ty = e.note.ty; depth = k }) e.below go) e.depth e.follows
+
   low_base : s.active.holds.base ≤ w.top around.actor
   low_base = let last = s.active.last in omega (arith, last)
 

@@ -86,7 +86,7 @@ pub record Calm (w w' : World) (objects : ObjectMap) (count i : ℕ) (gone : Pla
 pub calm_of : (w w' : World) (objects : ObjectMap) (count i : ℕ) (gone : Place → Bool) (f g : Form) (to : Place) (v : Value) → Settled w w' objects count i gone f g to v → Calm w w' objects count i gone
 calm_of w w' objects count i gone f g to v s = record { shifts = s.shifts; role = s.role; context = s.context; top = s.top; opened = s.opened; over = s.over; alias = s.alias }
 
-wider : (w w' : World) (objects : ObjectMap) (count i b : ℕ) (gone more : Place → Bool) → ((p : Place) → more p ≡ false → gone p ≡ false) → Shifts w w' objects count i b gone → Shifts w w' objects count i b more
+pub wider : (w w' : World) (objects : ObjectMap) (count i b : ℕ) (gone more : Place → Bool) → ((p : Place) → more p ≡ false → gone p ≡ false) → Shifts w w' objects count i b gone → Shifts w w' objects count i b more
 wider w w' objects count i b gone more sub x = record {
   world = x.world;
   fits = λ p f v none k. x.fits p f v (sub p none) k;

@@ -17,6 +17,7 @@ use Rattle.pc_ann.specs.declared.annotation.Ann.{Ann}
 use Rattle.pc_ann.specs.Masks.{IsIn}
 use Rattle.pc_semantics.specs.declared.frames.Frame.{Frame}
 use Rattle.pc_semantics.specs.declared.frames.Task.{Task}
+use Rattle.pc_semantics.specs.Around.{Around, Goes}
 use Rattle.pc_rules.specs.Parts.{Ty, slot_of}
 use Rattle.pc_rules.specs.Threads.{false_true}
 use Rattle.pc_sound.specs.Types.{OfSome}
@@ -24,7 +25,7 @@ use Rattle.pc_sound.specs.Tasks.{Within}
 use Rattle.pc_sound.specs.RegionWorld.{Place, InSlot, OnStack, InField, InMail, World, FitsSome, Alias, AliasSome, WorldOk}
 use Rattle.pc_sound.specs.RegionTasks.{Entry, Shallow, SlotsShallow, Rises, TasksRise, top_of, uses_top}
 use Rattle.pc_sound.specs.RegionFrames.{ThisFits, SlotsFit, StackFits, OpenedTo, WaitFits, FramesFit, FieldsFit, TopAlias}
-use Rattle.pc_sound.specs.RegionMoves.{elsewhere, Others, Turned}
+use Rattle.pc_sound.specs.RegionMoves.{elsewhere, Others, Turned, RegionMoveOk, Situated}
 use Rattle.pc_sound.specs.RegionPlaces.{Shifts}
 use Rattle.pc_sound.specs.RegionClimb.{passed, Stands, Climbed, ClimbLaw}
 use Rattle.pc_sound.proofs.Basic.{within_trans}
@@ -32,15 +33,15 @@ use Rattle.pc_sound.proofs.RegionShifts.{others_kept, fields_kept, below_kept}
 
 -- ---- what is passed
 
-and_none : (a b : Bool) → b ≡ false → (a && b) ≡ false
+pub and_none : (a b : Bool) → b ≡ false → (a && b) ≡ false
 and_none true b e = e
 and_none false b e = refl
 
-or_none : (a b : Bool) → a ≡ false → b ≡ false → (a || b) ≡ false
+pub or_none : (a b : Bool) → a ≡ false → b ≡ false → (a || b) ≡ false
 or_none true b e g = e
 or_none false b e g = g
 
-not_here : (a b : Bool) → not a ≡ true → (a && b) ≡ false
+pub not_here : (a b : Bool) → not a ≡ true → (a && b) ≡ false
 not_here true b e = absurd (false_true e)
 not_here false b e = refl
 
@@ -51,7 +52,7 @@ passed_elsewhere i h n k (OnStack j g d l) e = not_here (nat_eq i j) (nat_eq h g
 passed_elsewhere i h n k (InField a f) e = refl
 passed_elsewhere i h n k (InMail j t f) e = refl
 
-lower_frame : (a : Bool) (h g : ℕ) (b : Bool) → g < h → (a && (nat_eq h g && b)) ≡ false
+pub lower_frame : (a : Bool) (h g : ℕ) (b : Bool) → g < h → (a && (nat_eq h g && b)) ≡ false
 lower_frame a h g b low = and_none a (nat_eq h g && b) (ap (λ (c : Bool). c && b) (ne_eqb h g (λ e. absurd (omega (arith, e, low)))))
 
 pub slot_kept : (i h n k s l : ℕ) → l ≤ k → passed i h n k (InSlot i h s l) ≡ false
@@ -63,7 +64,7 @@ stack_kept i h n k d l under low =
     (or_none (nat_eq n d) (nat_lt k l) (ne_eqb n d (λ e. absurd (omega (arith, e, under)))) (le-ltb k l low)))
 
 -- The depth of a live slot.
-slot_depth : (core : CoreData) (ann : Ann) (m s d : ℕ) (live : Mask) (y : Slot × (ℕ × Cap)) → SlotsShallow core m live d → IsIn live s → slot_of core ann m s ≡ Some y → y.0.depth ≤ d
+pub slot_depth : (core : CoreData) (ann : Ann) (m s d : ℕ) (live : Mask) (y : Slot × (ℕ × Cap)) → SlotsShallow core m live d → IsIn live s → slot_of core ann m s ≡ Some y → y.0.depth ≤ d
 slot_depth core ann m s d live y flat is e =
     let a = bind_some (slice_get core.methods m) _ y e in
     let b = bind_some (slice_get core.slots (a.0.first_slot + s)) _ y a.2 in
@@ -158,3 +159,62 @@ module _ (core : CoreData) (ann : Ann) (climb : ClimbLaw core) (objects : Object
           below_kept w w' objects count i base gone x core ann (length fs) (λ h s l low. lower_frame (nat_eq i i) (length fs) h (nat_lt (base + goal.depth) l) low) (λ h c l low. lower_frame (nat_eq i i) (length fs) h (nat_eq (length vs) c || nat_lt (base + goal.depth) l) low) base m fs refl (omega arith) p.wait,
         );
       })
+
+-- ---- the world stays
+
+-- A world that is as it was.
+pub shifts_same : (w : World) (objects : ObjectMap) (count i b : ℕ) (gone : Place → Bool) → WorldOk w objects count → Shifts w w objects count i b gone
+shifts_same w objects count i b gone ok = record {
+  world = ok;
+  fits = λ p f v e k. k;
+  sent = λ j. refl;
+  top = λ j n. refl;
+  context = λ l n. refl;
+  contexts = λ j l there n k. refl;
+  opened = λ j l n e. e;
+  alias = λ j c f v there n a. a;
+  over = λ j m l there n o. o;
+  low = λ m l n k o. o;
+}
+
+no_more : (n m : ℕ) → n ≡ m → n ≡ m + 0
+no_more n m e = omega (arith, e)
+
+module _ (core : CoreData) (ann : Ann) (around : Around) (f : Frame) (ts : List Task) (fs : List Frame) (w : World) (s : Situated core ann w around f ts fs) where
+  same_others : Others w w around.actor around.actors None
+  same_others = record {
+    fits = λ p g v e k. k;
+    sent = λ j there. no_more (w.sent j) (w.sent j) refl;
+    top = λ j there n. refl;
+    opened = λ j l there n e. e;
+    over = λ j k l there n o. o;
+    alias = λ j b g v there n a. a;
+  }
+
+  -- The frame goes on with other tasks, over what is left on the stack.
+  pub goes_on : (es : List Entry) (vs : List Value) (us : List Task) → StackFits w around.actor (length fs) s.active.holds.base es vs → Shallow es s.active.depth → TasksRise core ann f.method us s.active.depth s.active.holds.live es
+      → (uses_top us ≡ true → TopAlias w around.actor s.active.holds.base es vs) → RegionMoveOk core ann w around fs (Goes (record { method = f.method; slots = f.slots; stack = vs; tasks = us }))
+  goes_on es vs us fit low tasks fresh = (
+    w,
+    record {
+      world = s.world;
+      fields = s.fields;
+      others = same_others;
+      frames = (
+        record {
+          holds = record { base = s.active.holds.base; live = s.active.holds.live; entries = es; this_fits = s.active.holds.this_fits; slots_fit = s.active.holds.slots_fit; stack_fit = fit };
+          depth = s.active.depth;
+          last = s.active.last;
+          opened = s.active.opened;
+          not_deeper = s.active.not_deeper;
+          shallow = low;
+        },
+        tasks,
+        fresh,
+        s.wait,
+      );
+    })
+
+  -- Only the tasks differ, and an evaluation comes first.
+  pub evaluates : (us : List Task) → TasksRise core ann f.method us s.active.depth s.active.holds.live s.active.holds.entries → uses_top us ≡ false → RegionMoveOk core ann w around fs (Goes (record { method = f.method; slots = f.slots; stack = f.stack; tasks = us }))
+  evaluates us tasks calm = goes_on s.active.holds.entries f.stack us s.active.holds.stack_fit s.active.shallow tasks (λ e. absurd (false_true (sym calm ∙ e)))

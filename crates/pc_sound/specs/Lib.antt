@@ -13,4 +13,5 @@ pub mod RegionScope
 pub mod RegionLaws
 pub mod Laws
 pub mod RegionSettle
+pub mod RegionLent
 pub mod RegionContexts
