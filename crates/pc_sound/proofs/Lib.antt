@@ -58,7 +58,6 @@ mod RegionArguments
 mod RegionBegins
 mod RegionPasses
 mod RegionCallers
-mod RegionMerge
 mod RegionEnter
 mod RegionCall
 mod RegionSent
