@@ -66,3 +66,4 @@ mod RegionSettle
 mod RegionRenewed
 mod RegionContexts
 mod RegionEnds
+mod RegionTakes
