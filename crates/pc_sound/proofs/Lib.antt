@@ -46,12 +46,16 @@ mod RegionAll
 mod RegionStands
 mod RegionShifts
 mod RegionRise
+mod RegionLevels
 mod RegionChildren
 mod RegionControl
 mod RegionSlot
 mod RegionValue
 mod RegionClose
 mod RegionClimb
+mod RegionEval
+mod RegionChoices
+mod RegionApply
 mod RegionMerge
 mod RegionRules
 mod RegionArguments

@@ -3,6 +3,7 @@ use Rattle.std.specs.Prelude.{◌≡◌, ℕ, zero, suc, true, false, List, [], 
 use Rattle.std.proofs.Common.{inl, ap, sym, subst, ◌∙◌, arith}
 use Rattle.std.proofs.lemmas.Option.{same_Some, none-some}
 use Rattle.pc_core.specs.declared.nodes.Node.{Node}
+use Rattle.pc_core.specs.declared.nodes.NodeKind.TheVariants as nodes
 use Rattle.pc_core.specs.CoreData.{CoreData}
 use Rattle.pc_core.specs.Words.{Each}
 use Rattle.pc_ann.specs.declared.mask.Mask.{Mask}
@@ -18,9 +19,9 @@ use Rattle.pc_sound.specs.RegionScope.{LiveShallow}
 use Rattle.pc_sound.proofs.Basic.{within_same, within_trans}
 use Rattle.pc_sound.proofs.EvalChildren.{within_is, First, first_of_them, type_is, last_next}
 
--- Node c is there, in method m at depth d.
+-- Node c is there, in method m at depth d, and is no body.
 abbrev pub IsAt : CoreData → ℕ → ℕ → ℕ → Type 0
-IsAt core m d c = (y : Node) × (slice_get core.nodes c ≡ Some y) × (y.method ≡ m) × (y.depth ≡ d)
+IsAt core m d c = (y : Node) × (slice_get core.nodes c ≡ Some y) × (y.method ≡ m) × (y.depth ≡ d) × (y.kind ≡ nodes.Body → ⊥)
 
 -- A value of this type at depth d.
 abbrev pub at_depth : ℕ → Option Ty → Entry
@@ -47,6 +48,7 @@ module _ (core : CoreData) (ann : Ann) (flat : LiveShallow core ann) (m d : ℕ)
         note = t;
         is_note = at;
         own = child.2;
+        inner = child.4;
         depth = child.3;
         live = wl;
         follows = record {

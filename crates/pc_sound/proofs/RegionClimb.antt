@@ -26,6 +26,7 @@ use Rattle.pc_sound.specs.RegionTasks.{Entry, Below, Ascent, Joins, Decides, Rec
 use Rattle.pc_sound.specs.RegionFrames.{OpenedTo}
 use Rattle.pc_sound.specs.RegionPlaces.{standing, lowered, without_last, Shifts}
 use Rattle.pc_sound.specs.RegionSettle.{NearFrom, Near, SettleLaw}
+use Rattle.pc_sound.specs.RegionContexts.{EndLaw}
 use Rattle.pc_sound.specs.RegionClimb.{passed, Stands, Climbed, ClimbLaw}
 use Rattle.pc_sound.proofs.Needs.{Needs}
 use Rattle.pc_sound.proofs.Basic.{of_lower}
@@ -34,6 +35,7 @@ use Rattle.pc_sound.proofs.Values.{is_truth}
 use Rattle.pc_sound.proofs.RegionShifts.{shifts_both}
 use Rattle.pc_sound.proofs.RegionStands.{stand_here}
 use Rattle.pc_sound.proofs.RegionSettle.{shifts_none, shifts_less}
+use Rattle.pc_sound.proofs.RegionLevels.{top_lower, ascend_lower}
 use Rattle.pc_sound.proofs.RegionClose.{seen_closed, fits_closed, opened_closed, closed_shifts}
 use Rattle.pc_sound.proofs.RegionRise.{and_none, or_none}
 use Rattle.pc_sound.proofs.RegionValue.{tag_fits, no_alias, val_moved}
@@ -129,6 +131,12 @@ seen_cold w p cold (frozen f) = f
 abbrev pub DropLaw : Type 0
 DropLaw =
     (w : World) (objects : ObjectMap) (count : ℕ) → WorldOk w objects count → (i : ℕ) → i < count → (b : ℕ) → b < w.top i → (gone : Place → Bool) → Shifts w (without_last w i) objects count i b gone
+
+pub drops : EndLaw → DropLaw
+drops ends w objects count ok i here b low gone =
+    let k : ℕ = w.top i - 1 in
+    let is : w.top i ≡ suc k = omega (arith, low) in
+    shifts_less w (without_last w i) objects count i k b gone gone (omega (arith, is, low)) (λ p e. e) (ends w objects count ok i here k is gone).shifts
 
 -- ---- steps
 
@@ -421,15 +429,6 @@ module _ (core : CoreData) (ann : Ann) (needs : Needs core ann) (settle : Settle
         (got.0, subst (λ (o : Option Ty). Climbed core w got.0 objects count i h n base (record { ty = o; depth = e.depth - 1 }) v) is got.1)
 
   -- ---- the whole way
-
-  ascend_lower : (a : Ascent) (e : Entry) → (ascend a e).depth ≤ e.depth
-  ascend_lower (Joins t) e = omega arith
-  ascend_lower Decides e = omega arith
-  ascend_lower (Recovers k) e = omega arith
-
-  top_lower : (way : List Ascent) (e : Entry) → (top_of way e).depth ≤ e.depth
-  top_lower [] e = omega arith
-  top_lower (a ∷ way) e = let more = top_lower way (ascend a e) in let one = ascend_lower a e in omega (arith, more, one)
 
   pub climb : ClimbLaw core
   climb w objects count i h n base [] e v climbs s = (w, record { stands = s; shifts = shifts_none w objects count i base (passed i h n (base + e.depth)) s.world })
