@@ -57,8 +57,8 @@ mod RegionRules
 mod RegionArguments
 mod RegionBegins
 mod RegionPasses
+mod RegionLower
 mod RegionCallers
-mod RegionMerge
 mod RegionEnter
 mod RegionCall
 mod RegionSent
