@@ -61,6 +61,7 @@ mod RegionRules
 mod RegionArguments
 mod RegionBegins
 mod RegionPasses
+mod RegionLower
 mod RegionCallers
 mod RegionEnter
 mod RegionCall
