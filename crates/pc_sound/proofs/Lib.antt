@@ -72,3 +72,4 @@ mod RegionRenewed
 mod RegionContexts
 mod RegionEnds
 mod RegionTakes
+mod RegionReturn
