@@ -62,6 +62,7 @@ mod RegionRules
 mod RegionArguments
 mod RegionBegins
 mod RegionPasses
+mod RegionLower
 mod RegionCallers
 mod RegionEnter
 mod RegionCall
@@ -70,3 +71,6 @@ mod RegionInvoke
 mod RegionSettle
 mod RegionRenewed
 mod RegionContexts
+mod RegionEnds
+mod RegionTakes
+mod RegionReturn

@@ -1,7 +1,7 @@
 -- A call of a function, by regions: the receiver and the arguments settle in the slots of the frame that begins.
-use Rattle.std.specs.Prelude.{◌≡◌, ◌≢◌, ◌⊎◌, ℕ, suc, ◌+◌, ◌-◌, ◌<◌, ◌≤◌, Bool, true, false, ◌&&◌, cond, List, [], ◌∷◌, ◌++◌, length, Option, Some, None, nat_eq, slice_get, refl}
+use Rattle.std.specs.Prelude.{◌≡◌, ◌≢◌, ◌⊎◌, ℕ, suc, ◌+◌, ◌-◌, ◌<◌, ◌≤◌, Bool, true, false, ◌&&◌, ◌||◌, cond, List, [], ◌∷◌, ◌++◌, length, Option, Some, None, nat_eq, nat_lt, slice_get, refl}
 use Rattle.std.proofs.Common.{inl, inr, ap, sym, subst, ◌∙◌, arith}
-use Rattle.std.proofs.lemmas.Bool.{eq-eqb}
+use Rattle.std.proofs.lemmas.Bool.{eq-eqb, ne_eqb, le-ltb}
 use Rattle.pc_heap.specs.Objects.{ObjectMap}
 use Rattle.pc_heap.specs.declared.value.Address.{Address}
 use Rattle.pc_heap.specs.declared.value.Value.{Value}
@@ -17,11 +17,13 @@ use Rattle.pc_core.specs.declared.declarations.Method.{Method}
 use Rattle.pc_core.specs.declared.declarations.MethodKind.{MethodKind}
 use Rattle.pc_core.specs.declared.declarations.MethodKind.TheVariants as method
 use Rattle.pc_core.specs.declared.declarations.ParamInfo.{ParamInfo}
+use Rattle.pc_core.specs.declared.nodes.NodeKind.{NodeKind}
 use Rattle.pc_core.specs.declared.nodes.NodeKind.TheVariants as nodes
 use Rattle.pc_core.specs.CoreData.{CoreData}
 use Rattle.pc_ann.specs.declared.mask.Mask.{Mask}
 use Rattle.pc_ann.specs.declared.annotation.Ann.{Ann}
 use Rattle.pc_semantics.specs.declared.frames.Frame.{Frame}
+use Rattle.pc_semantics.specs.declared.frames.Task.{Task}
 use Rattle.pc_semantics.specs.declared.frames.Task.TheVariants as task
 use Rattle.pc_semantics.specs.Around.{Around, first_frame, with_stack, popped}
 use Rattle.pc_semantics.specs.Calls.{invoke_task}
@@ -31,13 +33,13 @@ use Rattle.pc_rules.specs.Threads.{false_true}
 use Rattle.pc_sound.specs.Types.{OfKind}
 use Rattle.pc_sound.specs.Tasks.{FinishOk, invokes, TasksOk}
 use Rattle.pc_sound.specs.Moves.{Runs}
-use Rattle.pc_sound.specs.RegionWorld.{Place, InSlot, OnStack, Child, World, home, Seen, same, Over, over_part, FitsIn, Fits, FitsSome, Alias, AliasIn, AliasSome, WorldOk}
-use Rattle.pc_sound.specs.RegionTasks.{Entry, FinishRises, TasksRise, Below, piled}
-use Rattle.pc_sound.specs.RegionFrames.{StackFits, Entered, GoesTo, SendableSome, FramesFit, TopAlias}
-use Rattle.pc_sound.specs.RegionMoves.{Turned, Situated, RegionMoveOk}
+use Rattle.pc_sound.specs.RegionWorld.{Place, InSlot, OnStack, InField, InMail, Child, World, home, Seen, same, Over, over_part, FitsIn, Fits, FitsSome, Alias, AliasIn, AliasSome, WorldOk}
+use Rattle.pc_sound.specs.RegionTasks.{Entry, Shallow, FinishRises, TasksRise, Below, piled}
+use Rattle.pc_sound.specs.RegionFrames.{StackFits, Entered, OpenedTo, GoesTo, SendableSome, TopAlias, FieldsFit}
+use Rattle.pc_sound.specs.RegionMoves.{elsewhere, Others, Turned, Situated, RegionMoveOk}
 use Rattle.pc_sound.specs.RegionPlaces.{lent, Shifts}
 use Rattle.pc_sound.specs.RegionSettle.{SettleLaw}
-use Rattle.pc_sound.specs.RegionLent.{Lending, LentLaw}
+use Rattle.pc_sound.specs.RegionContexts.{higher, LentLaw}
 use Rattle.pc_sound.proofs.Needs.{Needs}
 use Rattle.pc_sound.proofs.Values.{own_no_trait}
 use Rattle.pc_sound.proofs.InverseCalls.{CalledRule}
@@ -49,7 +51,7 @@ use Rattle.pc_sound.proofs.RegionRules.{CallRule, LendRule}
 use Rattle.pc_sound.proofs.RegionArguments.{ArgumentsStand, Pulled, pull, pulled_is, piled_last, stands_below}
 use Rattle.pc_sound.proofs.RegionBegins.{ArgumentsAt}
 use Rattle.pc_sound.proofs.RegionPasses.{lower_still, near_home, the_place, from_place, one_later, wider, Calm, calm_wider, calm_both, calm_same, PassedOne, pass_near, Passed, pass_all, stand_under}
-use Rattle.pc_sound.proofs.RegionCallers.{live_left, follows_at, fields_on, others_on, rests_on}
+use Rattle.pc_sound.proofs.RegionCallers.{and_none, not_here, from_elsewhere, from_lower, from_under, Rests, LeftAbove, live_left, follows_at, fields_on, others_on, rests_on, fields_low, others_low, rests_low}
 use Rattle.pc_sound.proofs.RegionEnter.{finish_at, enters_frames}
 
 -- ---- what was on the stack
@@ -130,6 +132,17 @@ lent_top w i q level e = ap (λ (b : Bool). cond b (suc (w.top i)) (w.top i)) (e
 lent_context : (w : World) (i q level : ℕ) → w.top i ≡ level → (lent w i q).context i (suc level) ≡ q
 lent_context w i q level e = ap (λ (b : Bool). cond (b && nat_eq (suc (w.top i)) (suc level)) q (w.context i (suc level))) (eq-eqb i i refl) ∙ ap (λ (b : Bool). cond b q (w.context i (suc level))) (eq-eqb (suc (w.top i)) (suc level) (ap suc e))
 
+lent_before : (w : World) (i q j : ℕ) → j ≤ w.top i → (lent w i q).context i j ≡ w.context i j
+lent_before w i q j low = ap (λ (b : Bool). cond b q (w.context i j)) (and_none (nat_eq i i) (nat_eq (suc (w.top i)) j) (ne_eqb (suc (w.top i)) j (λ e. absurd (omega (arith, e, low)))))
+
+not_higher : (i k l : ℕ) → l ≤ k → (nat_eq i i && nat_lt k l) ≡ false
+not_higher i k l low = and_none (nat_eq i i) (nat_lt k l) (le-ltb k l low)
+
+-- What is on the pile is no deeper than what is on it with more.
+piled_shallow : (ann : Ann) (d : ℕ) (cs : List ℕ) (below : List Entry) → Shallow (piled ann d cs below) d → Shallow below d
+piled_shallow ann d [] below k = k
+piled_shallow ann d (c ∷ cs) below k = (piled_shallow ann d cs (record { ty = type_of ann c; depth = d } ∷ below) k).1
+
 lower_shift : (w w' : World) (objects : ObjectMap) (count i b c : ℕ) (gone : Place → Bool) → c ≤ b → Shifts w w' objects count i b gone → Shifts w w' objects count i c gone
 lower_shift w w' objects count i b c gone low x = record {
   world = x.world;
@@ -166,6 +179,29 @@ plain_fits w p g (Truth b) e = tt
 plain_fits w p g (Text t) e = tt
 plain_fits w p g (Prim n) e = tt
 
+or_false : (a b : Bool) → a ≡ false → b ≡ false → (a || b) ≡ false
+or_false true b e k = e
+or_false false b e k = k
+
+higher_far : (i k : ℕ) (p : Place) → elsewhere i p ≡ true → higher i k p ≡ false
+higher_far i k (InSlot j h t l) e = not_here (nat_eq i j) (nat_lt k l) e
+higher_far i k (OnStack j h d l) e = not_here (nat_eq i j) (nat_lt k l) e
+higher_far i k (InField a n) e = refl
+higher_far i k (InMail j t n) e = refl
+
+left_lent : (core : CoreData) (ann : Ann) (around : Around) (f : Frame) (fs : List Frame) (ts : List Task) (w : World) (s : Situated core ann w around f ts fs) (does : NodeKind → Bool) (n : ℕ) (go : ℕ → Mask → List Entry → Type 0)
+    (e : FinishRises core ann f.method s.active.depth s.active.holds.live s.active.holds.entries does n go) (m : ℕ) → LeftAbove core ann around f fs ts w s does n go e m (λ p. higher around.actor (w.top around.actor) p || from_place around.actor (length fs) m p)
+left_lent core ann around f fs ts w s does n go e m =
+    let i : ℕ = around.actor in
+    let k : ℕ = w.top i in
+    record {
+      far = λ p z. or_false (higher i k p) (from_place i (length fs) m p) (higher_far i k p z) (from_elsewhere i (length fs) m p z);
+      fieldless = λ a z. refl;
+      slots = λ h t l low. or_false (nat_eq i i && nat_lt k l) false (not_higher i k l low) refl;
+      lower = λ h d l under low. or_false (nat_eq i i && nat_lt k l) (from_place i (length fs) m (OnStack i h d l)) (not_higher i k l low) (from_lower i (length fs) m h d l under);
+      under = λ d l below low. or_false (nat_eq i i && nat_lt k l) (from_place i (length fs) m (OnStack i (length fs) d l)) (not_higher i k l low) (from_under i (length fs) m d l below);
+    }
+
 -- ---- a call
 
 module _ (settle : SettleLaw) (core : CoreData) (ann : Ann) (needs : Needs core ann) (around : Around) (f : Frame) (fs : List Frame) (r : Runs core ann around f fs) (n : ℕ)
@@ -195,8 +231,8 @@ module _ (settle : SettleLaw) (core : CoreData) (ann : Ann) (needs : Needs core 
   last_level : suc level ≤ suc level
   last_level = omega arith
 
-  up_one : (a b : ℕ) → b ≡ suc a → a ≤ b
-  up_one a b e = omega (arith, e)
+  up_far : (c a b : ℕ) → c ≤ a → b ≡ suc a → c ≤ b
+  up_far c a b l e = omega (arith, l, e)
 
   up_to : (l a k : ℕ) → l ≤ a → a ≡ k → l < suc k
   up_to l a k low e = omega (arith, low, e)
@@ -245,19 +281,18 @@ module _ (settle : SettleLaw) (core : CoreData) (ann : Ann) (needs : Needs core 
         (u, turned)
 
     -- The frame begins at level b of the world that came of it.
-    begins_at : (u : World) (b : ℕ) → Shifts w u around.objects around.actors around.actor (w.top around.actor) (from_place around.actor (length fs) (length c.popped.rest)) → u.top around.actor ≡ b
+    begins_at : (u : World) (b : ℕ) → WorldOk u around.objects around.actors → FieldsFit core u around.objects → Others w u around.actor around.actors None
+        → Rests core ann u around.actor f.method s.active.holds.base s.active.depth s.active.holds.live g.below f.slots c.popped.rest fs → u.top around.actor ≡ b
         → Fits u (InSlot around.actor (suc (length fs)) 0 b) (unalias c.found.own.receiver) c.this → ArgumentsAt u (λ k. InSlot around.actor (suc (length fs)) (suc k) b) c.found.own.params c.popped.values
         → Entered u around.actor c.found.own g.note.ty s.active.holds.base level b method.Fun → GoesTo core c.found.own.result g.note.ty
         → RegionMoveOk core ann w around fs (invoke_task core around f g.node.children (nodes.Call name))
-    begins_at u b x top this_fits fit entered result =
-        let m : ℕ = length c.popped.rest in
+    begins_at u b ok fields others rests top this_fits fit entered result =
         let go = λ (d : ℕ) (l : Mask) (st : List Entry). TasksRise core ann f.method f.tasks d l st in
-        let rests = rests_on core ann around f fs (task.Invoke n ∷ f.tasks) w s invokes n go g u m x c.popped.rest (omega arith) (stands by c).fits in
         enters_move u
         (record {
-          world = x.world;
-          fields = fields_on core ann around f fs (task.Invoke n ∷ f.tasks) w s invokes n go g u m x;
-          others = others_on core ann around f fs (task.Invoke n ∷ f.tasks) w s invokes n go g u m x;
+          world = ok;
+          fields = fields;
+          others = others;
           frames = enters_frames core ann needs u around.actor f.method s.active.holds.base s.active.depth b s.active.holds.live g.below f.slots c.popped.rest fs f.tasks rests g.note.live_after g.note.ty
               (live_left core ann around f fs (task.Invoke n ∷ f.tasks) w s invokes n go g by.behind by.is_behind by.live)
               (follows_at core ann around f fs (task.Invoke n ∷ f.tasks) w s invokes n go g)
@@ -280,7 +315,11 @@ module _ (settle : SettleLaw) (core : CoreData) (ann : Ann) (needs : Needs core 
         let calm = calm_both w this.world all.world around.objects around.actors i (from_place i h m)
         (calm_wider w this.world around.objects around.actors i (the_place i h (length c.under)) (from_place i h m) (λ p z. one_later i h m (length c.under) (receiver_under m (length c.popped.values) (length c.under) st.total) p z) this.calm) all.calm
         in
-        begins_at all.world level calm.shifts (calm.top i ∙ is_top) (all.calm.shifts.fits (InSlot i (suc h) 0 level) (unalias c.found.own.receiver) c.this refl this.fits) all.fit (inl refl) result
+        let go = λ (d : ℕ) (l : Mask) (es : List Entry). TasksRise core ann f.method f.tasks d l es in
+        begins_at all.world level calm.shifts.world (fields_on core ann around f fs (task.Invoke n ∷ f.tasks) w s invokes n go g all.world m calm.shifts)
+        (others_on core ann around f fs (task.Invoke n ∷ f.tasks) w s invokes n go g all.world m calm.shifts)
+        (rests_on core ann around f fs (task.Invoke n ∷ f.tasks) w s invokes n go g all.world m calm.shifts c.popped.rest (omega arith) st.fits)
+        (calm.top i ∙ is_top) (all.calm.shifts.fits (InSlot i (suc h) 0 level) (unalias c.found.own.receiver) c.this refl this.fits) all.fit (inl refl) result
 
   below_result : (by : CalledRule core ann g.node name g.note) (c : Calls by) → Below core c.found.own.result by.own.result
   below_result by c = (c.found.stands.entity, (below_iff c.found.own.result.1 by.own.result.1).1 c.found.stands.form)
@@ -307,6 +346,15 @@ module _ (settle : SettleLaw) (core : CoreData) (ann : Ann) (needs : Needs core 
     base_low : s.active.holds.base ≤ w.top around.actor
     base_low = let last = s.active.last in omega (arith, last)
 
+    low_enough : (j : ℕ) → j ≤ s.active.holds.base + s.active.depth → j ≤ w.top around.actor
+    low_enough j to = let last = s.active.last in omega (arith, last, to)
+
+    within_depth : (j : ℕ) → j ≤ w.top around.actor → j ≤ s.active.holds.base + s.active.depth
+    within_depth j to = let last = s.active.last in omega (arith, last, to)
+
+    below_shallow : Shallow g.below s.active.depth
+    below_shallow = piled_shallow ann s.active.depth g.node.children g.below (subst (λ (es : List Entry). Shallow es s.active.depth) g.stack s.active.shallow)
+
     lend_at : (a : Address) → c.this ≡ At a → RegionMoveOk core ann w around fs (invoke_task core around f g.node.children (nodes.Call name))
     lend_at a is =
         let i : ℕ = around.actor in
@@ -317,7 +365,8 @@ module _ (settle : SettleLaw) (core : CoreData) (ann : Ann) (needs : Needs core 
         let st = stands by c in
         let alias : AliasIn w i s.active.holds.base (w.top i) by.receiver.1 q = subst (λ (v : Value). Alias w i s.active.holds.base (w.top i) by.receiver.1 v) is (alias_of by c) in
         let under = under_alias w around.objects around.actors i s.active.holds.base by.receiver.1 q s.world s.here base_low rule.isolated alias in
-        let lend = lends w around.objects around.actors s.world i s.here q under.level under.free under.to under.over in
+        let base : ℕ = s.active.holds.base in
+        let lend = lends w around.objects around.actors s.world i s.here base base_low (λ j up to. s.active.opened j up (within_depth j to)) q under.level under.free under.from under.to under.over (higher i (w.top i)) (λ p z. z) in
         let v : World = lent w i q in
         let top : v.top i ≡ suc level = lent_top w i q level is_top in
         let home_is : v.context i (suc level) ≡ q = lent_context w i q level is_top in
@@ -326,19 +375,30 @@ module _ (settle : SettleLaw) (core : CoreData) (ann : Ann) (needs : Needs core 
         subst (λ (z : Value). Fits v (InSlot i (suc h) 0 (suc level)) g2 z) (sym is)
         (lent_in v (InSlot i (suc h) 0 (suc level)) q by.own.receiver c.found.own.receiver rule.lent ((below_iff (unalias by.own.receiver) g2).1 c.found.stands.receiver) (sym home_is))
         in
-        let all = pass_all core ann settle around.objects around.actors i h level (suc level) s.here next_level v lend.shifts.world top m (λ k. InSlot i (suc h) (suc k) (suc level))
+        let all = pass_all core ann settle around.objects around.actors i h level (suc level) s.here next_level v lend.0.world top m (λ k. InSlot i (suc h) (suc k) (suc level))
         (arguments g.node.children) by.own.params c.found.own.params c.popped.values by.goes c.found.stands.count (λ k p b z y. stands_below core p z (c.found.stands.params k p b z y))
-        (stand_kept ann w v i h level (λ d k z fit. lend.shifts.fits (OnStack i h d level) k z refl fit) m (arguments g.node.children) c.popped.values st.stand)
+        (stand_kept ann w v i h level (λ d k z fit. lend.0.fits (OnStack i h d level) k z (not_higher i (w.top i) level (subst (λ (j : ℕ). level ≤ j) (sym is_top) same_level)) fit) m (arguments g.node.children) c.popped.values st.stand)
         (λ u t k z b d. (refl, subst (λ (j : ℕ). suc level ≤ j) (sym t) last_level)) (λ k d. refl) (inr (inr rule.sendable))
         in
         let u : World = all.world in
-        let x : Shifts w u around.objects around.actors i (w.top i) (from_place i h m) =
-        shifts_both w v u around.objects around.actors i (w.top i) (λ p. false) (from_place i h m) lend.shifts
-        (lower_shift v u around.objects around.actors i (v.top i) (w.top i) (from_place i h m) (up_one (w.top i) (v.top i) (top ∙ ap suc (sym is_top))) all.calm.shifts)
+        let gone = λ (p : Place). higher i (w.top i) p || from_place i h m p in
+        let x : Shifts w u around.objects around.actors i base gone =
+        shifts_both w v u around.objects around.actors i base (higher i (w.top i)) (from_place i h m) lend.0
+        (lower_shift v u around.objects around.actors i (v.top i) base (from_place i h m) (up_far base (w.top i) (v.top i) base_low (top ∙ ap suc (sym is_top))) all.calm.shifts)
         in
         let context : u.context i (suc level) ≡ q = all.calm.context i (suc level) s.here (subst (λ (j : ℕ). suc level ≤ j) (sym top) last_level) ∙ home_is in
-        begins_at by rule.kind c u (suc level) x (all.calm.top i ∙ top) (all.calm.shifts.fits (InSlot i (suc h) 0 (suc level)) g2 c.this refl this_fits) all.fit
-        (inr (refl, comes_out.1, under.level, under.from, up_to under.level (w.top i) level under.to is_top, subst (λ (z : ℕ). Over u i z under.level) (sym context) (all.calm.over i lend.over)))
+        let open_still : OpenedTo u i base s.active.depth = λ j up to.
+            let low : j ≤ w.top i = low_enough j to in
+            ap u.stands (all.calm.context i j s.here (up_far j (w.top i) (v.top i) low (top ∙ ap suc (sym is_top))))
+            ∙ all.calm.opened (v.context i j) i (ap w.stands (lent_before w i q j low) ∙ s.active.opened j up to)
+        in
+        let go = λ (d : ℕ) (l : Mask) (es : List Entry). TasksRise core ann f.method f.tasks d l es in
+        let left = left_lent core ann around f fs (task.Invoke n ∷ f.tasks) w s invokes n go g m in
+        begins_at by rule.kind c u (suc level) x.world (fields_low core ann around f fs (task.Invoke n ∷ f.tasks) w s invokes n go g u m gone left x)
+        (others_low core ann around f fs (task.Invoke n ∷ f.tasks) w s invokes n go g u m gone left x)
+        (rests_low core ann around f fs (task.Invoke n ∷ f.tasks) w s invokes n go g u m gone left x open_still c.popped.rest (omega arith) below_shallow st.fits)
+        (all.calm.top i ∙ top) (all.calm.shifts.fits (InSlot i (suc h) 0 (suc level)) g2 c.this refl this_fits) all.fit
+        (inr (refl, comes_out.1, under.level, under.from, up_to under.level (w.top i) level under.to is_top, subst (λ (z : ℕ). Over u i z under.level) (sym context) (all.calm.over i lend.1)))
         comes_out.0
 
     lend_plain : is_at c.this ≡ false → RegionMoveOk core ann w around fs (invoke_task core around f g.node.children (nodes.Call name))

@@ -4,6 +4,7 @@ use Rattle.std.specs.Prelude.{◌≡◌, ◌⊎◌, ℕ, suc, ◌+◌, ◌<◌, 
 use Rattle.std.proofs.Common.{inl, inr, ap, sym, subst, ◌∙◌, arith}
 use Rattle.std.proofs.lemmas.Bool.{ne_eqb, le-ltb}
 use Rattle.pc_heap.specs.Objects.{ObjectMap}
+use Rattle.pc_heap.specs.declared.value.Address.{Address}
 use Rattle.pc_heap.specs.declared.value.Value.{Value}
 use Rattle.pc_caps.specs.Tables.{unalias}
 use Rattle.pc_core.specs.declared.declarations.Method.{Method}
@@ -17,24 +18,25 @@ use Rattle.pc_semantics.specs.Around.{Around, with_stack}
 use Rattle.pc_rules.specs.Parts.{Ty, Masks, before, through}
 use Rattle.pc_sound.specs.Tasks.{Within}
 use Rattle.pc_sound.specs.RegionWorld.{Opened, Place, InSlot, OnStack, InField, InMail, World, Fits, FitsSome, Over, WorldOk}
-use Rattle.pc_sound.specs.RegionTasks.{Entry, TasksRise, FinishRises, Rises, entry_of, piled}
+use Rattle.pc_sound.specs.RegionTasks.{Entry, Shallow, TasksRise, FinishRises, Rises, entry_of, piled}
 use Rattle.pc_sound.specs.RegionFrames.{ThisFits, SlotsFit, StackFits, Entered, OpenedTo, GoesTo, Awaits, WaitFits, FieldsFit}
 use Rattle.pc_sound.specs.RegionMoves.{elsewhere, Others, Situated}
 use Rattle.pc_sound.specs.RegionPlaces.{Shifts}
 use Rattle.pc_sound.proofs.Basic.{within_same, within_trans}
 use Rattle.pc_sound.proofs.Callers.{left_within}
 use Rattle.pc_sound.proofs.RegionShifts.{others_kept, fields_kept, below_kept}
+use Rattle.pc_sound.proofs.RegionLower.{this_low, slots_low, stack_low, below_low}
 use Rattle.pc_sound.proofs.RegionArguments.{Pulled, pull}
 use Rattle.pc_sound.proofs.RegionPasses.{from_place}
 use Rattle.pc_sound.proofs.RegionRise.{Pushes}
 
 -- ---- places from a depth of the stack on
 
-and_none : (a b : Bool) → b ≡ false → (a && b) ≡ false
+pub and_none : (a b : Bool) → b ≡ false → (a && b) ≡ false
 and_none true b e = e
 and_none false b e = refl
 
-not_here : (a b : Bool) → not a ≡ true → (a && b) ≡ false
+pub not_here : (a b : Bool) → not a ≡ true → (a && b) ≡ false
 not_here true b e = let bad : false ≡ true = e in cc
 not_here false b e = refl
 
@@ -123,6 +125,40 @@ module _ (core : CoreData) (ann : Ann) (around : Around) (f : Frame) (fs : List 
       slots_fit = λ t up live v at y is. x.fits (InSlot around.actor (length fs) t (s.active.holds.base + y.0.depth)) (unalias y.1.1) v refl (s.active.holds.slots_fit t up live v at y is);
       stack_fit = stack_on s.active.holds.base e.below rest few fit;
       wait = wait_on;
+    }
+
+  -- What is kept while only such places are left.
+  pub record LeftAbove (m : ℕ) (gone : Place → Bool) : Type 0 where
+    pub far : (p : Place) → elsewhere around.actor p ≡ true → gone p ≡ false
+    pub fieldless : (a : Address) (k : ℕ) → gone (InField a k) ≡ false
+    pub slots : (h t l : ℕ) → l ≤ w.top around.actor → gone (InSlot around.actor h t l) ≡ false
+    pub lower : (h d l : ℕ) → h < length fs → l ≤ w.top around.actor → gone (OnStack around.actor h d l) ≡ false
+    pub under : (d l : ℕ) → d < m → l ≤ w.top around.actor → gone (OnStack around.actor (length fs) d l) ≡ false
+
+  module _ (w' : World) (m : ℕ) (gone : Place → Bool) (left : LeftAbove m gone) (x : Shifts w w' around.objects around.actors around.actor s.active.holds.base gone) where
+    pub others_low : Others w w' around.actor around.actors None
+    others_low = others_kept w w' around.objects around.actors around.actor s.active.holds.base gone x left.far
+
+    pub fields_low : FieldsFit core w' around.objects
+    fields_low = fields_kept w w' around.objects around.actors around.actor s.active.holds.base gone x core left.fieldless s.fields
+
+    low_all : s.active.holds.base + s.active.depth ≤ w.top around.actor
+    low_all = let last = s.active.last in omega (arith, last)
+
+    low_than : (l : ℕ) → l ≤ s.active.holds.base → l ≤ w.top around.actor
+    low_than l k = let last = s.active.last in omega (arith, last, k)
+
+    pub rests_low : OpenedTo w' around.actor s.active.holds.base s.active.depth → (rest : List Value) → length rest ≤ m → Shallow e.below s.active.depth → StackFits w around.actor (length fs) s.active.holds.base e.below rest
+        → Rests core ann w' around.actor f.method s.active.holds.base s.active.depth s.active.holds.live e.below f.slots rest fs
+    rests_low open_still rest few flat fit = record {
+      opened = open_still;
+      this_fits = this_low w w' around.actor (length fs) (w.top around.actor) (λ t l g v low k. x.fits (InSlot around.actor (length fs) t l) g v (left.slots (length fs) t l low) k) m
+          (λ d l g v under low k. x.fits (OnStack around.actor (length fs) d l) g v (left.under d l under low) k) core f.method s.active.holds.base f.slots low_base s.active.holds.this_fits;
+      slots_fit = slots_low w w' around.actor (length fs) (w.top around.actor) (λ t l g v low k. x.fits (InSlot around.actor (length fs) t l) g v (left.slots (length fs) t l low) k) m
+          (λ d l g v under low k. x.fits (OnStack around.actor (length fs) d l) g v (left.under d l under low) k) core ann f.method s.active.holds.base s.active.depth s.active.holds.live f.slots low_all s.active.not_deeper s.active.holds.slots_fit;
+      stack_fit = stack_low w w' around.actor (length fs) (w.top around.actor) (λ t l g v low k. x.fits (InSlot around.actor (length fs) t l) g v (left.slots (length fs) t l low) k) m
+          (λ d l g v under low k. x.fits (OnStack around.actor (length fs) d l) g v (left.under d l under low) k) s.active.holds.base s.active.depth e.below rest low_all few flat fit;
+      wait = below_low w w' around.objects around.actors around.actor s.active.holds.base gone x core ann (length fs) (λ h t l under low. left.slots h t l (low_than l low)) (λ h d l under low. left.lower h d l under (low_than l low)) f.method fs refl s.wait;
     }
 
 -- A frame that waits, where a value might be pushed.

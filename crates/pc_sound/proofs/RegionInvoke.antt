@@ -37,7 +37,7 @@ use Rattle.pc_sound.specs.RegionFrames.{StackFits, MessageFits}
 use Rattle.pc_sound.specs.RegionMoves.{Others, Turned, Situated, RegionMoveOk}
 use Rattle.pc_sound.specs.RegionSettle.{SettleLaw}
 use Rattle.pc_sound.specs.RegionClimb.{ClimbLaw}
-use Rattle.pc_sound.specs.RegionLent.{LentLaw}
+use Rattle.pc_sound.specs.RegionContexts.{LentLaw}
 use Rattle.pc_sound.proofs.Needs.{Needs}
 use Rattle.pc_sound.proofs.Notes.{meets}
 use Rattle.pc_sound.proofs.Values.{top_is, is_number, is_truth, is_address, own_no_trait}

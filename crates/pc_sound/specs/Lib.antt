@@ -13,5 +13,4 @@ pub mod RegionScope
 pub mod RegionLaws
 pub mod Laws
 pub mod RegionSettle
-pub mod RegionLent
 pub mod RegionContexts

@@ -28,12 +28,13 @@ OpenLaw =
     → (gone : Place → Bool) → ((p : Place) → higher i (w.top i) p ≡ true → gone p ≡ true) → Opens w (with_open w i) objects count i b gone
 
 -- A region that is no context, over which some level from b on is, is lent as the next context, by a frame of level b above which
--- all contexts are open.
+-- all contexts are open. What is over it stays over it.
 abbrev pub LentLaw : Type 0
 LentLaw =
     (w : World) (objects : ObjectMap) (count : ℕ) → WorldOk w objects count → (i : ℕ) → i < count → (b : ℕ) → b ≤ w.top i
     → ((j : ℕ) → b < j → j ≤ w.top i → w.stands (w.context i j) ≡ Opened i) → (q l : ℕ) → w.role q ≡ None → b ≤ l → l ≤ w.top i → Over w i q l
-    → (gone : Place → Bool) → ((p : Place) → higher i (w.top i) p ≡ true → gone p ≡ true) → Shifts w (lent w i q) objects count i b gone
+    → (gone : Place → Bool) → ((p : Place) → higher i (w.top i) p ≡ true → gone p ≡ true)
+    → Shifts w (lent w i q) objects count i b gone × Over (lent w i q) i q l
 
 -- ---- a context goes
 
