@@ -1,5 +1,5 @@
 -- What is seen of a field through an origin, by regions. An origin that no place holds was let go before: it is an alias then.
-use Rattle.std.specs.Prelude.{◌≡◌, ℕ, ◌+◌, ◌<◌, ◌≤◌, Bool, true, false, Option, Some, None, refl}
+use Rattle.std.specs.Prelude.{◌≡◌, ℕ, ◌+◌, ◌<◌, ◌≤◌, true, Option, Some, refl}
 use Rattle.std.proofs.Common.{ap, sym, subst, ◌∙◌, arith}
 use Rattle.std.proofs.lemmas.Option.{same_Some, none-some}
 use Rattle.pc_heap.specs.Objects.{ObjectMap}
@@ -12,7 +12,7 @@ use Rattle.pc_caps.specs.declared.capability.Cap.{Cap}
 use Rattle.pc_caps.specs.declared.capability.Cap.TheVariants as cap
 use Rattle.pc_caps.specs.declared.capability.Form.{Form}
 use Rattle.pc_caps.specs.declared.capability.Form.TheVariants as form
-use Rattle.pc_sound.specs.RegionWorld.{Place, OnStack, InField, Opened, Held, Child, World, Frozen, ice, in_ice, under_ice, Seen, same, under, frozen, Over, over_own, over_field, over_part, steady, FitsIn, Fits, AliasIn, Alias, WorldOk}
+use Rattle.pc_sound.specs.RegionWorld.{Place, OnStack, InField, Opened, Held, Child, World, Frozen, in_ice, under_ice, Seen, same, under, frozen, Over, over_own, over_field, over_part, FitsIn, Fits, AliasIn, Alias, WorldOk}
 use Rattle.pc_sound.specs.RegionFrames.{OpenedTo}
 use Rattle.pc_sound.specs.RegionSettle.{Settled, SettleLaw}
 use Rattle.pc_sound.specs.RegionClimb.{passed}
