@@ -67,3 +67,4 @@ mod RegionSettle
 mod RegionRenewed
 mod RegionContexts
 mod RegionEnds
+mod RegionStored
