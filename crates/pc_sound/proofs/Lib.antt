@@ -68,3 +68,4 @@ mod RegionRenewed
 mod RegionContexts
 mod RegionEnds
 mod RegionStored
+mod RegionStore
