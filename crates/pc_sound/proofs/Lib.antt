@@ -74,3 +74,5 @@ mod RegionContexts
 mod RegionEnds
 mod RegionTakes
 mod RegionReturn
+mod RegionStored
+mod RegionStore
