@@ -57,6 +57,7 @@ mod RegionEval
 mod RegionChoices
 mod RegionApply
 mod RegionGet
+mod RegionKeeps
 mod RegionMerge
 mod RegionRules
 mod RegionArguments

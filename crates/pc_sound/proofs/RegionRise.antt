@@ -160,21 +160,6 @@ module _ (core : CoreData) (ann : Ann) (climb : ClimbLaw core) (objects : Object
 
 -- ---- the world stays
 
--- A world that is as it was.
-pub shifts_same : (w : World) (objects : ObjectMap) (count i b : ℕ) (gone : Place → Bool) → WorldOk w objects count → Shifts w w objects count i b gone
-shifts_same w objects count i b gone ok = record {
-  world = ok;
-  fits = λ p f v e k. k;
-  sent = λ j. refl;
-  top = λ j n. refl;
-  context = λ l n. refl;
-  contexts = λ j l there n k. refl;
-  opened = λ j l n e. e;
-  alias = λ j c f v there n a. a;
-  over = λ j m l there n o. o;
-  low = λ m l n k o. o;
-}
-
 no_more : (n m : ℕ) → n ≡ m → n ≡ m + 0
 no_more n m e = omega (arith, e)
 

@@ -48,7 +48,8 @@ use Rattle.pc_sound.proofs.Basic.{of_lower}
 use Rattle.pc_sound.proofs.EvalValue.{not_zero, taken_lower, own_at, seen_this, slot_ok}
 use Rattle.pc_sound.proofs.Inverse.{Says, Used, ThisRule}
 use Rattle.pc_sound.proofs.RegionShifts.{others_kept, fields_kept, below_kept}
-use Rattle.pc_sound.proofs.RegionRise.{Pushes, rise, slot_depth, shifts_same, others_both, and_none, not_here, lower_frame}
+use Rattle.pc_sound.proofs.RegionSettle.{shifts_none}
+use Rattle.pc_sound.proofs.RegionRise.{Pushes, rise, slot_depth, others_both, and_none, not_here, lower_frame}
 use Rattle.pc_sound.proofs.RegionChildren.{at_depth}
 use Rattle.pc_sound.proofs.RegionSlot.{slot_read, iso_free, trn_free}
 
@@ -350,7 +351,7 @@ module _ (core : CoreData) (ann : Ann) (needs : Needs core ann) (climb : ClimbLa
 
       -- What is not `iso` or `trn` is only copied.
       copied : Fits w place (unalias p.1) value_at.value → RegionMoveOk core ann w around fs (Goes (pushed (with_slot f z None) value_at.value))
-      copied fits = taken_goes w (shifts_same w around.objects around.actors i base (one_slot i h z) s.world) top_at s.active.opened fits
+      copied fits = taken_goes w (shifts_none w around.objects around.actors i base (one_slot i h z) s.world) top_at s.active.opened fits
 
       abbrev held_at : Place
       held_at = InSlot i h z (base + u.slot.0.depth)
