@@ -48,7 +48,7 @@ below_no_trait core d e x formed (inr l) at n =
 
 -- ---- a method that stands for another
 
-below_trans : (a b c : Form) → IsBelow a b → IsBelow b c → IsBelow a c
+pub below_trans : (a b c : Form) → IsBelow a b → IsBelow b c → IsBelow a c
 below_trans a b c same q = q
 below_trans a b c (step {b = d} s r) q = step s (below_trans d b c r q)
 

@@ -62,7 +62,7 @@ pub type_is : (ann : Ann) (c : ℕ) (t : Note) → slice_get ann.notes c ≡ Som
 type_is ann c t e = bind_is (slice_get ann.notes c) (λ (u : Note). u.ty) t e
 
 -- The last of more than one.
-last_next : (c d : ℕ) (cs : List ℕ) → last_child (c ∷ d ∷ cs) ≡ last_child (d ∷ cs)
+pub last_next : (c d : ℕ) (cs : List ℕ) → last_child (c ∷ d ∷ cs) ≡ last_child (d ∷ cs)
 last_next c d cs =
     let e : length (c ∷ d ∷ cs) - 1 ≡ suc (length (d ∷ cs) - 1) = omega arith in
     ap (slice_get (c ∷ d ∷ cs)) e

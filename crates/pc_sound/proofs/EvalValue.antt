@@ -77,7 +77,7 @@ module _ (core : CoreData) (ann : Ann) (needs : Needs core ann) (around : Around
   -- ---- `this`
 
   -- The method of the node is that of the frame.
-  own_at : slice_get core.methods e.node.method ≡ Some r.held.own
+  pub own_at : slice_get core.methods e.node.method ≡ Some r.held.own
   own_at = ap (slice_get core.methods) e.own ∙ r.held.is_own
 
   finished_this : (b : Bool) → constructs r.held.own.kind ≡ b → full core r.held.own.entity e.note.set_before ≡ true → sees (plain r.held.own.receiver) ≡ true → Finished around.objects r.held.this
@@ -86,7 +86,7 @@ module _ (core : CoreData) (ann : Ann) (needs : Needs core ann) (around : Around
       all_set core ann needs around.objects around.actors r.held.set r.held.own.entity r.held.this r.objects (r.held.this_ok.fields is) r.held.this_ok.is_entity
       (within_trans (all_fields core r.held.own.entity) e.note.set_before r.held.set ((within_bits (all_fields core r.held.own.entity) e.note.set_before).0 all) e.set)
 
-  seen_this : (slot : Slot × (ℕ × Cap)) → slot.1 ≡ (r.held.own.entity, r.held.own.receiver) → sees (this_form core e.node r.held.own.entity slot e.note.set_before) ≡ true → Finished around.objects r.held.this
+  pub seen_this : (slot : Slot × (ℕ × Cap)) → slot.1 ≡ (r.held.own.entity, r.held.own.receiver) → sees (this_form core e.node r.held.own.entity slot e.note.set_before) ≡ true → Finished around.objects r.held.this
   seen_this slot is h =
       let c = form_cases (full core r.held.own.entity e.note.set_before && reachable e.node slot) (plain slot.1.1) h in
       let p = and_parts (full core r.held.own.entity e.note.set_before) (reachable e.node slot) c.0 in
@@ -109,7 +109,7 @@ module _ (core : CoreData) (ann : Ann) (needs : Needs core ann) (around : Around
     pub is_value : slice_get f.slots s ≡ Some (Some value)
     pub typed : OfType core around.objects (held_in i) value
 
-  slot_ok : (s : ℕ) (i : ℕ × Cap) → 0 < s → Used core ann e.node s e.note.live_before i → InSlot s i
+  pub slot_ok : (s : ℕ) (i : ℕ × Cap) → 0 < s → Used core ann e.node s e.note.live_before i → InSlot s i
   slot_ok s i l u =
       let y = r.held.slots_ok s l (e.live s u.live) in
       let at = slot_at core ann e.node.method s r.held.own u.slot own_at u.is_slot in

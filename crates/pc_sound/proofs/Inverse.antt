@@ -92,6 +92,7 @@ pub record Used (core : CoreData) (ann : Ann) (x : Node) (s : ℕ) (l : Mask) (i
   pub slot : Slot × (ℕ × Cap)
   pub is_slot : slot_of core ann x.method s ≡ Some slot
   pub live : has l s ≡ true
+  pub near : reachable x slot ≡ true
   pub ty : slot.1 ≡ i
 
 used_is : (core : CoreData) (ann : Ann) (x : Node) (s : ℕ) (l : Mask) (i : ℕ × Cap) → used core ann x s l ≡ Some i → Used core ann x s l i
@@ -99,7 +100,7 @@ used_is core ann x s l i e =
     let a = bind_some (slot_of core ann x.method s) _ i e in
     let k = kept (has l s && reachable x a.0) (Some a.0.1) i a.2 in
     let p = and_parts (has l s) (reachable x a.0) k.0 in
-    record { slot = a.0; is_slot = a.1; live = p.0; ty = same_Some a.0.1 i k.1 }
+    record { slot = a.0; is_slot = a.1; live = p.0; near = p.1; ty = same_Some a.0.1 i k.1 }
 
 -- ---- the rules by kind
 

@@ -45,7 +45,7 @@ abbrev pub CallSays : CoreData → Ann → Node → ℕ → Masks → Said → T
 CallSays core ann x name m q =
     (call_says core ann x name m ≡ Some q) ⊎ ((callrecover_says core ann x name m ≡ Some q) ⊎ ((send_says core ann x name m ≡ Some q) ⊎ (builtin_says core ann x name m ≡ Some q)))
 
-call_rules : (core : CoreData) (ann : Ann) (x : Node) (m : Masks) (r : Rule) (name : ℕ) (q : Said) → says core ann x m r (nodes.Call name) ≡ Some q → CallSays core ann x name m q
+pub call_rules : (core : CoreData) (ann : Ann) (x : Node) (m : Masks) (r : Rule) (name : ℕ) (q : Said) → says core ann x m r (nodes.Call name) ≡ Some q → CallSays core ann x name m q
 call_rules core ann x m rule.Call name q e = inl e
 call_rules core ann x m rule.CallRecover name q e = inr (inl e)
 call_rules core ann x m rule.Send name q e = inr (inr (inl e))
@@ -66,13 +66,13 @@ pub record MakesRule (core : CoreData) (ann : Ann) (x : Node) (k : ℕ) (t : Not
   pub set : t.set_after ≡ behind.1
 
 -- The parts of what is said.
-said_ty : (t : Note) (ty : Option Ty) (n : Masks) → Some (says_of ty n) ≡ Some (said_by t) → t.ty ≡ ty
+pub said_ty : (t : Note) (ty : Option Ty) (n : Masks) → Some (says_of ty n) ≡ Some (said_by t) → t.ty ≡ ty
 said_ty t ty n e = (says_is t ty n e).ty
 
-said_live : (t : Note) (ty : Option Ty) (n : Masks) → Some (says_of ty n) ≡ Some (said_by t) → t.live_after ≡ n.0
+pub said_live : (t : Note) (ty : Option Ty) (n : Masks) → Some (says_of ty n) ≡ Some (said_by t) → t.live_after ≡ n.0
 said_live t ty n e = (says_is t ty n e).live
 
-said_set : (t : Note) (ty : Option Ty) (n : Masks) → Some (says_of ty n) ≡ Some (said_by t) → t.set_after ≡ n.1
+pub said_set : (t : Note) (ty : Option Ty) (n : Masks) → Some (says_of ty n) ≡ Some (said_by t) → t.set_after ≡ n.1
 said_set t ty n e = (says_is t ty n e).set
 
 abbrev pub result_of : Method → Ty
@@ -140,7 +140,7 @@ pub record TextRule (core : CoreData) (ann : Ann) (x : Node) (name : ℕ) (t : N
   pub live : t.live_after ≡ behind.0
   pub set : t.set_after ≡ behind.1
 
-function_is : (k : MethodKind) → is_function k ≡ true → k ≡ method.Fun
+pub function_is : (k : MethodKind) → is_function k ≡ true → k ≡ method.Fun
 function_is method.Fun e = refl
 function_is k e = absurd (false_true e)
 
@@ -177,7 +177,7 @@ shows v e =
 
 module _ (core : CoreData) (ann : Ann) (x : Node) (name : ℕ) (t : Note) where
   -- What all three rules have.
-  abbrev called_of : (i : Ty × ℕ) (f : Method) (n : Masks) (ty : Option Ty) → called core ann x name ≡ Some i → slice_get core.methods i.1 ≡ Some f → through ann x.children (before t) ≡ Some n → arguments_go core ann (arguments x.children) f.params ≡ true → Some (says_of ty n) ≡ Some (said_by t) → CalledRule core ann x name t
+  abbrev pub called_of : (i : Ty × ℕ) (f : Method) (n : Masks) (ty : Option Ty) → called core ann x name ≡ Some i → slice_get core.methods i.1 ≡ Some f → through ann x.children (before t) ≡ Some n → arguments_go core ann (arguments x.children) f.params ≡ true → Some (says_of ty n) ≡ Some (said_by t) → CalledRule core ann x name t
   called_of i f n ty is at behind goes said =
       let r = bind_some (last_child x.children) _ i is in
       let o = bind_some (type_of ann r.0) _ i r.2 in
@@ -234,7 +234,7 @@ module _ (core : CoreData) (ann : Ann) (x : Node) (name : ℕ) (t : Note) where
         result = subst (Lower core (Some f.0.result)) (sym (said_ty t (recovered_result f.0.result) n.0 p.1)) (recovered_lower core f.0.result);
       }
 
-  send_inverse : send_says core ann x name (before t) ≡ Some (said_by t) → SendRule core ann x name t
+  pub send_inverse : send_says core ann x name (before t) ≡ Some (said_by t) → SendRule core ann x name t
   send_inverse e =
       let i = bind_some (called core ann x name) _ (said_by t) e in
       let f = bind_some (slice_get core.methods i.0.1) _ (said_by t) i.2 in
@@ -243,7 +243,7 @@ module _ (core : CoreData) (ann : Ann) (x : Node) (name : ℕ) (t : Note) where
       let a = and_parts (is_behaviour f.0.kind) (arguments_go core ann (arguments x.children) f.0.params) p.0 in
       record { by = called_of i.0 f.0 n.0 (Some (0, form.Val)) i.1 f.1 n.1 a.1 p.1; kind = behaviour_is f.0.kind a.0; ty = said_ty t (Some (0, form.Val)) n.0 p.1 }
 
-  builtin_inverse : builtin_says core ann x name (before t) ≡ Some (said_by t) → TextRule core ann x name t
+  pub builtin_inverse : builtin_says core ann x name (before t) ≡ Some (said_by t) → TextRule core ann x name t
   builtin_inverse e =
       let c = bind_some (one_child x.children) _ (said_by t) e in
       let v = bind_some (type_of ann c.0) _ (said_by t) c.2 in
@@ -268,7 +268,7 @@ module _ (core : CoreData) (ann : Ann) (x : Node) (name : ℕ) (t : Note) where
 -- ---- from the note
 
 module _ (core : CoreData) (ann : Ann) (x : Node) (t : Note) (meets : Meets core ann x t) where
-  at_kind : (k : NodeKind) → x.kind ≡ k → says core ann x (before t) t.rule k ≡ Some (said_by t)
+  pub at_kind : (k : NodeKind) → x.kind ≡ k → says core ann x (before t) t.rule k ≡ Some (said_by t)
   at_kind k is = subst (λ (j : NodeKind). says core ann x (before t) t.rule j ≡ Some (said_by t)) is meets
 
   pub new_of : (k : ℕ) → x.kind ≡ nodes.New k → MakesRule core ann x k t result_of

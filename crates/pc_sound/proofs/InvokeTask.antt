@@ -48,15 +48,15 @@ use Rattle.pc_sound.proofs.Popped.{Popped, popped_is, take_arguments, arguments_
 use Rattle.pc_sound.proofs.Callers.{left_within, counts, actor_of_be, not_print, waits_ok}
 use Rattle.pc_sound.proofs.Steps.{Keeps}
 
-invokes_is : (k : NodeKind) → invokes k ≡ true → (name : ℕ) × (k ≡ nodes.Call name)
+pub invokes_is : (k : NodeKind) → invokes k ≡ true → (name : ℕ) × (k ≡ nodes.Call name)
 invokes_is (nodes.Call name) e = (name, refl)
 invokes_is k e = absurd (false_true e)
 
-no_behaviour : method.Fun ≢ method.Be
+pub no_behaviour : method.Fun ≢ method.Be
 no_behaviour e = cc
 
 -- An entity without methods has none of this name.
-no_method : (core : CoreData) (d name : ℕ) (x : EntityDef) → slice_get core.entities d ≡ Some x → x.methods ≡ 0 → (o : Option ℕ) → method_named core d name ≡ o → o ≡ None
+pub no_method : (core : CoreData) (d name : ℕ) (x : EntityDef) → slice_get core.entities d ≡ Some x → x.methods ≡ 0 → (o : Option ℕ) → method_named core d name ≡ o → o ≡ None
 no_method core d name x at empty None e = refl
 no_method core d name x at empty (Some k) e =
     let a = bind_some (slice_get core.entities d) (λ (z : EntityDef). place_of method_name name (own_methods core z) z.first_method) k e in
@@ -66,27 +66,27 @@ no_method core d name x at empty (Some k) e =
     absurd (omega (arith, l, few))
 
 -- An actor's object is the first of its maker, which is one of the actors.
-actor_place : (core : CoreData) (objects : ObjectMap) (count : ℕ) (a : Address) (d : ℕ) (x : EntityDef) → ObjectsOk core objects count → class_at objects a ≡ Some d → slice_get core.entities d ≡ Some x → x.kind ≡ kind.Actor → (a.maker < count) × (a.serial ≡ 0)
+pub actor_place : (core : CoreData) (objects : ObjectMap) (count : ℕ) (a : Address) (d : ℕ) (x : EntityDef) → ObjectsOk core objects count → class_at objects a ≡ Some d → slice_get core.entities d ≡ Some x → x.kind ≡ kind.Actor → (a.maker < count) × (a.serial ≡ 0)
 actor_place core objects count a d x ok class at actor =
     let o = object_of objects a d class in
     let place = (ok.each a o.0 o.1).1 in
     (place.maker, place.first x (ap (slice_get core.entities) o.2 ∙ at) actor)
 
 -- The receiver and the arguments of a call, and the method that the receiver's own entity has of the name.
-record Received (core : CoreData) (objects : ObjectMap) (own : Value) (below : List Want) (vs : List Value) (count name : ℕ) (ty : Ty) (by : Method) : Type 0 where
-  this : Value
-  under : List Value
-  is : vs ≡ this ∷ under
-  typed : OfType core objects ty this
-  popped : Popped core objects own below under count by.params
-  found : Declared core typed.entity name by
-  fit : ArgumentsOk core objects popped.values found.own.params
+pub record Received (core : CoreData) (objects : ObjectMap) (own : Value) (below : List Want) (vs : List Value) (count name : ℕ) (ty : Ty) (by : Method) : Type 0 where
+  pub this : Value
+  pub under : List Value
+  pub is : vs ≡ this ∷ under
+  pub typed : OfType core objects ty this
+  pub popped : Popped core objects own below under count by.params
+  pub found : Declared core typed.entity name by
+  pub fit : ArgumentsOk core objects popped.values found.own.params
 
 module _ (core : CoreData) (ann : Ann) (needs : Needs core ann) (around : Around) (f : Frame) (fs : List Frame) (r : Runs core ann around f fs) (n : ℕ) (e : FinishOk core ann f.method r.held.live r.held.set r.held.wants invokes n (λ l s g. TasksOk core ann f.method f.tasks l s g)) (name : ℕ) (is_call : e.node.kind ≡ nodes.Call name) where
   not_this : is_this e.node.kind ≡ true → ⊥
   not_this t = false_true (sym (ap is_this is_call) ∙ t)
 
-  received : (by : CalledRule core ann e.node name e.note) → Received core around.objects r.held.this e.below f.stack (length e.node.children - 1) name by.receiver by.own
+  pub received : (by : CalledRule core ann e.node name e.note) → Received core around.objects r.held.this e.below f.stack (length e.node.children - 1) name by.receiver by.own
   received by =
       let h : ObjectMap = around.objects in
       let cs : List ℕ = arguments e.node.children in
@@ -139,7 +139,7 @@ module _ (core : CoreData) (ann : Ann) (needs : Needs core ann) (around : Around
 
   -- ---- a behaviour
 
-  none_typed : OfType core around.objects (0, form.Val) none
+  pub none_typed : OfType core around.objects (0, form.Val) none
   none_typed = record { entity = 0; is_entity = refl; below = inl refl; kind = inl refl; finished = λ s. tt }
 
   send_ok : SendRule core ann e.node name e.note → MoveOk core ann around fs (invoke_task core around f e.node.children (nodes.Call name))
@@ -170,7 +170,7 @@ module _ (core : CoreData) (ann : Ann) (needs : Needs core ann) (around : Around
 
   -- ---- a text
 
-  text_typed : (s : List ℕ) → OfType core around.objects (3, form.Val) (Text s)
+  pub text_typed : (s : List ℕ) → OfType core around.objects (3, form.Val) (Text s)
   text_typed s = record { entity = 3; is_entity = refl; below = inl refl; kind = tt; finished = λ s. tt }
 
   text_ok : TextRule core ann e.node name e.note → MoveOk core ann around fs (invoke_task core around f e.node.children (nodes.Call name))

@@ -74,7 +74,7 @@ module _ (core : CoreData) (formed : Formed core) where
   -- ---- the slots of a method
 
   -- The first method has no nodes.
-  not_first : (n : ℕ) (x : Node) → slice_get core.nodes n ≡ Some x → x.method ≢ 0
+  pub not_first : (n : ℕ) (x : Node) → slice_get core.nodes n ≡ Some x → x.method ≢ 0
   not_first n x at none =
       let h = home_of n x at in
       let number : h.number ≡ 0 = sym (home_method core n x h at) ∙ none in
@@ -87,12 +87,12 @@ module _ (core : CoreData) (formed : Formed core) where
   own_slot : (i : ℕ) (f : Method) (y : Slot) → slice_get (own_slots core f) i ≡ Some y → (f.first_slot + i < f.first_slot + f.slots) × (slice_get core.slots (f.first_slot + i) ≡ Some y)
   own_slot i f y e = get_range core.slots f.first_slot (f.first_slot + f.slots) i y e
 
-  first_own : (m : ℕ) (f : Method) → slice_get core.methods m ≡ Some f → m ≢ 0 → slice_get core.slots (f.first_slot + 0) ≡ Some (this_slot m f)
+  pub first_own : (m : ℕ) (f : Method) → slice_get core.methods m ≡ Some f → m ≢ 0 → slice_get core.slots (f.first_slot + 0) ≡ Some (this_slot m f)
   first_own m f at other =
       let fit = slots_fit m f at other in
       (own_slot 0 f (this_slot m f) (ap (λ (ys : List Slot). slice_get ys 0) fit.1)).1
 
-  param_own : (m i : ℕ) (f : Method) (p : ParamInfo) → slice_get core.methods m ≡ Some f → m ≢ 0 → slice_get f.params i ≡ Some p → slice_get core.slots (f.first_slot + suc i) ≡ Some (param_slot m p)
+  pub param_own : (m i : ℕ) (f : Method) (p : ParamInfo) → slice_get core.methods m ≡ Some f → m ≢ 0 → slice_get f.params i ≡ Some p → slice_get core.slots (f.first_slot + suc i) ≡ Some (param_slot m p)
   param_own m i f p at other e =
       let fit = slots_fit m f at other in
       (own_slot (suc i) f (param_slot m p) (ap (λ (ys : List Slot). slice_get ys (suc i)) fit.1 ∙ get_front (map (param_slot m) f.params) fit.0 i (param_slot m p) (get_map (param_slot m) f.params i p e))).1

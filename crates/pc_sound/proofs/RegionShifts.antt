@@ -46,7 +46,8 @@ shifts_both w v u objects count i b gone more x y = record {
   fits = λ p f z none k. let parts = neither (gone p) (more p) none in y.fits p f z parts.1 (x.fits p f z parts.0 k);
   sent = λ j. y.sent j ∙ x.sent j;
   top = λ j n. y.top j n ∙ x.top j n;
-  context = λ j l n. y.context j l n ∙ x.context j l n;
+  context = λ l n. y.context l n ∙ x.context l n;
+  contexts = λ j l there n t. y.contexts j l there n (subst (λ (k : ℕ). l ≤ k) (sym (x.top j n)) t) ∙ x.contexts j l there n t;
   opened = λ j l n e. y.opened j l n (x.opened j l n e);
   alias = λ j c f z there n a.
       subst (λ (k : ℕ). Alias u j c k f z) (x.top j n) (y.alias j c f z there n (subst (λ (k : ℕ). Alias v j c k f z) (sym (x.top j n)) (x.alias j c f z there n a)));

@@ -106,6 +106,7 @@ no_holder (suc (suc (suc n))) p e = cc
 
 world_first : (objects : ObjectMap) → WorldOk first_world objects 2
 world_first objects = record {
+  zero = refl;
   named = λ i j l t. named_first i j l t;
   roles = λ q i j e. roles_first q i j e;
   root = λ i l. root_first i l;

@@ -8,5 +8,9 @@ pub mod RegionTasks
 pub mod RegionFrames
 pub mod RegionMoves
 pub mod RegionPlaces
+pub mod RegionClimb
+pub mod RegionScope
 pub mod RegionLaws
 pub mod Laws
+pub mod RegionSettle
+pub mod RegionContexts

@@ -29,7 +29,7 @@ merged w q r = record {
   region = λ a. renamed q r (w.region a);
   stands = λ x. child_renamed q r (stand w.stands q Unused x);
   role = w.role;
-  context = w.context;
+  context = λ i l. renamed q r (w.context i l);
   top = w.top;
   sent = w.sent;
   next = w.next;
@@ -102,7 +102,8 @@ pub record Shifts (w w' : World) (objects : ObjectMap) (count i b : ℕ) (gone :
   pub fits : (p : Place) (f : Form) (v : Value) → gone p ≡ false → Fits w p f v → Fits w' p f v
   pub sent : (j : ℕ) → w'.sent j ≡ w.sent j
   pub top : (j : ℕ) → i ≢ j → w'.top j ≡ w.top j
-  pub context : (j l : ℕ) → (i ≢ j) ⊎ (l ≤ b) → w'.context j l ≡ w.context j l
+  pub context : (l : ℕ) → l ≤ b → w'.context i l ≡ w.context i l
+  pub contexts : (j l : ℕ) → j < count → i ≢ j → l ≤ w.top j → w'.context j l ≡ w.context j l
   pub opened : (j l : ℕ) → (i ≢ j) ⊎ (l ≤ b) → w.stands (w.context j l) ≡ Opened j → w'.stands (w'.context j l) ≡ Opened j
   pub alias : (j c : ℕ) (f : Form) (v : Value) → j < count → i ≢ j → Alias w j c (w.top j) f v → Alias w' j c (w.top j) f v
   pub over : (j m l : ℕ) → j < count → i ≢ j → Over w j (w.context j m) l → Over w' j (w'.context j m) l

@@ -101,6 +101,16 @@ abbrev pub piled : Ann → ℕ → List ℕ → List Entry → List Entry
 piled ann d [] below = below
 piled ann d (c ∷ cs) below = piled ann d cs (record { ty = type_of ann c; depth = d } ∷ below)
 
+-- ---- tasks that use what was pushed last
+
+-- A field is read or written, a method is called, or the method ends: the top is the origin, the receiver or the result.
+abbrev pub uses_top : List Task → Bool
+uses_top (task.Get n ∷ ts) = true
+uses_top (task.Put n ∷ ts) = true
+uses_top (task.Invoke n ∷ ts) = true
+uses_top (task.Return ∷ ts) = true
+uses_top ts = false
+
 -- ---- each task, at depth d
 
 pub record EvalRises (core : CoreData) (ann : Ann) (m d : ℕ) (l : Mask) (below : List Entry) (n : ℕ) (go : ℕ → Mask → List Entry → Type 0) : Type 0 where
@@ -109,6 +119,7 @@ pub record EvalRises (core : CoreData) (ann : Ann) (m d : ℕ) (l : Mask) (below
   pub note : Note
   pub is_note : slice_get ann.notes n ≡ Some note
   pub own : node.method ≡ m
+  pub inner : node.kind ≡ nodes.Body → ⊥
   pub depth : node.depth ≡ d
   pub live : Within note.live_before l
   pub follows : Rises core m note.live_after (entry_of node note) below go
@@ -146,6 +157,7 @@ pub record TestRises (core : CoreData) (ann : Ann) (m d : ℕ) (l : Mask) (g : L
   pub kind : is_lazy node.kind ≡ true
   pub note : Note
   pub is_note : slice_get ann.notes n ≡ Some note
+  pub ty : note.ty ≡ Some (2, form.Val)
   pub depth : node.depth ≡ d
   pub left : ℕ
   pub right : ℕ
@@ -170,7 +182,9 @@ pub record BranchRises (core : CoreData) (ann : Ann) (m d : ℕ) (l : Mask) (g :
   pub one : EvalRises core ann m d l below then_branch go
   pub other : EvalRises core ann m d l below else_branch go
 
-pub record DiscardRises (g : List Entry) (go : List Entry → Type 0) : Type 0 where
+-- What follows, which uses what was pushed last or not, does not.
+pub record DiscardRises (g : List Entry) (uses : Bool) (go : List Entry → Type 0) : Type 0 where
+  pub calm : uses ≡ false
   pub top : Entry
   pub below : List Entry
   pub stack : g ≡ top ∷ below
@@ -181,6 +195,7 @@ pub record LoopRises (core : CoreData) (ann : Ann) (m d : ℕ) (l : Mask) (g : L
   pub is_node : slice_get core.nodes n ≡ Some node
   pub note : Note
   pub is_note : slice_get ann.notes n ≡ Some note
+  pub ty : note.ty ≡ Some (0, form.Val)
   pub depth : node.depth ≡ d
   pub condition : ℕ
   pub body : ℕ
@@ -190,7 +205,7 @@ pub record LoopRises (core : CoreData) (ann : Ann) (m d : ℕ) (l : Mask) (g : L
   pub stack : g ≡ top ∷ below
   pub live : Within note.live_after l
   pub ended : Rises core m note.live_after (entry_of node note) below go
-  pub turn : EvalRises core ann m d l below body (λ d' l' g'. DiscardRises g' (λ g''. EvalRises core ann m d' l' g'' n go ⊎ BodyRises core ann m d' l' g'' n))
+  pub turn : EvalRises core ann m d l below body (λ d' l' g'. DiscardRises g' false (λ g''. EvalRises core ann m d' l' g'' n go ⊎ BodyRises core ann m d' l' g'' n))
 
 -- The method ends. A function's result is what its sequence gave, and that is all that is on the stack.
 pub record ReturnRises (core : CoreData) (m d : ℕ) (g : List Entry) : Type 0 where
@@ -214,15 +229,5 @@ TasksRise core ann m (task.Apply n ∷ ts) d l g = FinishRises core ann m d l g 
 TasksRise core ann m (task.Test n ∷ ts) d l g = TestRises core ann m d l g n (λ d' l' g'. TasksRise core ann m ts d' l' g')
 TasksRise core ann m (task.Branch n ∷ ts) d l g = BranchRises core ann m d l g n (λ d' l' g'. TasksRise core ann m ts d' l' g')
 TasksRise core ann m (task.Loop n ∷ ts) d l g = LoopRises core ann m d l g n (λ d' l' g'. TasksRise core ann m ts d' l' g')
-TasksRise core ann m (task.Discard ∷ ts) d l g = DiscardRises g (λ g'. TasksRise core ann m ts d l g')
+TasksRise core ann m (task.Discard ∷ ts) d l g = DiscardRises g (uses_top ts) (λ g'. TasksRise core ann m ts d l g')
 TasksRise core ann m (task.Return ∷ ts) d l g = ReturnRises core m d g
-
--- ---- tasks that use what was pushed last
-
--- A field is read or written, a method is called, or the method ends: the top is the origin, the receiver or the result.
-abbrev pub uses_top : List Task → Bool
-uses_top (task.Get n ∷ ts) = true
-uses_top (task.Put n ∷ ts) = true
-uses_top (task.Invoke n ∷ ts) = true
-uses_top (task.Return ∷ ts) = true
-uses_top ts = false

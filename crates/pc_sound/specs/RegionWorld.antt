@@ -132,6 +132,7 @@ AliasSome w i b k (Some t) v = Alias w i b k t.1 v
 -- A world fits so many objects and actors: the contexts and the roles say the same, the first context of an actor is open and has
 -- its object, and each other one is open, or is lent: then what is over it is at a lower level. What is in use is below `next`.
 pub record WorldOk (w : World) (objects : ObjectMap) (count : ℕ) : Type 0 where
+  pub zero : w.role 0 ≡ Some (0, 0)
   pub named : (i j : ℕ) → i < count → j ≤ w.top i → w.role (w.context i j) ≡ Some (i, j)
   pub roles : (q i j : ℕ) → w.role q ≡ Some (i, j) → (i < count) × (j ≤ w.top i) × (w.context i j ≡ q)
   pub root : (i : ℕ) → i < count → w.stands (w.context i 0) ≡ Opened i
