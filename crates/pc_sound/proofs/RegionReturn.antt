@@ -1,9 +1,11 @@
 -- A method ends, in regions: what it leaves goes to the frame that waits for it, and up from there.
-use Rattle.std.specs.Prelude.{◌≡◌, ◌≢◌, ◌⊎◌, ℕ, suc, ◌+◌, ◌<◌, ◌≤◌, Bool, true, false, ◌&&◌, ◌||◌, List, [], ◌∷◌, length, Option, Some, None, nat_eq, nat_lt, slice_get, refl}
+use Rattle.std.specs.Prelude.{◌≡◌, ◌≢◌, ◌⊎◌, ℕ, suc, ◌+◌, ◌-◌, ◌<◌, ◌≤◌, Bool, true, false, ◌&&◌, ◌||◌, List, [], ◌∷◌, length, Option, Some, None, nat_eq, nat_lt, slice_get, refl}
 use Rattle.std.proofs.Common.{inl, inr, ap, sym, subst, ◌∙◌, arith}
 use Rattle.std.proofs.lemmas.Bool.{eq-eqb, ne_eqb, le-ltb, and_from, and_right, and_parts, or_left, or_right, or_from}
 use Rattle.pc_heap.specs.Objects.{ObjectMap}
 use Rattle.pc_heap.specs.declared.value.Value.{Value}
+use Rattle.pc_heap.specs.declared.value.Value.TheVariants.{Num, Truth, Text, Prim, At}
+use Rattle.pc_caps.specs.Order.{is_below}
 use Rattle.pc_caps.specs.Tables.{sendable_form}
 use Rattle.pc_caps.specs.declared.capability.Form.{Form}
 use Rattle.pc_caps.specs.declared.capability.Form.TheVariants as form
@@ -17,14 +19,20 @@ use Rattle.pc_semantics.specs.Step.{left}
 use Rattle.pc_rules.specs.Parts.{Ty}
 use Rattle.pc_rules.specs.Threads.{false_true}
 use Rattle.pc_sound.specs.Types.{OfType, OfSome}
-use Rattle.pc_sound.specs.RegionWorld.{Place, InSlot, OnStack, InField, InMail, Opened, World, Fits, FitsSome, Alias, AliasSome, Over, WorldOk}
+use Rattle.pc_sound.specs.RegionWorld.{Place, InSlot, OnStack, InField, InMail, Opened, World, Fits, FitsSome, AliasIn, Alias, AliasSome, Over, WorldOk}
 use Rattle.pc_sound.specs.RegionTasks.{Entry, top_of, TasksRise}
-use Rattle.pc_sound.specs.RegionFrames.{GoesTo, Awaits, WaitFits, FramesFit, FieldsFit}
+use Rattle.pc_sound.specs.RegionFrames.{GoesTo, SendableSome, Awaits, WaitFits, FramesFit, FieldsFit}
 use Rattle.pc_sound.specs.RegionMoves.{elsewhere, Turned, RegionMoveOk, Situated}
 use Rattle.pc_sound.specs.RegionPlaces.{Shifts}
-use Rattle.pc_sound.specs.RegionContexts.{higher}
+use Rattle.pc_sound.specs.RegionContexts.{higher, ended}
 use Rattle.pc_sound.specs.RegionClimb.{ClimbLaw}
-use Rattle.pc_sound.proofs.RegionShifts.{others_kept, fields_kept}
+use Rattle.pc_sound.proofs.Needs.{Needs}
+use Rattle.pc_sound.proofs.Basic.{of_lower}
+use Rattle.pc_sound.proofs.Tables.{below_sees}
+use Rattle.pc_sound.proofs.RegionEnds.{falls}
+use Rattle.pc_sound.proofs.RegionRenewed.{number_here}
+use Rattle.pc_sound.proofs.RegionPasses.{lower_still, near_home, near_sent}
+use Rattle.pc_sound.proofs.RegionShifts.{others_kept, fields_kept, shifts_both}
 use Rattle.pc_sound.proofs.RegionSettle.{shifts_none, shifts_less, settle}
 use Rattle.pc_sound.proofs.RegionRise.{Pushes, rise, others_both, not_here}
 use Rattle.pc_sound.proofs.RegionLower.{top_down, this_low, slots_low, stack_low, wait_low}
@@ -124,3 +132,160 @@ module _ (core : CoreData) (ann : Ann) (around : Around) (f : Frame) (ts : List 
       no_frames : (v : Option Value) → FramesFit core ann w around.actor (left v [])
       no_frames None = zero_top
       no_frames (Some u) = zero_top
+
+-- ---- aliases that come back
+
+calm_alias : (w : World) (i c k : ℕ) (f : Form) (v : Value) → (f ≡ form.Iso → ⊥) → (f ≡ form.Trn → ⊥) → Alias w i c k f v
+calm_alias w i c k form.Iso v n m = absurd (n refl)
+calm_alias w i c k form.Trn v n m = absurd (m refl)
+calm_alias w i c k form.IsoE v n m = free_alias v
+  where
+    free_alias : (v : Value) → Alias w i c k form.IsoE v
+    free_alias (At a) = tt
+    free_alias (Num x) = tt
+    free_alias (Truth x) = tt
+    free_alias (Text x) = tt
+    free_alias (Prim x) = tt
+calm_alias w i c k form.TrnE v n m = free_alias v
+  where
+    free_alias : (v : Value) → Alias w i c k form.TrnE v
+    free_alias (At a) = tt
+    free_alias (Num x) = tt
+    free_alias (Truth x) = tt
+    free_alias (Text x) = tt
+    free_alias (Prim x) = tt
+calm_alias w i c k form.Ref v n m = free_alias v
+  where
+    free_alias : (v : Value) → Alias w i c k form.Ref v
+    free_alias (At a) = tt
+    free_alias (Num x) = tt
+    free_alias (Truth x) = tt
+    free_alias (Text x) = tt
+    free_alias (Prim x) = tt
+calm_alias w i c k form.Val v n m = free_alias v
+  where
+    free_alias : (v : Value) → Alias w i c k form.Val v
+    free_alias (At a) = tt
+    free_alias (Num x) = tt
+    free_alias (Truth x) = tt
+    free_alias (Text x) = tt
+    free_alias (Prim x) = tt
+calm_alias w i c k form.Box v n m = free_alias v
+  where
+    free_alias : (v : Value) → Alias w i c k form.Box v
+    free_alias (At a) = tt
+    free_alias (Num x) = tt
+    free_alias (Truth x) = tt
+    free_alias (Text x) = tt
+    free_alias (Prim x) = tt
+calm_alias w i c k form.Tag v n m = free_alias v
+  where
+    free_alias : (v : Value) → Alias w i c k form.Tag v
+    free_alias (At a) = tt
+    free_alias (Num x) = tt
+    free_alias (Truth x) = tt
+    free_alias (Text x) = tt
+    free_alias (Prim x) = tt
+
+lower_in : (w : World) (i b c k : ℕ) (f : Form) (q : ℕ) → c ≤ b → AliasIn w i b k f q → AliasIn w i c k f q
+lower_in w i b c k form.Iso q low a = let at = a.3 in (a.0, a.1, a.2, omega (arith, at, low), a.4, a.5)
+lower_in w i b c k form.Trn q low a = a
+lower_in w i b c k form.IsoE q low a = tt
+lower_in w i b c k form.TrnE q low a = tt
+lower_in w i b c k form.Ref q low a = tt
+lower_in w i b c k form.Val q low a = tt
+lower_in w i b c k form.Box q low a = tt
+lower_in w i b c k form.Tag q low a = tt
+
+-- An alias that may be used by a frame may be used by one that began lower.
+alias_lower : (w : World) (i b c k : ℕ) (f : Form) (v : Value) → c ≤ b → Alias w i b k f v → Alias w i c k f v
+alias_lower w i b c k f (At a) low e = lower_in w i b c k f (w.region a) low e
+alias_lower w i b c k f (Num x) low e = tt
+alias_lower w i b c k f (Truth x) low e = tt
+alias_lower w i b c k f (Text x) low e = tt
+alias_lower w i b c k f (Prim x) low e = tt
+
+-- What may be sent, from a lent receiver: an `iso` alias comes down, and the rest is no alias that is used.
+sent_alias : (w w' : World) (i b c k m : ℕ) (f : Form) (v : Value) → sendable_form f ≡ true → Alias w i b m f v → (Alias w i b m form.Iso v → Alias w' i c k form.Iso v) → Alias w' i c k f v
+sent_alias w w' i b c k m form.Iso v s a down = down a
+sent_alias w w' i b c k m form.IsoE v s a down = calm_alias w' i c k form.IsoE v (λ e. cc) (λ e. cc)
+sent_alias w w' i b c k m form.Val v s a down = calm_alias w' i c k form.Val v (λ e. cc) (λ e. cc)
+sent_alias w w' i b c k m form.Tag v s a down = calm_alias w' i c k form.Tag v (λ e. cc) (λ e. cc)
+sent_alias w w' i b c k m form.TrnE v s a down = absurd (false_true s)
+sent_alias w w' i b c k m form.Trn v s a down = absurd (false_true s)
+sent_alias w w' i b c k m form.Ref v s a down = absurd (false_true s)
+sent_alias w w' i b c k m form.Box v s a down = absurd (false_true s)
+
+-- ---- a result comes back
+
+module _
+  (core : CoreData) (ann : Ann) (needs : Needs core ann) (climb : ClimbLaw core) (w : World) (objects : ObjectMap) (count i : ℕ) (ok : WorldOk w objects count) (fields : FieldsFit core w objects) (here : i < count)
+  (g : Frame) (gs : List Frame) (b : ℕ) (x : Method) (k : Awaits core ann w i (length gs) b x g) (rest : WaitFits core ann w i k.holds.base g.method gs)
+  (n : ℕ) (top : w.top i ≡ b) (e : Ty) (below : is_below e.1 x.result.1 ≡ true) (v : Value) (typed : OfType core objects x.result v)
+  (fits : Fits w (OnStack i (suc (length gs)) n b) e.1 v) (alias : Alias w i b (w.top i) e.1 v)
+  where
+  abbrev level : ℕ
+  level = k.holds.base + k.call.depth
+
+  abbrev gone : Place → Bool
+  gone = leaving i (suc (length gs)) level
+
+  abbrev there : Place
+  there = OnStack i (length gs) (length g.stack) level
+
+  typed_so : (t : Option Ty) → GoesTo core x.result t → OfSome core objects t v
+  typed_so None goes = tt
+  typed_so (Some t) goes = of_lower core ann needs objects x.result t v (goes.0, below_sees x.result.1 t.1 goes.1) typed
+
+  -- By a frame that began at the level of the node that waits.
+  plain_at : (t : Option Ty) → GoesTo core x.result t → b ≡ level → (u : World) × Shifts w u objects count i level gone × (u.top i ≡ level) × FitsSome u there t v × AliasSome u i k.holds.base level t v
+  plain_at None goes is = (w, shifts_none w objects count i level gone ok, top ∙ is, tt, tt)
+  plain_at (Some t) goes is =
+      let z = settle w objects count ok i here (suc (length gs)) n b (omega (arith, top)) gone (leaving_own i (suc (length gs)) level n b) there e.1 t.1 v (lower_still e.1 x.result.1 t.1 below goes.1) fits
+          (near_home w (OnStack i (suc (length gs)) n b) e.1 t.1 there (ap (w.context i) (sym is))) (refl, omega (arith, top, is)) in
+      let same : w.top i ≡ level = top ∙ is in
+      (
+        z.0,
+        shifts_less w z.0 objects count i (w.top i) level gone gone (omega (arith, same)) (λ p q. q) z.1.shifts,
+        z.1.top i ∙ same,
+        z.1.fits,
+        subst (λ (m : ℕ). Alias z.0 i k.holds.base m t.1 v) same
+        (z.1.fresh k.holds.base (omega (arith, same)) (λ trn. ap (w.context i) (sym same)) (alias_lower w i b k.holds.base (w.top i) e.1 v (omega (arith, is)) alias)),
+      )
+
+  pub plain_back : b ≡ level → (u : World) × Turned core ann w u i count None objects count (left (Some v) (g ∷ gs))
+  plain_back is =
+      let z = plain_at k.call.ty k.result is in
+      comes_back core ann climb w objects count i fields here g gs b x k rest z.0 z.1 z.2 v (typed_so k.call.ty k.result) z.3 z.4
+
+  -- By a frame whose receiver is lent.
+  module _ (is : b ≡ suc level) (l : ℕ) (least : k.holds.base ≤ l) (most : l < b) (held : Over w i (w.context i b) l) where
+    last : w.top i ≡ suc level
+    last = top ∙ is
+
+    top_down_to : (u : World) → u.top i ≡ suc level → (ended u i level).top i ≡ level
+    top_down_to u t = let z = number_here u.top i (u.top i - 1) in let y : u.top i - 1 ≡ level = omega (arith, t) in z ∙ y
+
+    lent_at : (t : Option Ty) → GoesTo core x.result t → SendableSome t → (u : World) × Shifts w u objects count i level gone × (u.top i ≡ level) × FitsSome u there t v × AliasSome u i k.holds.base level t v
+    lent_at None goes s = (ended w i level, (falls w objects count ok i here level last gone (leaving_high i (suc (length gs)) level)).0.shifts, top_down_to w last, tt, tt)
+    lent_at (Some t) goes s =
+        let z = settle w objects count ok i here (suc (length gs)) n b (omega (arith, top)) gone (leaving_own i (suc (length gs)) level n b) there e.1 t.1 v (lower_still e.1 x.result.1 t.1 below goes.1) fits
+            (near_sent w (OnStack i (suc (length gs)) n b) e.1 t.1 there s) (refl, omega (arith, last)) in
+        let first : Shifts w z.0 objects count i level gone = shifts_less w z.0 objects count i (w.top i) level gone gone (omega (arith, last)) (λ p q. q) z.1.shifts in
+        let after = falls z.0 objects count z.1.shifts.world i here level (z.1.top i ∙ last) gone (leaving_high i (suc (length gs)) level) in
+        let over : Over z.0 i (z.0.context i (suc level)) l =
+            subst (λ (q : ℕ). Over z.0 i q l) (ap (w.context i) is ∙ sym (z.1.context i (suc level) here (omega (arith, last)))) (z.1.over i held) in
+        let fresh : Alias z.0 i b (suc level) t.1 v =
+            subst (λ (m : ℕ). Alias z.0 i b m t.1 v) last (z.1.fresh b (omega (arith, top)) (λ trn. absurd (false_true (sym (ap sendable_form trn) ∙ s))) alias) in
+        (
+          ended z.0 i level,
+          shifts_less w (ended z.0 i level) objects count i level level (λ p. gone p || gone p) gone (omega arith) (λ p q. or_from (gone p) (gone p) q q) (shifts_both w z.0 (ended z.0 i level) objects count i level gone gone first after.0.shifts),
+          top_down_to z.0 (z.1.top i ∙ last),
+          after.0.shifts.fits there t.1 v (stays_low i (suc (length gs)) (length gs) level level (omega arith) (omega arith)) z.1.fits,
+          sent_alias z.0 (ended z.0 i level) i b k.holds.base level (suc level) t.1 v s fresh (λ a. after.1 k.holds.base l b v least (omega (arith, most, is)) (omega (arith, is)) over a),
+        )
+
+    pub lent_back : SendableSome k.call.ty → (u : World) × Turned core ann w u i count None objects count (left (Some v) (g ∷ gs))
+    lent_back s =
+        let z = lent_at k.call.ty k.result s in
+        comes_back core ann climb w objects count i fields here g gs b x k rest z.0 z.1 z.2 v (typed_so k.call.ty k.result) z.3 z.4
