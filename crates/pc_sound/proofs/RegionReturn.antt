@@ -6,7 +6,11 @@ use Rattle.pc_heap.specs.Objects.{ObjectMap}
 use Rattle.pc_heap.specs.declared.value.Value.{Value}
 use Rattle.pc_heap.specs.declared.value.Value.TheVariants.{Num, Truth, Text, Prim, At}
 use Rattle.pc_caps.specs.Order.{is_below}
-use Rattle.pc_caps.specs.Tables.{sendable_form}
+use Rattle.pc_caps.specs.Tables.{unalias, sendable_form}
+use Rattle.pc_caps.specs.declared.capability.Cap.{Cap}
+use Rattle.pc_caps.specs.declared.capability.Cap.TheVariants as cap
+use Rattle.pc_heap.specs.declared.value.Address.{Address}
+use Rattle.pc_sub.specs.Declarations.{isolates}
 use Rattle.pc_caps.specs.declared.capability.Form.{Form}
 use Rattle.pc_caps.specs.declared.capability.Form.TheVariants as form
 use Rattle.pc_core.specs.declared.declarations.Method.{Method}
@@ -19,18 +23,20 @@ use Rattle.pc_semantics.specs.Step.{left}
 use Rattle.pc_rules.specs.Parts.{Ty}
 use Rattle.pc_rules.specs.Threads.{false_true}
 use Rattle.pc_sound.specs.Types.{OfType, OfSome}
-use Rattle.pc_sound.specs.RegionWorld.{Place, InSlot, OnStack, InField, InMail, Opened, World, Fits, FitsSome, AliasIn, Alias, AliasSome, Over, WorldOk}
+use Rattle.pc_sound.specs.RegionWorld.{Place, InSlot, OnStack, InField, InMail, Opened, Held, Child, World, Fits, FitsSome, AliasIn, Alias, AliasSome, Over, WorldOk}
 use Rattle.pc_sound.specs.RegionTasks.{Entry, top_of, TasksRise}
 use Rattle.pc_sound.specs.RegionFrames.{GoesTo, SendableSome, Awaits, WaitFits, FramesFit, FieldsFit}
 use Rattle.pc_sound.specs.RegionMoves.{elsewhere, Turned, RegionMoveOk, Situated}
-use Rattle.pc_sound.specs.RegionPlaces.{Shifts}
-use Rattle.pc_sound.specs.RegionContexts.{higher, ended}
+use Rattle.pc_sound.specs.RegionPlaces.{standing, lowered, without_last, Shifts}
+use Rattle.pc_sound.specs.RegionContexts.{higher, ended, Ends}
 use Rattle.pc_sound.specs.RegionClimb.{ClimbLaw}
 use Rattle.pc_sound.proofs.Needs.{Needs}
 use Rattle.pc_sound.proofs.Basic.{of_lower}
 use Rattle.pc_sound.proofs.Tables.{below_sees}
-use Rattle.pc_sound.proofs.RegionEnds.{falls}
-use Rattle.pc_sound.proofs.RegionRenewed.{number_here}
+use Rattle.pc_sound.proofs.RegionEnds.{ends, falls}
+use Rattle.pc_sound.proofs.RegionRenewed.{number_here, role_here}
+use Rattle.pc_sound.proofs.RegionStands.{stand_here}
+use Rattle.pc_sound.proofs.RegionClose.{closed_shifts}
 use Rattle.pc_sound.proofs.RegionPasses.{lower_still, near_home, near_sent}
 use Rattle.pc_sound.proofs.RegionShifts.{others_kept, fields_kept, shifts_both}
 use Rattle.pc_sound.proofs.RegionSettle.{shifts_none, shifts_less, settle}
@@ -289,3 +295,100 @@ module _
     lent_back s =
         let z = lent_at k.call.ty k.result s in
         comes_back core ann climb w objects count i fields here g gs b x k rest z.0 z.1 z.2 v (typed_so k.call.ty k.result) z.3 z.4
+
+-- ---- a new object comes back
+
+new_below : (c : Cap) (f : Form) → f ≡ unalias c → isolates f ≡ false → is_below form.Ref f ≡ true
+new_below cap.Iso f e n = absurd (false_true (sym n ∙ ap isolates e))
+new_below cap.Trn f e n = absurd (false_true (sym n ∙ ap isolates e))
+new_below cap.Val f e n = absurd (false_true (sym n ∙ ap isolates e))
+new_below cap.Ref f e n = ap (is_below form.Ref) e
+new_below cap.Box f e n = ap (is_below form.Ref) e
+new_below cap.Tag f e n = ap (is_below form.Ref) e
+
+-- Where a value is, in the slot of `this`, it is on the stack of the same level too.
+ref_moved : (w : World) (i h n b : ℕ) (v : Value) → Fits w (InSlot i h 0 b) form.Ref v → Fits w (OnStack i h n b) form.Ref v
+ref_moved w i h n b (At a) e = e
+ref_moved w i h n b (Num x) e = tt
+ref_moved w i h n b (Truth x) e = tt
+ref_moved w i h n b (Text x) e = tt
+ref_moved w i h n b (Prim x) e = tt
+
+-- The region of `this` is held at a place.
+held_there : (w : World) (i h b u m : ℕ) (p : Place) (v : Value) → w.context i b ≡ u → Fits w (InSlot i h 0 b) form.Ref v → Fits (standing (without_last w i) u (Held p)) p form.IsoE v
+held_there w i h b u m p (At a) is e = ap (standing (without_last w i) u (Held p)).stands (e ∙ is) ∙ stand_here (without_last w i).stands u (Held p)
+held_there w i h b u m p (Num x) is e = tt
+held_there w i h b u m p (Truth x) is e = tt
+held_there w i h b u m p (Text x) is e = tt
+held_there w i h b u m p (Prim x) is e = tt
+
+module _
+  (core : CoreData) (ann : Ann) (needs : Needs core ann) (climb : ClimbLaw core) (w : World) (objects : ObjectMap) (count i : ℕ) (ok : WorldOk w objects count) (fields : FieldsFit core w objects) (here : i < count)
+  (g : Frame) (gs : List Frame) (b : ℕ) (x : Method) (k : Awaits core ann w i (length gs) b x g) (rest : WaitFits core ann w i k.holds.base g.method gs)
+  (top : w.top i ≡ b) (v : Value) (typed : OfType core objects x.result v) (fits : Fits w (InSlot i (suc (length gs)) 0 b) form.Ref v)
+  (is : b ≡ suc (k.holds.base + k.call.depth)) (ajar : w.stands (w.context i b) ≡ Opened i)
+  where
+  abbrev floor : ℕ
+  floor = k.holds.base + k.call.depth
+
+  abbrev far : Place → Bool
+  far = leaving i (suc (length gs)) floor
+
+  abbrev goal : Place
+  goal = OnStack i (length gs) (length g.stack) floor
+
+  abbrev own_place : Place
+  own_place = OnStack i (suc (length gs)) 0 floor
+
+  abbrev ended_world : World
+  ended_world = without_last w i
+
+  abbrev closed_world : World
+  closed_world = standing ended_world (w.context i b) (Held own_place)
+
+  over_end : Ends w ended_world objects count i floor far
+  over_end = ends w objects count ok i here floor (top ∙ is) far
+
+  top_now : ended_world.top i ≡ floor
+  top_now = let z = number_here w.top i (w.top i - 1) in let y : w.top i - 1 ≡ floor = omega (arith, top, is) in z ∙ y
+
+  bare : ended_world.role (w.context i b) ≡ None
+  bare = role_here w.role (w.context i (w.top i)) None (w.context i b) (ap (w.context i) top)
+
+  no_parent : (u : ℕ) (at : Option Place) → Held own_place ≡ Child u at → ⊥
+  no_parent u at e = cc
+
+  no_holder : (a : Address) (n : ℕ) → Held own_place ≡ Held (InField a n) → ⊥
+  no_holder a n e = cc
+
+  closes : Shifts ended_world closed_world objects count i floor far
+  closes =
+      closed_shifts ended_world objects count over_end.shifts.world i here (w.context i b) (Held own_place) (ap (lowered i (w.top i - 1)) ajar) bare (λ u at e. absurd (no_parent u at e)) (λ a n e. absurd (no_holder a n e)) floor far (omega (arith, top_now))
+
+  both : Shifts w closed_world objects count i floor far
+  both = shifts_less w closed_world objects count i floor floor (λ p. far p || far p) far (omega arith) (λ p q. or_from (far p) (far p) q q) (shifts_both w ended_world closed_world objects count i floor far far over_end.shifts closes)
+
+  typed_as : (t : Option Ty) → GoesTo core x.result t → OfSome core objects t v
+  typed_as None goes = tt
+  typed_as (Some t) goes = of_lower core ann needs objects x.result t v (goes.0, below_sees x.result.1 t.1 goes.1) typed
+
+  new_at : (t : Option Ty) → (u : World) × Shifts w u objects count i floor far × (u.top i ≡ floor) × FitsSome u goal t v × AliasSome u i k.holds.base floor t v
+  new_at None = (closed_world, both, top_now, tt, tt)
+  new_at (Some t) =
+      let held = held_there w i (suc (length gs)) b (w.context i b) 0 own_place v refl fits in
+      let z = settle closed_world objects count closes.world i here (suc (length gs)) 0 floor (omega (arith, top_now)) far (leaving_own i (suc (length gs)) floor 0 floor) goal form.IsoE t.1 v refl held
+          (near_home closed_world own_place form.IsoE t.1 goal refl) (refl, omega (arith, top_now)) in
+      (
+        z.0,
+        shifts_less w z.0 objects count i floor floor (λ p. far p || far p) far (omega arith) (λ p q. or_from (far p) (far p) q q)
+        (shifts_both w closed_world z.0 objects count i floor far far both (shifts_less closed_world z.0 objects count i (closed_world.top i) floor far far (omega (arith, top_now)) (λ p q. q) z.1.shifts)),
+        z.1.top i ∙ top_now,
+        z.1.fits,
+        subst (λ (m : ℕ). Alias z.0 i k.holds.base m t.1 v) top_now
+        (z.1.fresh k.holds.base (omega (arith, top_now)) (λ trn. ap (w.context i) (sym top_now)) (calm_alias closed_world i k.holds.base (closed_world.top i) form.IsoE v (λ e. cc) (λ e. cc))),
+      )
+
+  pub new_back : (u : World) × Turned core ann w u i count None objects count (left (Some v) (g ∷ gs))
+  new_back =
+      let z = new_at k.call.ty in
+      comes_back core ann climb w objects count i fields here g gs b x k rest z.0 z.1 z.2 v (typed_as k.call.ty k.result) z.3 z.4
