@@ -14,24 +14,36 @@ use Rattle.pc_sub.specs.Declarations.{isolates}
 use Rattle.pc_caps.specs.declared.capability.Form.{Form}
 use Rattle.pc_caps.specs.declared.capability.Form.TheVariants as form
 use Rattle.pc_core.specs.declared.declarations.Method.{Method}
+use Rattle.pc_core.specs.declared.declarations.MethodKind.{MethodKind}
+use Rattle.pc_core.specs.declared.declarations.MethodKind.TheVariants as method
+use Rattle.pc_core.specs.Methods.{ResultFits}
 use Rattle.pc_core.specs.CoreData.{CoreData}
 use Rattle.pc_ann.specs.declared.annotation.Ann.{Ann}
 use Rattle.pc_semantics.specs.declared.frames.Frame.{Frame}
 use Rattle.pc_semantics.specs.declared.frames.Task.{Task}
-use Rattle.pc_semantics.specs.Around.{Around, Leaves}
+use Rattle.pc_semantics.specs.declared.frames.Task.TheVariants as task
+use Rattle.pc_semantics.specs.Calls.{leave}
+use Rattle.std.proofs.lemmas.Option.{same_Some}
+use Rattle.pc_semantics.specs.Around.{Around, entity_of}
 use Rattle.pc_semantics.specs.Step.{left}
-use Rattle.pc_rules.specs.Parts.{Ty}
+use Rattle.pc_rules.specs.Parts.{Ty, constructs}
 use Rattle.pc_rules.specs.Threads.{false_true}
-use Rattle.pc_sound.specs.Types.{OfType, OfSome}
+use Rattle.pc_sound.specs.Types.{OfKind, OfType, OfSome, StackOk}
+use Rattle.pc_sound.specs.Tasks.{ReturnOk}
+use Rattle.pc_sound.specs.Frames.{leaves}
+use Rattle.pc_sound.specs.Moves.{Runs}
 use Rattle.pc_sound.specs.RegionWorld.{Place, InSlot, OnStack, InField, InMail, Opened, Held, Child, World, Fits, FitsSome, AliasIn, Alias, AliasSome, Over, WorldOk}
 use Rattle.pc_sound.specs.RegionTasks.{Entry, top_of, TasksRise}
-use Rattle.pc_sound.specs.RegionFrames.{GoesTo, SendableSome, Awaits, WaitFits, FramesFit, FieldsFit}
+use Rattle.pc_sound.specs.RegionFrames.{StackFits, TopAlias, Entered, GoesTo, SendableSome, Awaits, WaitFits, FramesFit, FieldsFit}
 use Rattle.pc_sound.specs.RegionMoves.{elsewhere, Turned, RegionMoveOk, Situated}
 use Rattle.pc_sound.specs.RegionPlaces.{standing, lowered, without_last, Shifts}
 use Rattle.pc_sound.specs.RegionContexts.{higher, ended, Ends}
 use Rattle.pc_sound.specs.RegionClimb.{ClimbLaw}
 use Rattle.pc_sound.proofs.Needs.{Needs}
-use Rattle.pc_sound.proofs.Basic.{of_lower}
+use Rattle.pc_sound.proofs.Basic.{of_lower, some_lower}
+use Rattle.pc_sound.proofs.Values.{top_is}
+use Rattle.pc_sound.proofs.ReturnTask.{built}
+use Rattle.pc_sound.proofs.RegionSteps.{KeepsRegions}
 use Rattle.pc_sound.proofs.Tables.{below_sees}
 use Rattle.pc_sound.proofs.RegionEnds.{ends, falls}
 use Rattle.pc_sound.proofs.RegionRenewed.{number_here, role_here}
@@ -392,3 +404,99 @@ module _
   new_back =
       let z = new_at k.call.ty in
       comes_back core ann climb w objects count i fields here g gs b x k rest z.0 z.1 z.2 v (typed_as k.call.ty k.result) z.3 z.4
+
+-- ---- each kind of method
+
+module _
+  (climbs : (core : CoreData) (ann : Ann) → Needs core ann → ClimbLaw core) (core : CoreData) (ann : Ann) (needs : Needs core ann) (around : Around) (f : Frame) (w : World)
+  where
+  -- A frame waits.
+  module _ (g : Frame) (gs : List Frame) (r : Runs core ann around f (g ∷ gs)) (e : ReturnOk core f.method r.held.set r.held.wants) (s : Situated core ann w around f (task.Return ∷ f.tasks) (g ∷ gs)) where
+    abbrev x : Method
+    x = s.wait.0
+
+    is_x : e.own ≡ x
+    is_x = same_Some e.own x (sym e.is_own ∙ s.wait.1)
+
+    base_top : w.top around.actor ≡ s.active.holds.base
+    base_top = let a = s.active.last in let b = s.tasks.outer in omega (arith, a, b)
+
+    -- A function.
+    fun_back : (k : MethodKind) → x.kind ≡ k → k ≡ method.Fun → (v : Value) (n : ℕ) (t : Ty) → is_below t.1 x.result.1 ≡ true → OfType core around.objects x.result v
+        → Fits w (OnStack around.actor (suc (length gs)) n s.active.holds.base) t.1 v → Alias w around.actor s.active.holds.base (w.top around.actor) t.1 v
+        → Entered w around.actor x s.wait.2.call.ty s.wait.2.holds.base (s.wait.2.holds.base + s.wait.2.call.depth) s.active.holds.base k
+        → (u : World) × Turned core ann w u around.actor around.actors None around.objects around.actors (left (Some v) (g ∷ gs))
+    fun_back method.Fun at fun v n t below typed fits alias (inl is) =
+        plain_back core ann needs (climbs core ann needs) w around.objects around.actors around.actor s.world s.fields s.here g gs s.active.holds.base x s.wait.2 s.wait.3 n base_top t below v typed fits alias is
+    fun_back method.Fun at fun v n t below typed fits alias (inr y) =
+        lent_back core ann needs (climbs core ann needs) w around.objects around.actors around.actor s.world s.fields s.here g gs s.active.holds.base x s.wait.2 s.wait.3 n base_top t below v typed fits alias y.0 y.2 y.3 y.4 y.5 y.1
+    fun_back method.New at fun v n t below typed fits alias en = absurd (cc)
+    fun_back method.Be at fun v n t below typed fits alias en = absurd (cc)
+    fun_back method.Spawn at fun v n t below typed fits alias en = absurd (cc)
+
+    -- A class's constructor.
+    object_back : x.kind ≡ method.New → (v : Value) → OfType core around.objects x.result v → Fits w (InSlot around.actor (suc (length gs)) 0 s.active.holds.base) form.Ref v → ((c : Cap) × (x.result.1 ≡ unalias c))
+        → Entered w around.actor x s.wait.2.call.ty s.wait.2.holds.base (s.wait.2.holds.base + s.wait.2.call.depth) s.active.holds.base method.New
+        → (u : World) × Turned core ann w u around.actor around.actors None around.objects around.actors (left (Some v) (g ∷ gs))
+    object_back at v typed fits c (inl y) =
+        plain_back core ann needs (climbs core ann needs) w around.objects around.actors around.actor s.world s.fields s.here g gs s.active.holds.base x s.wait.2 s.wait.3 0 base_top (0, form.Ref) (new_below c.0 x.result.1 c.1 y.0) v typed
+        (ref_moved w around.actor (suc (length gs)) 0 s.active.holds.base v fits) (calm_alias w around.actor s.active.holds.base (w.top around.actor) form.Ref v (λ z. cc) (λ z. cc)) y.1
+    object_back at v typed fits c (inr y) =
+        new_back core ann needs (climbs core ann needs) w around.objects around.actors around.actor s.world s.fields s.here g gs s.active.holds.base x s.wait.2 s.wait.3 base_top v typed fits y.1 y.2
+
+    never : (k : MethodKind) → e.own.kind ≡ k → leaves k ≡ false → ⊥
+    never k is none = false_true (sym none ∙ ap leaves (sym is) ∙ ap (λ (z : Method). leaves z.kind) (same_Some e.own r.wait.0 (sym e.is_own ∙ r.wait.1)) ∙ r.wait.2)
+
+    base_zero : (n : ℕ) → n + 0 ≡ n
+    base_zero n = omega arith
+
+    leave_in : (k : MethodKind) → e.own.kind ≡ k → RegionMoveOk core ann w around (g ∷ gs) (leave f k)
+    leave_in method.Fun is =
+        let v = e.result is in
+        let top = top_is core around.objects r.held.this v.0 v.1 f.stack (subst (λ q. StackOk core around.objects r.held.this q f.stack) v.2 r.held.stack_ok) in
+        let typed : OfType core around.objects x.result top.top = subst (λ (z : Method). OfType core around.objects z.result top.top) is_x (some_lower core ann needs around.objects v.0.ty (Some e.own.result) top.top v.3 top.answers.0) in
+        let same : s.tasks.own ≡ x = same_Some s.tasks.own x (sym s.tasks.is_own ∙ s.wait.1) in
+        let kind : x.kind ≡ method.Fun = ap (λ (z : Method). z.kind) (sym is_x) ∙ is in
+        let res = s.tasks.result (ap (λ (z : Method). z.kind) same ∙ kind) in
+        let es : List Entry = record { ty = Some res.0; depth = 0 } ∷ [] in
+        let stack : StackFits w around.actor (suc (length gs)) s.active.holds.base es (top.top ∷ top.below) =
+            subst (StackFits w around.actor (suc (length gs)) s.active.holds.base es) top.is (subst (λ (q : List Entry). StackFits w around.actor (suc (length gs)) s.active.holds.base q f.stack) res.1 s.active.holds.stack_fit) in
+        let alias : TopAlias w around.actor s.active.holds.base es (top.top ∷ top.below) =
+            subst (TopAlias w around.actor s.active.holds.base es) top.is (subst (λ (q : List Entry). TopAlias w around.actor s.active.holds.base q f.stack) res.1 (s.fresh refl)) in
+        let below : is_below res.0.1 x.result.1 ≡ true = subst (λ (z : Method). is_below res.0.1 z.result.1 ≡ true) same res.2.1 in
+        rw top.is (fun_back x.kind refl kind top.top (length top.below) res.0 below typed
+        (subst (λ (l : ℕ). Fits w (OnStack around.actor (suc (length gs)) (length top.below) l) res.0.1 top.top) (base_zero s.active.holds.base) stack.0) alias s.wait.2.entered)
+    leave_in method.New is =
+        let own : e.own ≡ r.held.own = same_Some e.own r.held.own (sym e.is_own ∙ r.held.is_own) in
+        let fits : ResultFits method.New e.own = subst (λ (k : MethodKind). ResultFits k e.own) is (needs.formed.methods f.method e.own e.is_own).result_fits in
+        let kept = subst (λ (y : Method). (entity_of around.objects r.held.this ≡ Some y.entity) × OfKind core y.entity r.held.this) (sym own) (r.held.this_ok.is_entity, r.held.this_ok.kind) in
+        let typed : OfType core around.objects e.own.result r.held.this = record {
+          entity = e.own.entity;
+          is_entity = kept.0;
+          below = inl (sym fits.1);
+          kind = kept.1;
+          finished = λ z. built core ann needs around f (g ∷ gs) r e (ap constructs is);
+        } in
+        let kind : x.kind ≡ method.New = ap (λ (z : Method). z.kind) (sym is_x) ∙ is in
+        let this : Fits w (InSlot around.actor (suc (length gs)) 0 s.active.holds.base) form.Ref r.held.this =
+            subst (λ (c : Cap). Fits w (InSlot around.actor (suc (length gs)) 0 s.active.holds.base) (unalias c) r.held.this) fits.0 (s.active.holds.this_fits e.own r.held.this e.is_own r.held.is_this) in
+        rw r.held.is_this (object_back kind r.held.this (subst (λ (z : Method). OfType core around.objects z.result r.held.this) is_x typed) this (subst (λ (z : Method). (c : Cap) × (z.result.1 ≡ unalias c)) is_x fits.2)
+        (subst (λ (k : MethodKind). Entered w around.actor x s.wait.2.call.ty s.wait.2.holds.base (s.wait.2.holds.base + s.wait.2.call.depth) s.active.holds.base k) kind s.wait.2.entered))
+    leave_in method.Be is = absurd (never method.Be is refl)
+    leave_in method.Spawn is = absurd (never method.Spawn is refl)
+
+  -- None waits.
+  module _ (r : Runs core ann around f []) (e : ReturnOk core f.method r.held.set r.held.wants) (s : Situated core ann w around f (task.Return ∷ f.tasks) []) where
+    last_in : (k : MethodKind) → e.own.kind ≡ k → RegionMoveOk core ann w around [] (leave f k)
+    last_in method.Fun is =
+        let v = e.result is in
+        let top = top_is core around.objects r.held.this v.0 v.1 f.stack (subst (λ q. StackOk core around.objects r.held.this q f.stack) v.2 r.held.stack_ok) in
+        rw top.is (nothing_waits core ann around f (task.Return ∷ f.tasks) w s (Some top.top) s.tasks.outer)
+    last_in method.New is = rw r.held.is_this (nothing_waits core ann around f (task.Return ∷ f.tasks) w s (Some r.held.this) s.tasks.outer)
+    last_in method.Be is = nothing_waits core ann around f (task.Return ∷ f.tasks) w s None s.tasks.outer
+    last_in method.Spawn is = nothing_waits core ann around f (task.Return ∷ f.tasks) w s None s.tasks.outer
+
+module _ (climbs : (core : CoreData) (ann : Ann) → Needs core ann → ClimbLaw core) where
+  pub return_regions : KeepsRegions task.Return
+  return_regions core ann needs around f [] r e w s = rw e.is_own (last_in climbs core ann needs around f w r e s e.own.kind refl)
+  return_regions core ann needs around f (g ∷ gs) r e w s = rw e.is_own (leave_in climbs core ann needs around f w g gs r e s e.own.kind refl)
