@@ -1,5 +1,5 @@
 -- The task Apply: operators, `not`, `is` and `isnt`.
-use Rattle.std.specs.Prelude.{◌≡◌, ◌⊎◌, ℕ, Bool, true, false, not, ◌&&◌, ◌||◌, cond, List, [], ◌∷◌, ◌++◌, length, Option, Some, None, nat_lt, slice_get, refl}
+use Rattle.std.specs.Prelude.{◌≡◌, ◌⊎◌, ℕ, Bool, true, false, not, ◌&&◌, ◌||◌, cond, List, [], ◌∷◌, ◌++◌, length, Option, Some, None, nat_lt, refl}
 use Rattle.std.proofs.Common.{inl, inr, ap, sym, subst, ◌∙◌}
 use Rattle.std.proofs.lemmas.Option.{same_Some, none-some}
 use Rattle.std.proofs.lemmas.Bool.{and_parts}
@@ -23,20 +23,19 @@ use Rattle.pc_semantics.specs.declared.frames.Task.TheVariants as task
 use Rattle.pc_semantics.specs.Around.{Around, Move, Overflows, Goes, with_stack, pushed, with_top}
 use Rattle.pc_semantics.specs.Operators.{text_limit, gives, of_numbers, of_truths, joined, of_texts, with_number, with_truth, with_text, binary, negated, same_truth, same_value, compared}
 use Rattle.pc_semantics.specs.Choices.{apply_task}
-use Rattle.pc_rules.specs.declared.said.Said.{Said}
 use Rattle.pc_rules.specs.Parts.{Ty, Masks, reads_as, before, through, type_of, one_child, two_types}
 use Rattle.pc_rules.specs.Fields.{is_this}
 use Rattle.pc_rules.specs.Operators.{is_arithmetic, is_comparison, is_equality, is_add, is_xor, both_read_as, comparable, value_says, not_says, identity_says}
 use Rattle.pc_rules.specs.Rules.{says, said_by}
 use Rattle.pc_rules.specs.Threads.{kept, false_true}
-use Rattle.pc_sound.specs.Types.{OfType, OfSome, Answers, StackOk}
-use Rattle.pc_sound.specs.Tasks.{want_of, applies, FinishOk, TasksOk}
+use Rattle.pc_sound.specs.Types.{OfType, OfSome, StackOk}
+use Rattle.pc_sound.specs.Tasks.{applies, FinishOk, TasksOk}
 use Rattle.pc_sound.specs.Moves.{MoveOk, Runs}
 use Rattle.pc_sound.proofs.Needs.{Needs}
 use Rattle.pc_sound.proofs.Values.{is_number, is_truth, is_text}
 use Rattle.pc_sound.proofs.Steps.{Keeps}
 use Rattle.pc_sound.proofs.Inverse.{one_is, TwoTypes, types_are, Says, says_is, read_is}
-use Rattle.pc_sound.proofs.Finish.{TwoTops, one_top, two_tops, done_ok, rule_is, at_this, read_at}
+use Rattle.pc_sound.proofs.Finish.{one_top, two_tops, done_ok, rule_is, at_this, read_at}
 
 -- ---- what operators give
 

@@ -56,6 +56,8 @@ mod RegionClimb
 mod RegionEval
 mod RegionChoices
 mod RegionApply
+mod RegionGet
+mod RegionKeeps
 mod RegionMerge
 mod RegionRules
 mod RegionArguments
@@ -73,3 +75,5 @@ mod RegionContexts
 mod RegionEnds
 mod RegionTakes
 mod RegionReturn
+mod RegionStored
+mod RegionStore

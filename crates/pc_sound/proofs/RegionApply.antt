@@ -1,6 +1,6 @@
 -- The task Apply in regions: what an operator gives is no object's address, and takes the place of the operands.
-use Rattle.std.specs.Prelude.{◌≡◌, ℕ, ◌+◌, Bool, true, false, List, [], ◌∷◌, ◌++◌, length, Option, Some, None, slice_get, refl}
-use Rattle.std.proofs.Common.{inl, ap, sym, subst, ◌∙◌, append_assoc, arith, length-append}
+use Rattle.std.specs.Prelude.{◌≡◌, ℕ, ◌+◌, true, List, [], ◌∷◌, ◌++◌, length, Option, Some, slice_get, refl}
+use Rattle.std.proofs.Common.{ap, sym, subst, ◌∙◌, append_assoc, arith, length-append}
 use Rattle.std.proofs.lemmas.Option.{same_Some}
 use Rattle.pc_heap.specs.declared.value.Value.{Value}
 use Rattle.pc_heap.specs.declared.value.Value.TheVariants.{Num, Truth, Text, Prim, At}
@@ -19,7 +19,7 @@ use Rattle.pc_semantics.specs.Choices.{apply_task}
 use Rattle.pc_rules.specs.Parts.{Ty, Masks, before, through, type_of}
 use Rattle.pc_rules.specs.Threads.{false_true}
 use Rattle.pc_sound.specs.Types.{OfType}
-use Rattle.pc_sound.specs.Tasks.{Within, applies, FinishOk, TasksOk}
+use Rattle.pc_sound.specs.Tasks.{applies, FinishOk, TasksOk}
 use Rattle.pc_sound.specs.Moves.{Runs}
 use Rattle.pc_sound.specs.RegionWorld.{World, Place, Fits, Alias}
 use Rattle.pc_sound.specs.RegionTasks.{Entry, Shallow, Rises, entry_of, piled, FinishRises, TasksRise}

@@ -1,5 +1,5 @@
 -- Children that are evaluated, one after the other, and the forms and depths of what they leave.
-use Rattle.std.specs.Prelude.{◌≡◌, ℕ, zero, suc, true, false, List, [], ◌∷◌, ◌++◌, Option, Some, None, slice_get, refl}
+use Rattle.std.specs.Prelude.{◌≡◌, ℕ, suc, false, List, [], ◌∷◌, ◌++◌, Option, Some, slice_get, refl}
 use Rattle.std.proofs.Common.{inl, ap, sym, subst, ◌∙◌, arith}
 use Rattle.std.proofs.lemmas.Option.{same_Some, none-some}
 use Rattle.pc_core.specs.declared.nodes.Node.{Node}
@@ -17,7 +17,7 @@ use Rattle.pc_sound.specs.Tasks.{Within}
 use Rattle.pc_sound.specs.RegionTasks.{Entry, Shallow, Ascent, Climbs, top_of, SlotsShallow, entry_of, piled, uses_top, EvalRises, TasksRise}
 use Rattle.pc_sound.specs.RegionScope.{LiveShallow}
 use Rattle.pc_sound.proofs.Basic.{within_same, within_trans}
-use Rattle.pc_sound.proofs.EvalChildren.{within_is, First, first_of_them, type_is, last_next}
+use Rattle.pc_sound.proofs.EvalChildren.{within_is, first_of_them, type_is, last_next}
 
 -- Node c is there, in method m at depth d, and is no body.
 abbrev pub IsAt : CoreData → ℕ → ℕ → ℕ → Type 0

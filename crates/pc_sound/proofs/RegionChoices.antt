@@ -1,6 +1,6 @@
 -- Test, Branch, Loop and Discard, in regions.
-use Rattle.std.specs.Prelude.{◌≡◌, ℕ, ◌+◌, Bool, true, false, List, [], ◌∷◌, length, Option, Some, None, slice_get, refl}
-use Rattle.std.proofs.Common.{inl, inr, ap, sym, subst, ◌∙◌}
+use Rattle.std.specs.Prelude.{◌≡◌, ℕ, ◌+◌, Bool, true, false, List, [], ◌∷◌, length, Option, Some, slice_get, refl}
+use Rattle.std.proofs.Common.{inl, ap, sym, subst, ◌∙◌}
 use Rattle.pc_heap.specs.declared.value.Value.{Value}
 use Rattle.pc_heap.specs.declared.value.Value.TheVariants.{Truth, Prim}
 use Rattle.pc_caps.specs.declared.capability.Form.TheVariants as form
@@ -20,16 +20,16 @@ use Rattle.pc_semantics.specs.Choices.{truth, right_side, test_and, test_or, tes
 use Rattle.pc_rules.specs.Parts.{Ty}
 use Rattle.pc_rules.specs.Threads.{false_true}
 use Rattle.pc_sound.specs.Types.{OfType, Want, StackOk}
-use Rattle.pc_sound.specs.Tasks.{Within, TruthOnTop, is_lazy, TestOk, BranchOk, LoopOk, DiscardOk, TasksOk}
+use Rattle.pc_sound.specs.Tasks.{Within, is_lazy}
 use Rattle.pc_sound.specs.Moves.{Runs}
 use Rattle.pc_sound.specs.RegionWorld.{World, OnStack, Fits, Alias}
-use Rattle.pc_sound.specs.RegionTasks.{Entry, Shallow, Rises, entry_of, uses_top, EvalRises, TestRises, BranchRises, LoopRises, DiscardRises, TasksRise}
+use Rattle.pc_sound.specs.RegionTasks.{Entry, Shallow, Rises, entry_of, uses_top, TestRises, BranchRises, LoopRises, DiscardRises, TasksRise}
 use Rattle.pc_sound.specs.RegionFrames.{StackFits}
 use Rattle.pc_sound.specs.RegionMoves.{RegionMoveOk, Situated}
 use Rattle.pc_sound.specs.RegionClimb.{ClimbLaw}
 use Rattle.pc_sound.proofs.Needs.{Needs}
 use Rattle.pc_sound.proofs.Values.{top_is}
-use Rattle.pc_sound.proofs.Choose.{TopTruth, top_truth}
+use Rattle.pc_sound.proofs.Choose.{top_truth}
 use Rattle.pc_sound.proofs.RegionRise.{Pushes, rise, goes_on}
 use Rattle.pc_sound.proofs.RegionChildren.{at_depth}
 use Rattle.pc_sound.proofs.RegionSteps.{KeepsRegions}

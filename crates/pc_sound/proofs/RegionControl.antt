@@ -1,11 +1,10 @@
 -- Eval at nodes that look at what they evaluate, and at those of which all children are evaluated first, in regions.
-use Rattle.std.specs.Prelude.{◌≡◌, ◌⊎◌, ℕ, zero, suc, ◌+◌, ◌<◌, Bool, true, false, ◌&&◌, cond, List, [], ◌∷◌, ◌++◌, length, Option, Some, None, slice_get, refl}
+use Rattle.std.specs.Prelude.{◌≡◌, ◌⊎◌, ℕ, ◌<◌, Bool, true, false, cond, List, [], ◌∷◌, ◌++◌, length, Option, Some, None, slice_get, refl}
 use Rattle.std.proofs.Common.{inl, inr, ap, sym, subst, ◌∙◌, append_assoc, arith}
 use Rattle.std.proofs.lemmas.Option.{same_Some, none-some}
 use Rattle.std.proofs.lemmas.Bool.{and_parts}
 use Rattle.pc_caps.specs.Gets.{get_below}
 use Rattle.pc_caps.specs.Order.{is_below}
-use Rattle.pc_caps.specs.declared.capability.Cap.{Cap}
 use Rattle.pc_caps.specs.declared.capability.Form.{Form}
 use Rattle.pc_caps.specs.declared.capability.Form.TheVariants as form
 use Rattle.pc_core.specs.declared.declarations.Method.{Method}
@@ -22,7 +21,7 @@ use Rattle.pc_ann.specs.declared.annotation.Note.{Note}
 use Rattle.pc_ann.specs.declared.annotation.Ann.{Ann}
 use Rattle.pc_ann.specs.Masks.{meet}
 use Rattle.pc_ann.specs.MaskLaws.{meet_bits, within_bits}
-use Rattle.pc_sub.specs.Sub.{Sub, is_sub}
+use Rattle.pc_sub.specs.Sub.{is_sub}
 use Rattle.pc_sub.specs.Above.{is_sub_iff}
 use Rattle.pc_semantics.specs.declared.frames.Frame.{Frame}
 use Rattle.pc_semantics.specs.declared.frames.Task.{Task}
@@ -30,21 +29,20 @@ use Rattle.pc_semantics.specs.declared.frames.Task.TheVariants as task
 use Rattle.pc_semantics.specs.Around.{Around, Goes, doing}
 use Rattle.pc_semantics.specs.Evaluation.{evaluations, children_first, first_then, items}
 use Rattle.pc_rules.specs.Parts.{Ty, Masks, lower, before, after, through, type_of, last_child}
-use Rattle.pc_rules.specs.Control.{joined_types, joined, gives, result_ok}
+use Rattle.pc_rules.specs.Control.{joined, gives, result_ok}
 use Rattle.pc_rules.specs.Homes.{home, home_body, home_method, children_before}
-use Rattle.pc_rules.specs.Rules.{said_by}
 use Rattle.pc_rules.specs.Threads.{false_true}
 use Rattle.pc_sound.specs.Tasks.{Within, is_lazy}
 use Rattle.pc_sound.specs.RegionWorld.{World}
-use Rattle.pc_sound.specs.RegionTasks.{Entry, Shallow, Below, Ascent, Joins, Decides, Recovers, ascend, MayAscend, top_of, Climbs, SlotsShallow, entry_of, piled, uses_top, EvalRises, BodyRises, FinishRises, TestRises, TasksRise}
+use Rattle.pc_sound.specs.RegionTasks.{Entry, Shallow, Below, Ascent, Joins, Decides, ascend, MayAscend, top_of, Climbs, SlotsShallow, entry_of, piled, uses_top, EvalRises, BodyRises, FinishRises, TasksRise}
 use Rattle.pc_sound.specs.RegionMoves.{RegionMoveOk, Situated}
 use Rattle.pc_sound.specs.RegionScope.{LiveShallow}
-use Rattle.pc_sound.proofs.Needs.{Needs, IsChild}
+use Rattle.pc_sound.proofs.Needs.{Needs}
 use Rattle.pc_sound.proofs.Basic.{within_same, within_trans}
 use Rattle.pc_sound.proofs.Begin.{BodyRule}
 use Rattle.pc_sound.proofs.EvalChildren.{within_is, items_less, First, first_of_them, type_is}
-use Rattle.pc_sound.proofs.Inverse.{Says, LazyRule, IfRule, WhileRule, SeqRule, RecoverRule, read_is, condition_is}
-use Rattle.pc_sound.proofs.RegionRise.{goes_on, evaluates}
+use Rattle.pc_sound.proofs.Inverse.{LazyRule, IfRule, WhileRule, SeqRule, read_is}
+use Rattle.pc_sound.proofs.RegionRise.{evaluates}
 use Rattle.pc_sound.proofs.RegionChildren.{IsAt, at_depth, child_rises, whole_rises, evaluations_rise, items_rise}
 
 -- ---- types

@@ -1,5 +1,5 @@
 -- The task Eval, at each kind of node, in regions.
-use Rattle.std.specs.Prelude.{◌≡◌, ◌⊎◌, ℕ, suc, ◌+◌, ◌-◌, ◌<◌, ◌≤◌, Bool, true, false, ◌&&◌, cond, List, [], ◌∷◌, ◌++◌, length, Option, Some, None, nat_eq, nat_lt, slice_get, refl}
+use Rattle.std.specs.Prelude.{◌≡◌, ℕ, suc, ◌+◌, ◌-◌, ◌<◌, ◌≤◌, Bool, true, false, ◌&&◌, cond, List, [], ◌∷◌, length, Option, Some, None, nat_eq, nat_lt, slice_get, refl}
 use Rattle.std.proofs.Common.{inl, inr, ap, sym, subst, ◌∙◌, arith}
 use Rattle.std.proofs.lemmas.Bool.{eq-eqb, le-ltb, cases_lt}
 use Rattle.std.proofs.lemmas.Option.{same_Some}
@@ -12,21 +12,19 @@ use Rattle.pc_core.specs.declared.nodes.NodeKind.TheVariants as nodes
 use Rattle.pc_core.specs.CoreData.{CoreData}
 use Rattle.pc_core.specs.Words.{◌>>=◌}
 use Rattle.pc_core.specs.Nodes.{HasArity, NamesFit}
-use Rattle.pc_ann.specs.declared.mask.Mask.{Mask}
 use Rattle.pc_ann.specs.declared.annotation.Ann.{Ann}
 use Rattle.pc_semantics.specs.declared.frames.Frame.{Frame}
-use Rattle.pc_semantics.specs.declared.frames.Task.{Task}
 use Rattle.pc_semantics.specs.declared.frames.Task.TheVariants as task
-use Rattle.pc_semantics.specs.Around.{Around, Goes}
+use Rattle.pc_semantics.specs.Around.{Around}
 use Rattle.pc_semantics.specs.Evaluation.{first_then, evaluate, evaluate_node}
-use Rattle.pc_rules.specs.Parts.{Ty, Masks, before, through}
+use Rattle.pc_rules.specs.Parts.{Ty, before, through}
 use Rattle.pc_rules.specs.Rules.{says, said_by}
 use Rattle.pc_rules.specs.OneRule.{body_rule}
 use Rattle.pc_rules.specs.Threads.{Threaded, is_branch, threads, false_true}
-use Rattle.pc_sound.specs.Tasks.{Within, EvalOk, BodyOk, TasksOk, reads, writes, stores, makes, spawns, invokes, applies, is_lazy}
+use Rattle.pc_sound.specs.Tasks.{EvalOk, BodyOk, TasksOk, reads, writes, stores, makes, spawns, invokes, applies, is_lazy}
 use Rattle.pc_sound.specs.Moves.{Runs}
 use Rattle.pc_sound.specs.RegionWorld.{Place, InSlot, OnStack, InField, InMail, World, Opened, FitsSome}
-use Rattle.pc_sound.specs.RegionTasks.{Entry, Shallow, SlotsShallow, Recovers, recovered_type, EvalRises, BodyRises, TasksRise}
+use Rattle.pc_sound.specs.RegionTasks.{Entry, Shallow, Recovers, recovered_type, EvalRises, BodyRises, TasksRise}
 use Rattle.pc_sound.specs.RegionFrames.{ThisFits, SlotsFit, StackFits, OpenedTo}
 use Rattle.pc_sound.specs.RegionMoves.{elsewhere, RegionMoveOk, Situated}
 use Rattle.pc_sound.specs.RegionPlaces.{with_open, Shifts}
@@ -35,7 +33,6 @@ use Rattle.pc_sound.specs.RegionScope.{LiveShallow}
 use Rattle.pc_sound.specs.RegionSettle.{TakeLaw}
 use Rattle.pc_sound.specs.RegionContexts.{higher, OpenLaw}
 use Rattle.pc_sound.proofs.Needs.{Needs}
-use Rattle.pc_sound.proofs.Basic.{within_same}
 use Rattle.pc_sound.proofs.Notes.{meets}
 use Rattle.pc_sound.proofs.Begin.{body_inverse}
 use Rattle.pc_sound.proofs.EvalChildren.{within_is, first_of_them, type_is}

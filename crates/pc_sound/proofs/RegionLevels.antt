@@ -1,8 +1,7 @@
 -- Frames that wait keep what they have to fit where only places of no greater level do: the values of such a frame are at levels up
 -- to that of the node that waits, and the frame above begins at none below.
-use Rattle.std.specs.Prelude.{◌≡◌, ◌⊎◌, ◌≤◌, ℕ, suc, ◌+◌, ◌-◌, ◌<◌, Bool, true, false, ◌&&◌, List, [], ◌∷◌, length, Option, Some, None, nat_eq, nat_lt, slice_get, refl}
-use Rattle.std.proofs.Common.{inl, inr, arith}
-use Rattle.std.proofs.lemmas.Bool.{le-ltb}
+use Rattle.std.specs.Prelude.{◌≡◌, ◌≤◌, ℕ, ◌+◌, ◌<◌, Bool, false, List, [], ◌∷◌, length, Option, Some, None}
+use Rattle.std.proofs.Common.{inr, arith}
 use Rattle.pc_heap.specs.Objects.{ObjectMap}
 use Rattle.pc_heap.specs.declared.value.Value.{Value}
 use Rattle.pc_caps.specs.declared.capability.Form.{Form}
@@ -12,9 +11,9 @@ use Rattle.pc_core.specs.CoreData.{CoreData}
 use Rattle.pc_ann.specs.declared.annotation.Ann.{Ann}
 use Rattle.pc_semantics.specs.declared.frames.Frame.{Frame}
 use Rattle.pc_rules.specs.Parts.{Ty}
-use Rattle.pc_sound.specs.RegionWorld.{Over, World, Place, Opened, InSlot, OnStack, InField, Fits, FitsSome}
+use Rattle.pc_sound.specs.RegionWorld.{Over, World, Place, Opened, InSlot, OnStack, Fits, FitsSome}
 use Rattle.pc_sound.specs.RegionTasks.{Entry, Shallow, Ascent, Joins, Decides, Recovers, ascend, top_of}
-use Rattle.pc_sound.specs.RegionFrames.{StackFits, Holds, Entered, Awaits, WaitFits}
+use Rattle.pc_sound.specs.RegionFrames.{StackFits, Awaits, WaitFits}
 use Rattle.pc_sound.specs.RegionPlaces.{Shifts}
 use Rattle.pc_sound.proofs.RegionBelow.{entered_kept, entered_at}
 use Rattle.pc_sound.proofs.RegionRise.{slot_depth}

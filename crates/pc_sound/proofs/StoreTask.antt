@@ -76,7 +76,7 @@ some_or_none true v = inr (refl, refl)
 some_or_none false v = inl refl
 
 module _ (core : CoreData) (ann : Ann) (x : Node) (t : Note) (behind : Masks) (is_behind : through ann x.children (before t) ≡ Some behind) (s : ℕ) where
-  define_is : define_says core ann x s (before t) ≡ Some (said_by t) → StoreRule core ann x t behind s
+  pub define_is : define_says core ann x s (before t) ≡ Some (said_by t) → StoreRule core ann x t behind s
   define_is e =
       let c = bind_some (one_child x.children) _ (said_by t) e in
       let v = bind_some (type_of ann c.0) _ (said_by t) c.2 in
@@ -98,7 +98,7 @@ module _ (core : CoreData) (ann : Ann) (x : Node) (t : Note) (behind : Masks) (i
         says = subst (λ (m : Masks). Says t None (with_number m.0 s, m.1)) is (says_is t None (with_number n.0.0 s, n.0.1) n.2);
       }
 
-  assign_is : assign_says core ann x s (before t) ≡ Some (said_by t) → StoreRule core ann x t behind s
+  pub assign_is : assign_says core ann x s (before t) ≡ Some (said_by t) → StoreRule core ann x t behind s
   assign_is e =
       let c = bind_some (one_child x.children) _ (said_by t) e in
       let v = bind_some (type_of ann c.0) _ (said_by t) c.2 in
@@ -121,7 +121,7 @@ module _ (core : CoreData) (ann : Ann) (x : Node) (t : Note) (behind : Masks) (i
         says = subst (λ (m : Masks). Says t (old_value s i.0.1 m.0) (with_number m.0 s, m.1)) is (says_is t (old_value s i.0.1 n.0.0) (with_number n.0.0 s, n.0.1) n.2);
       }
 
-  assign_rule : (r : Rule) → says core ann x (before t) r (nodes.Assign s) ≡ Some (said_by t) → StoreRule core ann x t behind s
+  pub assign_rule : (r : Rule) → says core ann x (before t) r (nodes.Assign s) ≡ Some (said_by t) → StoreRule core ann x t behind s
   assign_rule rule.Assign e = assign_is e
   assign_rule r e = absurd (none-some (said_by t) e)
 
@@ -132,13 +132,13 @@ module _ (core : CoreData) (ann : Ann) (needs : Needs core ann) (around : Around
     slot_type : slice_get ann.slots (r.held.own.first_slot + s) ≡ Some q.slot.1
     slot_type = slot_at core ann e.node.method s r.held.own q.slot (own_is core ann needs around f fs r stores n e) q.is_slot
 
-    room : s < length f.slots
+    pub room : s < length f.slots
     room =
         let is : names.1.0 ≡ r.held.own = same_Some names.1.0 r.held.own (sym names.1.1 ∙ own_is core ann needs around f fs r stores n e) in
         subst (λ (k : ℕ). s < k) (sym r.held.room) (subst (λ (x : Method). s < x.slots) is names.1.2)
 
     -- The old value is of the type that the note says.
-    old_ok : OfSome core around.objects q.old (or_none (held (slice_get f.slots s)))
+    pub old_ok : OfSome core around.objects q.old (or_none (held (slice_get f.slots s)))
     old_ok = elim q.is_old [
       | inl none ↦ subst (λ (o : Option Ty). OfSome core around.objects o (or_none (held (slice_get f.slots s)))) (sym none) tt
       | inr there ↦ let y = r.held.slots_ok s names.0 (e.live s there.0) in
