@@ -45,6 +45,7 @@ use Rattle.pc_sound.proofs.Values.{top_is}
 use Rattle.pc_sound.proofs.ReturnTask.{built}
 use Rattle.pc_sound.proofs.RegionSteps.{KeepsRegions}
 use Rattle.pc_sound.proofs.Tables.{below_sees}
+use Rattle.pc_sound.proofs.RegionClimb.{climb, drops}
 use Rattle.pc_sound.proofs.RegionEnds.{ends, falls}
 use Rattle.pc_sound.proofs.RegionRenewed.{number_here, role_here}
 use Rattle.pc_sound.proofs.RegionStands.{stand_here}
@@ -500,3 +501,7 @@ module _ (climbs : (core : CoreData) (ann : Ann) → Needs core ann → ClimbLaw
   pub return_regions : KeepsRegions task.Return
   return_regions core ann needs around f [] r e w s = rw e.is_own (last_in climbs core ann needs around f w r e s e.own.kind refl)
   return_regions core ann needs around f (g ∷ gs) r e w s = rw e.is_own (leave_in climbs core ann needs around f w g gs r e s e.own.kind refl)
+
+-- By the laws that stand.
+pub keeps_return : KeepsRegions task.Return
+keeps_return = return_regions (λ core ann needs. climb core ann needs settle (drops ends))
