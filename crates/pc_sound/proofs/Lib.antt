@@ -69,3 +69,4 @@ mod RegionContexts
 mod RegionEnds
 mod RegionStored
 mod RegionStore
+mod RegionStoreTask
