@@ -33,7 +33,7 @@ use Rattle.pc_sound.specs.RegionPlaces.{Shifts}
 use Rattle.pc_sound.specs.RegionSettle.{Near, SettleLaw, TakeLaw}
 use Rattle.pc_sound.specs.RegionClimb.{ClimbLaw}
 use Rattle.pc_sound.proofs.Needs.{Needs}
-use Rattle.pc_sound.proofs.RegionPasses.{near_home, near_sent, sent_form, wider, the_place, one_later, PassedOne, pass_near}
+use Rattle.pc_sound.proofs.RegionPasses.{near_home, near_sent, sent_form, wider, the_place, one_later, other_place, PassedOne, pass_near}
 use Rattle.pc_sound.proofs.RegionCall.{lower_shift}
 use Rattle.pc_sound.proofs.RegionValue.{no_alias}
 use Rattle.pc_sound.proofs.RegionShifts.{shifts_both}
@@ -108,3 +108,52 @@ module _ (settle : SettleLaw) (take : TakeLaw) (core : CoreData) (climb : ClimbL
       (subst (λ (o : Option Ty). OfSome core around.objects o old) (sym none) tt)
       (subst (λ (o : Option Ty). FitsSome one.world (OnStack i (length fs) (length rest) (s.active.holds.base + s.active.depth)) o old) (sym none) tt)
       (subst (λ (o : Option Ty). AliasSome one.world i s.active.holds.base (s.active.holds.base + s.active.depth) o old) (sym none) tt)
+
+  below_self : (k : Form) → is_below k k ≡ true
+  below_self k = (below_iff k k).1 same
+
+  other_depth : (m : ℕ) → suc m ≢ m
+  other_depth m e = omega (arith, e)
+
+  -- The old value comes to the stack, above the new one, which settles; then it takes its place.
+  pub with_old : (old : Value) → or_none (held (slice_get f.slots z)) ≡ old → (e : ℕ) → g.note.ty ≡ Some (e, unalias y.1.1) → OfSome core around.objects g.note.ty old
+      → Fits w (InSlot around.actor (length fs) z (s.active.holds.base + y.0.depth)) (unalias y.1.1) old → RegionMoveOk core ann w around fs (store z v (with_stack f rest))
+  with_old old is e ty typed was =
+      let i : ℕ = around.actor in
+      let h : ℕ = length fs in
+      let m : ℕ = length rest in
+      let base : ℕ = s.active.holds.base in
+      let lv : ℕ = s.active.holds.base + s.active.depth in
+      let k : Form = unalias y.1.1 in
+      let up = slot_taken take w around.objects around.actors i base s.active.depth s.world s.here is_top s.active.opened h z (suc m) y.0.depth outer old y.1.1 near was in
+      let a : World = up.world in
+      let top_a : a.top i ≡ lv = up.last ∙ is_top in
+      let one = in_slot a up.shifts.world top_a (up.shifts.fits (OnStack i h m lv) form v refl fit) in
+      let b : World = one.world in
+      let top_b : b.top i ≡ lv = one.calm.top i ∙ top_a in
+      let two = pass_near core ann settle around.objects around.actors i h lv lv s.here level_ok b one.calm.shifts.world top_b (suc m) (OnStack i h m lv) k k old (below_self k)
+      (one.calm.shifts.fits (OnStack i h (suc m) lv) k old (other_place i h m (suc m) lv (λ q. other_depth m (sym q))) up.fits)
+      (near_home b (OnStack i h (suc m) lv) k k (OnStack i h m lv) refl) (refl, subst (λ (t : ℕ). lv ≤ t) (sym top_b) level_ok)
+      in
+      let u : World = two.world in
+      let gone = stored_gone i h z m in
+      let xa : Shifts w a around.objects around.actors i base gone = wider w a around.objects around.actors i base (the_slot i h z) gone (λ p q. slot_among i h z m p q) up.shifts in
+      let xb : Shifts a b around.objects around.actors i base gone = wider a b around.objects around.actors i base (the_place i h m) gone (λ p q. place_among i h z m m (omega arith) p q)
+      (lower_shift a b around.objects around.actors i (a.top i) base (the_place i h m) (base_level (a.top i) top_a) one.calm.shifts)
+      in
+      let xu : Shifts b u around.objects around.actors i base gone = wider b u around.objects around.actors i base (the_place i h (suc m)) gone (λ p q. place_among i h z m (suc m) (omega arith) p q)
+      (lower_shift b u around.objects around.actors i (b.top i) base (the_place i h (suc m)) (base_level (b.top i) top_b) two.calm.shifts)
+      in
+      let thrice = λ (p : Place) (q : gone p ≡ false). both_or (gone p || gone p) (gone p) (both_or (gone p) (gone p) q q) q in
+      let x : Shifts w u around.objects around.actors i base gone =
+      wider w u around.objects around.actors i base (λ p. (gone p || gone p) || gone p) gone thrice
+      (shifts_both w b u around.objects around.actors i base (λ p. gone p || gone p) gone (shifts_both w a b around.objects around.actors i base gone gone xa xb) xu)
+      in
+      stored_goes core climb ann needs around f fs r n w s g z low has_room y is_slot left v rest fits_rest u x (two.calm.top i ∙ top_b)
+      (λ j above to.
+          ap u.stands (two.calm.context i j s.here (open_level j (b.top i) top_b to)) ∙ two.calm.opened (b.context i j) i
+          (ap b.stands (one.calm.context i j s.here (open_level j (a.top i) top_a to)) ∙ one.calm.opened (a.context i j) i (up.ajar j above to)))
+      (two.calm.shifts.fits (InSlot i h z (base + y.0.depth)) k v refl one.fits)
+      (subst (λ (c : Value). OfSome core around.objects g.note.ty c) (sym is) typed)
+      (subst (λ (c : Value). FitsSome u (OnStack i h m lv) g.note.ty c) (sym is) (subst (λ (o : Option Ty). FitsSome u (OnStack i h m lv) o old) (sym ty) two.fits))
+      (subst (λ (c : Value). AliasSome u i base lv g.note.ty c) (sym is) (subst (λ (o : Option Ty). AliasSome u i base lv o old) (sym ty) (no_alias u i base lv y.1.1 old)))
