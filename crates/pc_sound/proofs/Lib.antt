@@ -70,3 +70,4 @@ mod RegionEnds
 mod RegionStored
 mod RegionStore
 mod RegionStoreTask
+mod RegionStores
