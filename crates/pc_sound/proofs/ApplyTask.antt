@@ -1,10 +1,10 @@
 -- The task Apply: operators, `not`, `is` and `isnt`.
-use Rattle.std.specs.Prelude.{◌≡◌, ◌⊎◌, ℕ, Bool, true, false, not, ◌&&◌, ◌||◌, cond, List, [], ◌∷◌, ◌++◌, length, Option, Some, None, nat_lt, slice_get, refl}
+use Rattle.std.specs.Prelude.{◌≡◌, ◌⊎◌, ℕ, Bool, true, false, not, ◌&&◌, ◌||◌, cond, List, [], ◌∷◌, ◌++◌, length, Option, Some, None, nat_lt, refl}
 use Rattle.std.proofs.Common.{inl, inr, ap, sym, subst, ◌∙◌}
 use Rattle.std.proofs.lemmas.Option.{same_Some, none-some}
 use Rattle.std.proofs.lemmas.Bool.{and_parts}
 use Rattle.pc_heap.specs.declared.value.Value.{Value}
-use Rattle.pc_heap.specs.declared.value.Value.TheVariants.{Num, Truth, Text}
+use Rattle.pc_heap.specs.declared.value.Value.TheVariants.{Num, Truth, Text, At}
 use Rattle.pc_caps.specs.declared.capability.Form.TheVariants as form
 use Rattle.pc_tree.specs.declared.kinds.Op.{Op}
 use Rattle.pc_tree.specs.declared.kinds.Op.TheVariants as op
@@ -23,20 +23,19 @@ use Rattle.pc_semantics.specs.declared.frames.Task.TheVariants as task
 use Rattle.pc_semantics.specs.Around.{Around, Move, Overflows, Goes, with_stack, pushed, with_top}
 use Rattle.pc_semantics.specs.Operators.{text_limit, gives, of_numbers, of_truths, joined, of_texts, with_number, with_truth, with_text, binary, negated, same_truth, same_value, compared}
 use Rattle.pc_semantics.specs.Choices.{apply_task}
-use Rattle.pc_rules.specs.declared.said.Said.{Said}
 use Rattle.pc_rules.specs.Parts.{Ty, Masks, reads_as, before, through, type_of, one_child, two_types}
 use Rattle.pc_rules.specs.Fields.{is_this}
 use Rattle.pc_rules.specs.Operators.{is_arithmetic, is_comparison, is_equality, is_add, is_xor, both_read_as, comparable, value_says, not_says, identity_says}
 use Rattle.pc_rules.specs.Rules.{says, said_by}
 use Rattle.pc_rules.specs.Threads.{kept, false_true}
-use Rattle.pc_sound.specs.Types.{OfType, OfSome, Answers, StackOk}
-use Rattle.pc_sound.specs.Tasks.{want_of, applies, FinishOk, TasksOk}
+use Rattle.pc_sound.specs.Types.{OfType, OfSome, StackOk}
+use Rattle.pc_sound.specs.Tasks.{applies, FinishOk, TasksOk}
 use Rattle.pc_sound.specs.Moves.{MoveOk, Runs}
 use Rattle.pc_sound.proofs.Needs.{Needs}
 use Rattle.pc_sound.proofs.Values.{is_number, is_truth, is_text}
 use Rattle.pc_sound.proofs.Steps.{Keeps}
 use Rattle.pc_sound.proofs.Inverse.{one_is, TwoTypes, types_are, Says, says_is, read_is}
-use Rattle.pc_sound.proofs.Finish.{TwoTops, one_top, two_tops, by_top, by_tops, done_ok, rule_is, at_this, read_at}
+use Rattle.pc_sound.proofs.Finish.{one_top, two_tops, done_ok, rule_is, at_this, read_at}
 
 -- ---- what operators give
 
@@ -104,22 +103,41 @@ either : (a b : Bool) → (a || b) ≡ true → (a ≡ true) ⊎ (b ≡ true)
 either true b e = inl refl
 either false b e = inr e
 
+-- Not an object's address.
+abbrev pub no_object : Value → Bool
+no_object (At a) = false
+no_object v = true
+
+applies_this : (k : NodeKind) → applies k ≡ true → is_this k ≡ true → ⊥
+applies_this nodes.This a h = false_true a
+applies_this k a h = false_true h
+
 -- ---- the task
 
-module _ (core : CoreData) (ann : Ann) (needs : Needs core ann) (around : Around) (f : Frame) (fs : List Frame) (r : Runs core ann around f fs) (n : ℕ) (e : FinishOk core ann f.method r.held.live r.held.set r.held.wants applies n (λ l s g. TasksOk core ann f.method f.tasks l s g)) where
-  module _ (rest : List Value) (ok : StackOk core around.objects r.held.this e.below rest) (other : is_this e.node.kind ≡ true → ⊥) where
-    number_ok : (k : ℕ) → Says e.note (Some (1, form.Val)) e.behind → MoveOk core ann around fs (Goes (pushed (with_stack f rest) (Num k)))
-    number_ok k s = done_ok core ann needs around f fs r applies n e (Some (1, form.Val)) (Num k) rest s ok (record { entity = 1; is_entity = refl; below = inl refl; kind = tt; finished = λ h. tt }) other
+module _ (core : CoreData) (ann : Ann) (needs : Needs core ann) (around : Around) (f : Frame) (fs : List Frame) (r : Runs core ann around f fs) (n : ℕ) (e : FinishOk core ann f.method r.held.live r.held.set r.held.wants applies n (λ l s g. TasksOk core ann f.method f.tasks l s g))
+  -- what holds where a text is too long, and where what the operands leave below them gets the result, which is no object's address
+  (Holds : Move → Type 0) (long : Holds Overflows)
+  (done : (us rest : List Value) (ty : Ty) (v : Value) → f.stack ≡ us ++ rest → length us ≡ length e.node.children → Says e.note (Some ty) e.behind → StackOk core around.objects r.held.this e.below rest → OfType core around.objects ty v → no_object v ≡ true → Holds (Goes (pushed (with_stack f rest) v))) where
+  -- The move goes by what is on top.
+  top_by : (v : Value) (rest : List Value) (next : Value → Frame → Move) → f.stack ≡ v ∷ rest → Holds (next v (with_stack f rest)) → Holds (with_top f f.stack next)
+  top_by v rest next is k = subst (λ (vs : List Value). Holds (with_top f vs next)) (sym is) k
 
-    truth_ok : (b : Bool) → Says e.note (Some (2, form.Val)) e.behind → MoveOk core ann around fs (Goes (pushed (with_stack f rest) (Truth b)))
-    truth_ok b s = done_ok core ann needs around f fs r applies n e (Some (2, form.Val)) (Truth b) rest s ok (record { entity = 2; is_entity = refl; below = inl refl; kind = tt; finished = λ h. tt }) other
+  tops_by : (v w : Value) (rest : List Value) (next : Value → Value → Frame → Move) → f.stack ≡ w ∷ v ∷ rest → Holds (next w v (with_stack f rest)) → Holds (with_top f f.stack (λ w g. with_top g g.stack (next w)))
+  tops_by v w rest next is k = subst (λ (vs : List Value). Holds (with_top f vs (λ w g. with_top g g.stack (next w)))) (sym is) k
 
-    text_ok : (x : List ℕ) → Says e.note (Some (3, form.Val)) e.behind → MoveOk core ann around fs (Goes (pushed (with_stack f rest) (Text x)))
-    text_ok x s = done_ok core ann needs around f fs r applies n e (Some (3, form.Val)) (Text x) rest s ok (record { entity = 3; is_entity = refl; below = inl refl; kind = tt; finished = λ h. tt }) other
+  module _ (us rest : List Value) (at : f.stack ≡ us ++ rest) (all : length us ≡ length e.node.children) (ok : StackOk core around.objects r.held.this e.below rest) where
+    number_ok : (k : ℕ) → Says e.note (Some (1, form.Val)) e.behind → Holds (Goes (pushed (with_stack f rest) (Num k)))
+    number_ok k s = done us rest (1, form.Val) (Num k) at all s ok (record { entity = 1; is_entity = refl; below = inl refl; kind = tt; finished = λ h. tt }) refl
+
+    truth_ok : (b : Bool) → Says e.note (Some (2, form.Val)) e.behind → Holds (Goes (pushed (with_stack f rest) (Truth b)))
+    truth_ok b s = done us rest (2, form.Val) (Truth b) at all s ok (record { entity = 2; is_entity = refl; below = inl refl; kind = tt; finished = λ h. tt }) refl
+
+    text_ok : (x : List ℕ) → Says e.note (Some (3, form.Val)) e.behind → Holds (Goes (pushed (with_stack f rest) (Text x)))
+    text_ok x s = done us rest (3, form.Val) (Text x) at all s ok (record { entity = 3; is_entity = refl; below = inl refl; kind = tt; finished = λ h. tt }) refl
 
     -- A text that is not too long.
-    long_ok : (b : Bool) (x : List ℕ) → Says e.note (Some (3, form.Val)) e.behind → MoveOk core ann around fs (cond b Overflows (Goes (pushed (with_stack f rest) (Text x))))
-    long_ok true x s = tt
+    long_ok : (b : Bool) (x : List ℕ) → Says e.note (Some (3, form.Val)) e.behind → Holds (cond b Overflows (Goes (pushed (with_stack f rest) (Text x))))
+    long_ok true x s = long
     long_ok false x s = text_ok x s
 
     -- Both values, of a type that is read.
@@ -142,14 +160,14 @@ module _ (core : CoreData) (ann : Ann) (needs : Needs core ann) (around : Around
       is_two : w ≡ Text two
 
     module _ (o : Op) (v w : Value) where
-      by_numbers : (b : Numbers v w) → MoveOk core ann around fs (gives (with_stack f rest) (of_numbers o b.one b.two)) → MoveOk core ann around fs (binary (with_stack f rest) o v w)
-      by_numbers b k = subst (λ (x : Value). MoveOk core ann around fs (binary (with_stack f rest) o x w)) (sym b.is_one) (subst (λ (x : Value). MoveOk core ann around fs (with_number (with_stack f rest) o b.one x)) (sym b.is_two) k)
+      by_numbers : (b : Numbers v w) → Holds (gives (with_stack f rest) (of_numbers o b.one b.two)) → Holds (binary (with_stack f rest) o v w)
+      by_numbers b k = subst (λ (x : Value). Holds (binary (with_stack f rest) o x w)) (sym b.is_one) (subst (λ (x : Value). Holds (with_number (with_stack f rest) o b.one x)) (sym b.is_two) k)
 
-      by_truths : (b : Truths v w) → MoveOk core ann around fs (gives (with_stack f rest) (of_truths o b.one b.two)) → MoveOk core ann around fs (binary (with_stack f rest) o v w)
-      by_truths b k = subst (λ (x : Value). MoveOk core ann around fs (binary (with_stack f rest) o x w)) (sym b.is_one) (subst (λ (x : Value). MoveOk core ann around fs (with_truth (with_stack f rest) o b.one x)) (sym b.is_two) k)
+      by_truths : (b : Truths v w) → Holds (gives (with_stack f rest) (of_truths o b.one b.two)) → Holds (binary (with_stack f rest) o v w)
+      by_truths b k = subst (λ (x : Value). Holds (binary (with_stack f rest) o x w)) (sym b.is_one) (subst (λ (x : Value). Holds (with_truth (with_stack f rest) o b.one x)) (sym b.is_two) k)
 
-      by_texts : (b : Texts v w) → MoveOk core ann around fs (of_texts (with_stack f rest) o b.one b.two) → MoveOk core ann around fs (binary (with_stack f rest) o v w)
-      by_texts b k = subst (λ (x : Value). MoveOk core ann around fs (binary (with_stack f rest) o x w)) (sym b.is_one) (subst (λ (x : Value). MoveOk core ann around fs (with_text (with_stack f rest) o b.one x)) (sym b.is_two) k)
+      by_texts : (b : Texts v w) → Holds (of_texts (with_stack f rest) o b.one b.two) → Holds (binary (with_stack f rest) o v w)
+      by_texts b k = subst (λ (x : Value). Holds (binary (with_stack f rest) o x w)) (sym b.is_one) (subst (λ (x : Value). Holds (with_text (with_stack f rest) o b.one x)) (sym b.is_two) k)
 
       module _ (vs : Ty × Ty) (types : TwoTypes ann e.node.children vs) (gets : OfSome core around.objects (type_of ann types.left) v) (gets_too : OfSome core around.objects (type_of ann types.right) w) where
         numbers : both_read_as 1 vs ≡ true → Numbers v w
@@ -173,48 +191,48 @@ module _ (core : CoreData) (ann : Ann) (needs : Needs core ann) (around : Around
             let b = is_text core ann needs around.objects vs.1.1 w (read_at core ann around types.right vs.1 3 w types.right_type (read_is 3 vs.1 p.1).0 gets_too) in
             record { one = a.0; is_one = a.1; two = b.0; is_two = b.1 }
 
-        arith_ok : is_arithmetic o ≡ true → both_read_as 1 vs ≡ true → Says e.note (Some (1, form.Val)) e.behind → MoveOk core ann around fs (binary (with_stack f rest) o v w)
+        arith_ok : is_arithmetic o ≡ true → both_read_as 1 vs ≡ true → Says e.note (Some (1, form.Val)) e.behind → Holds (binary (with_stack f rest) o v w)
         arith_ok a h s =
             let b = numbers h in
             let g = arithmetic_gives o b.one b.two a in
-            by_numbers b (subst (λ (x : Option Value). MoveOk core ann around fs (gives (with_stack f rest) x)) (sym g.1) (number_ok g.0 s))
+            by_numbers b (subst (λ (x : Option Value). Holds (gives (with_stack f rest) x)) (sym g.1) (number_ok g.0 s))
 
-        compare_ok : is_comparison o ≡ true → both_read_as 1 vs ≡ true → Says e.note (Some (2, form.Val)) e.behind → MoveOk core ann around fs (binary (with_stack f rest) o v w)
+        compare_ok : is_comparison o ≡ true → both_read_as 1 vs ≡ true → Says e.note (Some (2, form.Val)) e.behind → Holds (binary (with_stack f rest) o v w)
         compare_ok a h s =
             let b = numbers h in
             let g = comparison_gives o b.one b.two a in
-            by_numbers b (subst (λ (x : Option Value). MoveOk core ann around fs (gives (with_stack f rest) x)) (sym g.1) (truth_ok g.0 s))
+            by_numbers b (subst (λ (x : Option Value). Holds (gives (with_stack f rest) x)) (sym g.1) (truth_ok g.0 s))
 
-        xor_ok : is_xor o ≡ true → both_read_as 2 vs ≡ true → Says e.note (Some (2, form.Val)) e.behind → MoveOk core ann around fs (binary (with_stack f rest) o v w)
+        xor_ok : is_xor o ≡ true → both_read_as 2 vs ≡ true → Says e.note (Some (2, form.Val)) e.behind → Holds (binary (with_stack f rest) o v w)
         xor_ok a h s =
             let b = truths h in
             let g = xor_gives o b.one b.two a in
-            by_truths b (subst (λ (x : Option Value). MoveOk core ann around fs (gives (with_stack f rest) x)) (sym g.1) (truth_ok g.0 s))
+            by_truths b (subst (λ (x : Option Value). Holds (gives (with_stack f rest) x)) (sym g.1) (truth_ok g.0 s))
 
-        join_ok : is_add o ≡ true → both_read_as 3 vs ≡ true → Says e.note (Some (3, form.Val)) e.behind → MoveOk core ann around fs (binary (with_stack f rest) o v w)
+        join_ok : is_add o ≡ true → both_read_as 3 vs ≡ true → Says e.note (Some (3, form.Val)) e.behind → Holds (binary (with_stack f rest) o v w)
         join_ok a h s =
             let b = texts h in
-            by_texts b (subst (MoveOk core ann around fs) (sym (add_gives (with_stack f rest) o b.one b.two a)) (long_ok (nat_lt text_limit (length (b.one ++ b.two))) (b.one ++ b.two) s))
+            by_texts b (subst (Holds) (sym (add_gives (with_stack f rest) o b.one b.two a)) (long_ok (nat_lt text_limit (length (b.one ++ b.two))) (b.one ++ b.two) s))
 
-        equal_numbers : is_equality o ≡ true → both_read_as 1 vs ≡ true → Says e.note (Some (2, form.Val)) e.behind → MoveOk core ann around fs (binary (with_stack f rest) o v w)
+        equal_numbers : is_equality o ≡ true → both_read_as 1 vs ≡ true → Says e.note (Some (2, form.Val)) e.behind → Holds (binary (with_stack f rest) o v w)
         equal_numbers a h s =
             let b = numbers h in
             let g = equality_gives o b.one b.two a in
-            by_numbers b (subst (λ (x : Option Value). MoveOk core ann around fs (gives (with_stack f rest) x)) (sym g.1) (truth_ok g.0 s))
+            by_numbers b (subst (λ (x : Option Value). Holds (gives (with_stack f rest) x)) (sym g.1) (truth_ok g.0 s))
 
-        equal_truths : is_equality o ≡ true → both_read_as 2 vs ≡ true → Says e.note (Some (2, form.Val)) e.behind → MoveOk core ann around fs (binary (with_stack f rest) o v w)
+        equal_truths : is_equality o ≡ true → both_read_as 2 vs ≡ true → Says e.note (Some (2, form.Val)) e.behind → Holds (binary (with_stack f rest) o v w)
         equal_truths a h s =
             let b = truths h in
             let g = truths_give o b.one b.two a in
-            by_truths b (subst (λ (x : Option Value). MoveOk core ann around fs (gives (with_stack f rest) x)) (sym g.1) (truth_ok g.0 s))
+            by_truths b (subst (λ (x : Option Value). Holds (gives (with_stack f rest) x)) (sym g.1) (truth_ok g.0 s))
 
-        equal_texts : is_equality o ≡ true → both_read_as 3 vs ≡ true → Says e.note (Some (2, form.Val)) e.behind → MoveOk core ann around fs (binary (with_stack f rest) o v w)
+        equal_texts : is_equality o ≡ true → both_read_as 3 vs ≡ true → Says e.note (Some (2, form.Val)) e.behind → Holds (binary (with_stack f rest) o v w)
         equal_texts a h s =
             let b = texts h in
             let g = texts_give (with_stack f rest) o b.one b.two a in
-            by_texts b (subst (MoveOk core ann around fs) (sym g.1) (truth_ok g.0 s))
+            by_texts b (subst (Holds) (sym g.1) (truth_ok g.0 s))
 
-        equal_ok : is_equality o ≡ true → comparable vs ≡ true → Says e.note (Some (2, form.Val)) e.behind → MoveOk core ann around fs (binary (with_stack f rest) o v w)
+        equal_ok : is_equality o ≡ true → comparable vs ≡ true → Says e.note (Some (2, form.Val)) e.behind → Holds (binary (with_stack f rest) o v w)
         equal_ok a h s =
             elim (either (both_read_as 1 vs) (both_read_as 2 vs || both_read_as 3 vs) h) [
               | inl one ↦ equal_numbers a one s
@@ -228,66 +246,65 @@ module _ (core : CoreData) (ann : Ann) (needs : Needs core ann) (around : Around
 
   -- Both values, and then what the operator makes of them.
   on_both : (o : Op) (vs : Ty × Ty) (types : TwoTypes ann e.node.children vs)
-      → ((v w : Value) (rest : List Value) → StackOk core around.objects r.held.this e.below rest → OfSome core around.objects (type_of ann types.left) v → OfSome core around.objects (type_of ann types.right) w → MoveOk core ann around fs (binary (with_stack f rest) o v w))
-      → MoveOk core ann around fs (apply_task f (nodes.Binary o))
+      → ((us : List Value) (v w : Value) (rest : List Value) → f.stack ≡ us ++ rest → length us ≡ length e.node.children → StackOk core around.objects r.held.this e.below rest → OfSome core around.objects (type_of ann types.left) v → OfSome core around.objects (type_of ann types.right) w → Holds (binary (with_stack f rest) o v w))
+      → Holds (apply_task f (nodes.Binary o))
   on_both o vs types k =
       let t = two_tops core ann needs around f fs r applies n e types.left types.right types.children in
-      by_tops core ann needs around f fs r applies n e t.first t.second t.rest (λ w v h. binary h o v w) t.is (k t.first t.second t.rest t.ok t.first_answers.0 t.second_answers.0)
+      tops_by t.first t.second t.rest (λ w v h. binary h o v w) t.is (k (t.second ∷ t.first ∷ []) t.first t.second t.rest t.is (sym (ap length types.children)) t.ok t.first_answers.0 t.second_answers.0)
 
-  not_this : (k : NodeKind) → e.node.kind ≡ k → (is_this k ≡ true → ⊥) → is_this e.node.kind ≡ true → ⊥
-  not_this k is bad h = bad (ap is_this (sym is) ∙ h)
-
-  binary_rule : (u : Rule) (o : Op) → (is_this e.node.kind ≡ true → ⊥) → says core ann e.node (before e.note) u (nodes.Binary o) ≡ Some (said_by e.note) → MoveOk core ann around fs (apply_task f (nodes.Binary o))
-  binary_rule rule.Arith o other q =
+  binary_rule : (u : Rule) (o : Op) → says core ann e.node (before e.note) u (nodes.Binary o) ≡ Some (said_by e.note) → Holds (apply_task f (nodes.Binary o))
+  binary_rule rule.Arith o q =
       let a = asked ann e.node e.note e.behind 1 (is_arithmetic o) (both_read_as 1) e.is_behind q in
-      on_both o a.vs a.types (λ v w rest ok g h. arith_ok rest ok other o v w a.vs a.types g h a.operator a.reads a.says)
-  binary_rule rule.Compare o other q =
+      on_both o a.vs a.types (λ us v w rest at all ok g h. arith_ok us rest at all ok o v w a.vs a.types g h a.operator a.reads a.says)
+  binary_rule rule.Compare o q =
       let a = asked ann e.node e.note e.behind 2 (is_comparison o) (both_read_as 1) e.is_behind q in
-      on_both o a.vs a.types (λ v w rest ok g h. compare_ok rest ok other o v w a.vs a.types g h a.operator a.reads a.says)
-  binary_rule rule.Equal o other q =
+      on_both o a.vs a.types (λ us v w rest at all ok g h. compare_ok us rest at all ok o v w a.vs a.types g h a.operator a.reads a.says)
+  binary_rule rule.Equal o q =
       let a = asked ann e.node e.note e.behind 2 (is_equality o) comparable e.is_behind q in
-      on_both o a.vs a.types (λ v w rest ok g h. equal_ok rest ok other o v w a.vs a.types g h a.operator a.reads a.says)
-  binary_rule rule.Join o other q =
+      on_both o a.vs a.types (λ us v w rest at all ok g h. equal_ok us rest at all ok o v w a.vs a.types g h a.operator a.reads a.says)
+  binary_rule rule.Join o q =
       let a = asked ann e.node e.note e.behind 3 (is_add o) (both_read_as 3) e.is_behind q in
-      on_both o a.vs a.types (λ v w rest ok g h. join_ok rest ok other o v w a.vs a.types g h a.operator a.reads a.says)
-  binary_rule rule.Logic o other q =
+      on_both o a.vs a.types (λ us v w rest at all ok g h. join_ok us rest at all ok o v w a.vs a.types g h a.operator a.reads a.says)
+  binary_rule rule.Logic o q =
       let a = asked ann e.node e.note e.behind 2 (is_xor o) (both_read_as 2) e.is_behind q in
-      on_both o a.vs a.types (λ v w rest ok g h. xor_ok rest ok other o v w a.vs a.types g h a.operator a.reads a.says)
-  binary_rule u o other q = absurd (none-some (said_by e.note) q)
+      on_both o a.vs a.types (λ us v w rest at all ok g h. xor_ok us rest at all ok o v w a.vs a.types g h a.operator a.reads a.says)
+  binary_rule u o q = absurd (none-some (said_by e.note) q)
 
-  same_is : (b : Bool) → (is_this e.node.kind ≡ true → ⊥) → identity_says ann e.node (before e.note) ≡ Some (said_by e.note) → MoveOk core ann around fs (apply_task f (nodes.Same b))
-  same_is b other q =
+  same_is : (b : Bool) → identity_says ann e.node (before e.note) ≡ Some (said_by e.note) → Holds (apply_task f (nodes.Same b))
+  same_is b q =
       let v = bind_some (two_types ann e.node.children) _ (said_by e.note) q in
       let types = types_are ann e.node.children v.0 v.1 in
       let t = two_tops core ann needs around f fs r applies n e types.left types.right types.children in
-      by_tops core ann needs around f fs r applies n e t.first t.second t.rest (λ w v h. compared h b v w) t.is
-      (truth_ok t.rest t.ok other (same_truth b (same_value t.first t.second)) (value_is ann e.node e.note e.behind 2 e.is_behind v.2))
+      tops_by t.first t.second t.rest (λ w v h. compared h b v w) t.is
+      (truth_ok (t.second ∷ t.first ∷ []) t.rest t.is (sym (ap length types.children)) t.ok (same_truth b (same_value t.first t.second)) (value_is ann e.node e.note e.behind 2 e.is_behind v.2))
 
-  same_rule : (u : Rule) (b : Bool) → (is_this e.node.kind ≡ true → ⊥) → says core ann e.node (before e.note) u (nodes.Same b) ≡ Some (said_by e.note) → MoveOk core ann around fs (apply_task f (nodes.Same b))
-  same_rule rule.Identity b other q = same_is b other q
-  same_rule u b other q = absurd (none-some (said_by e.note) q)
+  same_rule : (u : Rule) (b : Bool) → says core ann e.node (before e.note) u (nodes.Same b) ≡ Some (said_by e.note) → Holds (apply_task f (nodes.Same b))
+  same_rule rule.Identity b q = same_is b q
+  same_rule u b q = absurd (none-some (said_by e.note) q)
 
-  not_is : (is_this e.node.kind ≡ true → ⊥) → not_says ann e.node (before e.note) ≡ Some (said_by e.note) → MoveOk core ann around fs (apply_task f nodes.Not)
-  not_is other q =
+  not_is : not_says ann e.node (before e.note) ≡ Some (said_by e.note) → Holds (apply_task f nodes.Not)
+  not_is q =
       let c = bind_some (one_child e.node.children) _ (said_by e.note) q in
       let v = bind_some (type_of ann c.0) _ (said_by e.note) c.2 in
       let k = kept (reads_as 2 v.0) (value_says 2 ann e.node (before e.note)) (said_by e.note) v.2 in
       let t = one_top core ann needs around f fs r applies n e c.0 (one_is e.node.children c.0 c.1) in
       let b = is_truth core ann needs around.objects v.0.1 t.top (read_at core ann around c.0 v.0 2 t.top v.1 (read_is 2 v.0 k.0).0 t.answers.0) in
-      by_top core ann needs around f fs r applies n e t.top t.below (λ v g. negated g v) t.is
-      (subst (λ (x : Value). MoveOk core ann around fs (negated (with_stack f t.below) x)) (sym b.1) (truth_ok t.below t.ok other (not b.0) (value_is ann e.node e.note e.behind 2 e.is_behind k.1)))
+      top_by t.top t.below (λ v g. negated g v) t.is
+      (subst (λ (x : Value). Holds (negated (with_stack f t.below) x)) (sym b.1) (truth_ok (t.top ∷ []) t.below t.is (sym (ap length (one_is e.node.children c.0 c.1))) t.ok (not b.0) (value_is ann e.node e.note e.behind 2 e.is_behind k.1)))
 
-  not_rule : (u : Rule) → (is_this e.node.kind ≡ true → ⊥) → says core ann e.node (before e.note) u nodes.Not ≡ Some (said_by e.note) → MoveOk core ann around fs (apply_task f nodes.Not)
-  not_rule rule.Logic other q = not_is other q
-  not_rule u other q = absurd (none-some (said_by e.note) q)
+  not_rule : (u : Rule) → says core ann e.node (before e.note) u nodes.Not ≡ Some (said_by e.note) → Holds (apply_task f nodes.Not)
+  not_rule rule.Logic q = not_is q
+  not_rule u q = absurd (none-some (said_by e.note) q)
 
-  apply_kind : (k : NodeKind) → e.node.kind ≡ k → applies k ≡ true → says core ann e.node (before e.note) e.note.rule k ≡ Some (said_by e.note) → MoveOk core ann around fs (apply_task f k)
-  apply_kind (nodes.Binary o) is h q = binary_rule e.note.rule o (not_this (nodes.Binary o) is false_true) q
-  apply_kind (nodes.Same b) is h q = same_rule e.note.rule b (not_this (nodes.Same b) is false_true) q
-  apply_kind nodes.Not is h q = not_rule e.note.rule (not_this nodes.Not is false_true) q
+  pub apply_kind : (k : NodeKind) → e.node.kind ≡ k → applies k ≡ true → says core ann e.node (before e.note) e.note.rule k ≡ Some (said_by e.note) → Holds (apply_task f k)
+  apply_kind (nodes.Binary o) is h q = binary_rule e.note.rule o q
+  apply_kind (nodes.Same b) is h q = same_rule e.note.rule b q
+  apply_kind nodes.Not is h q = not_rule e.note.rule q
   apply_kind k is h q = absurd (false_true h)
 
 pub keeps_apply : (n : ℕ) → Keeps (task.Apply n)
 keeps_apply n core ann needs around f fs r e =
     at_this core ann needs around f fs r applies n e (λ x. apply_task f x.kind)
-    (apply_kind core ann needs around f fs r n e e.node.kind refl e.kind (rule_is core ann needs around f fs r applies n e))
+    (apply_kind core ann needs around f fs r n e (MoveOk core ann around fs) tt
+    (λ us rest ty v at all s ok typed plain. done_ok core ann needs around f fs r applies n e (Some ty) v rest s ok typed (applies_this e.node.kind e.kind))
+    e.node.kind refl e.kind (rule_is core ann needs around f fs r applies n e))

@@ -32,13 +32,13 @@ use Rattle.pc_sound.proofs.Running.{go_ok, push_ok}
 
 module _ (core : CoreData) (ann : Ann) (needs : Needs core ann) (around : Around) (f : Frame) (fs : List Frame) (r : Runs core ann around f fs) where
   -- The truth value on top of the stack, and what is below it.
-  record TopTruth (below : List Want) : Type 0 where
-    value : Bool
-    rest : List Value
-    is : f.stack ≡ Truth value ∷ rest
-    ok : StackOk core around.objects r.held.this below rest
+  pub record TopTruth (below : List Want) : Type 0 where
+    pub value : Bool
+    pub rest : List Value
+    pub is : f.stack ≡ Truth value ∷ rest
+    pub ok : StackOk core around.objects r.held.this below rest
 
-  top_truth : (below : List Want) → TruthOnTop r.held.wants below → TopTruth below
+  pub top_truth : (below : List Want) → TruthOnTop r.held.wants below → TopTruth below
   top_truth below t =
       let ty : Option Ty = Some (2, t.0) in
       let top = top_is core around.objects r.held.this (wanted ty) below f.stack (subst (λ (g : List Want). StackOk core around.objects r.held.this g f.stack) t.1 r.held.stack_ok) in

@@ -46,12 +46,18 @@ mod RegionAll
 mod RegionStands
 mod RegionShifts
 mod RegionRise
+mod RegionLevels
 mod RegionChildren
 mod RegionControl
 mod RegionSlot
 mod RegionValue
 mod RegionClose
 mod RegionClimb
+mod RegionEval
+mod RegionChoices
+mod RegionApply
+mod RegionGet
+mod RegionKeeps
 mod RegionMerge
 mod RegionRules
 mod RegionArguments
@@ -67,6 +73,8 @@ mod RegionSettle
 mod RegionRenewed
 mod RegionContexts
 mod RegionEnds
+mod RegionTakes
+mod RegionReturn
 mod RegionStored
 mod RegionStore
 mod RegionStoreTask

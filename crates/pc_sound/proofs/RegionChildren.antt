@@ -1,8 +1,9 @@
 -- Children that are evaluated, one after the other, and the forms and depths of what they leave.
-use Rattle.std.specs.Prelude.{◌≡◌, ℕ, zero, suc, true, false, List, [], ◌∷◌, ◌++◌, Option, Some, None, slice_get, refl}
+use Rattle.std.specs.Prelude.{◌≡◌, ℕ, suc, false, List, [], ◌∷◌, ◌++◌, Option, Some, slice_get, refl}
 use Rattle.std.proofs.Common.{inl, ap, sym, subst, ◌∙◌, arith}
 use Rattle.std.proofs.lemmas.Option.{same_Some, none-some}
 use Rattle.pc_core.specs.declared.nodes.Node.{Node}
+use Rattle.pc_core.specs.declared.nodes.NodeKind.TheVariants as nodes
 use Rattle.pc_core.specs.CoreData.{CoreData}
 use Rattle.pc_core.specs.Words.{Each}
 use Rattle.pc_ann.specs.declared.mask.Mask.{Mask}
@@ -16,11 +17,11 @@ use Rattle.pc_sound.specs.Tasks.{Within}
 use Rattle.pc_sound.specs.RegionTasks.{Entry, Shallow, Ascent, Climbs, top_of, SlotsShallow, entry_of, piled, uses_top, EvalRises, TasksRise}
 use Rattle.pc_sound.specs.RegionScope.{LiveShallow}
 use Rattle.pc_sound.proofs.Basic.{within_same, within_trans}
-use Rattle.pc_sound.proofs.EvalChildren.{within_is, First, first_of_them, type_is, last_next}
+use Rattle.pc_sound.proofs.EvalChildren.{within_is, first_of_them, type_is, last_next}
 
--- Node c is there, in method m at depth d.
+-- Node c is there, in method m at depth d, and is no body.
 abbrev pub IsAt : CoreData → ℕ → ℕ → ℕ → Type 0
-IsAt core m d c = (y : Node) × (slice_get core.nodes c ≡ Some y) × (y.method ≡ m) × (y.depth ≡ d)
+IsAt core m d c = (y : Node) × (slice_get core.nodes c ≡ Some y) × (y.method ≡ m) × (y.depth ≡ d) × (y.kind ≡ nodes.Body → ⊥)
 
 -- A value of this type at depth d.
 abbrev pub at_depth : ℕ → Option Ty → Entry
@@ -47,6 +48,7 @@ module _ (core : CoreData) (ann : Ann) (flat : LiveShallow core ann) (m d : ℕ)
         note = t;
         is_note = at;
         own = child.2;
+        inner = child.4;
         depth = child.3;
         live = wl;
         follows = record {

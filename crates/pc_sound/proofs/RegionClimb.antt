@@ -1,7 +1,7 @@
 -- A value goes up its way, step by step.
-use Rattle.std.specs.Prelude.{◌≡◌, ◌⊎◌, ℕ, suc, ◌+◌, ◌-◌, ◌<◌, ◌≤◌, Bool, true, false, ◌&&◌, ◌||◌, cond, List, [], ◌∷◌, Option, Some, None, nat_eq, nat_lt, refl}
+use Rattle.std.specs.Prelude.{◌≡◌, ℕ, suc, ◌+◌, ◌-◌, ◌<◌, ◌≤◌, Bool, true, false, ◌&&◌, ◌||◌, cond, [], ◌∷◌, Option, Some, None, nat_eq, nat_lt, refl}
 use Rattle.std.specs.FinMap.{get}
-use Rattle.std.proofs.Common.{inl, inr, ap, sym, subst, ◌∙◌, arith}
+use Rattle.std.proofs.Common.{inl, ap, sym, subst, ◌∙◌, arith}
 use Rattle.std.proofs.lemmas.Bool.{eq-eqb, ltb-false, le-ltb}
 use Rattle.std.proofs.lemmas.Option.{same_Some}
 use Rattle.pc_heap.specs.Objects.{ObjectMap}
@@ -9,7 +9,6 @@ use Rattle.pc_heap.specs.declared.value.Address.{Address}
 use Rattle.pc_heap.specs.declared.value.Object.{Object}
 use Rattle.pc_heap.specs.declared.value.Value.{Value}
 use Rattle.pc_heap.specs.declared.value.Value.TheVariants.{Num, Truth, Text, Prim, At}
-use Rattle.pc_caps.specs.Order.{is_below}
 use Rattle.pc_caps.specs.Tables.{unalias, fits, lift}
 use Rattle.pc_caps.specs.declared.capability.Cap.{Cap}
 use Rattle.pc_caps.specs.declared.capability.Form.{Form}
@@ -19,13 +18,14 @@ use Rattle.pc_core.specs.Words.{◌>>=◌}
 use Rattle.pc_ann.specs.declared.annotation.Ann.{Ann}
 use Rattle.pc_rules.specs.Parts.{Ty}
 use Rattle.pc_rules.specs.Control.{recovered}
-use Rattle.pc_rules.specs.Threads.{kept, false_true}
+use Rattle.pc_rules.specs.Threads.{kept}
 use Rattle.pc_sound.specs.Types.{OfType, OfSome}
-use Rattle.pc_sound.specs.RegionWorld.{Place, InSlot, OnStack, InField, InMail, Opened, Froze, Held, Child, Standing, World, home, Frozen, ice, in_ice, under_ice, Seen, same, under, frozen, Fits, FitsSome, Alias, AliasIn, AliasSome, WorldOk}
-use Rattle.pc_sound.specs.RegionTasks.{Entry, Below, Ascent, Joins, Decides, Recovers, recovered_type, ascend, MayAscend, top_of, Climbs}
+use Rattle.pc_sound.specs.RegionWorld.{Place, InSlot, OnStack, InField, InMail, Opened, Froze, Held, Child, Standing, World, Frozen, ice, under_ice, Seen, same, under, frozen, Fits, FitsSome, Alias, AliasIn, AliasSome, WorldOk}
+use Rattle.pc_sound.specs.RegionTasks.{Entry, Below, Ascent, Joins, Decides, Recovers, recovered_type, ascend, MayAscend, top_of}
 use Rattle.pc_sound.specs.RegionFrames.{OpenedTo}
 use Rattle.pc_sound.specs.RegionPlaces.{standing, lowered, without_last, Shifts}
 use Rattle.pc_sound.specs.RegionSettle.{NearFrom, Near, SettleLaw}
+use Rattle.pc_sound.specs.RegionContexts.{EndLaw}
 use Rattle.pc_sound.specs.RegionClimb.{passed, Stands, Climbed, ClimbLaw}
 use Rattle.pc_sound.proofs.Needs.{Needs}
 use Rattle.pc_sound.proofs.Basic.{of_lower}
@@ -34,14 +34,15 @@ use Rattle.pc_sound.proofs.Values.{is_truth}
 use Rattle.pc_sound.proofs.RegionShifts.{shifts_both}
 use Rattle.pc_sound.proofs.RegionStands.{stand_here}
 use Rattle.pc_sound.proofs.RegionSettle.{shifts_none, shifts_less}
-use Rattle.pc_sound.proofs.RegionClose.{seen_closed, fits_closed, opened_closed, closed_shifts}
-use Rattle.pc_sound.proofs.RegionRise.{and_none, or_none}
+use Rattle.pc_sound.proofs.RegionLevels.{top_lower}
+use Rattle.pc_sound.proofs.RegionClose.{fits_closed, opened_closed, closed_shifts}
+use Rattle.pc_sound.proofs.RegionRise.{or_none}
 use Rattle.pc_sound.proofs.RegionValue.{tag_fits, no_alias, val_moved}
 
 -- ---- what is passed
 
 -- The place itself, at each level.
-passed_self : (i h n k l : ℕ) → passed i h n k (OnStack i h n l) ≡ true
+pub passed_self : (i h n k l : ℕ) → passed i h n k (OnStack i h n l) ≡ true
 passed_self i h n k l =
     ap (λ (b : Bool). b && (nat_eq h h && (nat_eq n n || nat_lt k l))) (eq-eqb i i refl) ∙ ap (λ (b : Bool). b && (nat_eq n n || nat_lt k l)) (eq-eqb h h refl) ∙ ap (λ (b : Bool). b || nat_lt k l) (eq-eqb n n refl)
 
@@ -91,7 +92,7 @@ from_same w i h n l form.Val = tt
 from_same w i h n l form.Box = refl
 from_same w i h n l form.Tag = tt
 
-near_same : (w : World) (i h n l : ℕ) (f g : Form) → Near w (OnStack i h n l) f g (OnStack i h n l)
+pub near_same : (w : World) (i h n l : ℕ) (f g : Form) → Near w (OnStack i h n l) f g (OnStack i h n l)
 near_same w i h n l f form.IsoE = tt
 near_same w i h n l f form.TrnE = from_same w i h n l f
 near_same w i h n l f form.Iso = tt
@@ -120,7 +121,7 @@ lift_alias w i b k f (Text t) = tt
 lift_alias w i b k f (Prim e) = tt
 
 -- What is seen from a frozen region is frozen.
-seen_cold : (w : World) (p : ℕ) {q : ℕ} → Frozen w p → Seen w p q → Frozen w q
+pub seen_cold : (w : World) (p : ℕ) {q : ℕ} → Frozen w p → Seen w p q → Frozen w q
 seen_cold w p cold (same e) = subst (Frozen w) (sym e) cold
 seen_cold w p cold (under u at e k) = under_ice u at e (seen_cold w p cold k)
 seen_cold w p cold (frozen f) = f
@@ -129,6 +130,12 @@ seen_cold w p cold (frozen f) = f
 abbrev pub DropLaw : Type 0
 DropLaw =
     (w : World) (objects : ObjectMap) (count : ℕ) → WorldOk w objects count → (i : ℕ) → i < count → (b : ℕ) → b < w.top i → (gone : Place → Bool) → Shifts w (without_last w i) objects count i b gone
+
+pub drops : EndLaw → DropLaw
+drops ends w objects count ok i here b low gone =
+    let k : ℕ = w.top i - 1 in
+    let is : w.top i ≡ suc k = omega (arith, low) in
+    shifts_less w (without_last w i) objects count i k b gone gone (omega (arith, is, low)) (λ p e. e) (ends w objects count ok i here k is gone).shifts
 
 -- ---- steps
 
@@ -421,15 +428,6 @@ module _ (core : CoreData) (ann : Ann) (needs : Needs core ann) (settle : Settle
         (got.0, subst (λ (o : Option Ty). Climbed core w got.0 objects count i h n base (record { ty = o; depth = e.depth - 1 }) v) is got.1)
 
   -- ---- the whole way
-
-  ascend_lower : (a : Ascent) (e : Entry) → (ascend a e).depth ≤ e.depth
-  ascend_lower (Joins t) e = omega arith
-  ascend_lower Decides e = omega arith
-  ascend_lower (Recovers k) e = omega arith
-
-  top_lower : (way : List Ascent) (e : Entry) → (top_of way e).depth ≤ e.depth
-  top_lower [] e = omega arith
-  top_lower (a ∷ way) e = let more = top_lower way (ascend a e) in let one = ascend_lower a e in omega (arith, more, one)
 
   pub climb : ClimbLaw core
   climb w objects count i h n base [] e v climbs s = (w, record { stands = s; shifts = shifts_none w objects count i base (passed i h n (base + e.depth)) s.world })

@@ -1,6 +1,6 @@
 -- A region that was open, and is a context no more, stands otherwise: it is held at a place, or frozen. No chain of holders leads
 -- through what is open, so that every other value fits as it did.
-use Rattle.std.specs.Prelude.{◌≡◌, ◌≢◌, ◌⊎◌, ℕ, ◌<◌, ◌≤◌, Bool, true, false, Option, Some, None, refl}
+use Rattle.std.specs.Prelude.{◌≡◌, ◌≢◌, ◌⊎◌, ℕ, ◌<◌, ◌≤◌, Bool, Option, Some, None, refl}
 use Rattle.std.specs.FinMap.{get}
 use Rattle.std.proofs.Common.{inl, inr, ap, sym, subst, ◌∙◌, arith}
 use Rattle.std.proofs.lemmas.Bool.{cases_eq}
@@ -12,8 +12,8 @@ use Rattle.pc_heap.specs.declared.value.Value.{Value}
 use Rattle.pc_heap.specs.declared.value.Value.TheVariants.{Num, Truth, Text, Prim, At}
 use Rattle.pc_caps.specs.declared.capability.Form.{Form}
 use Rattle.pc_caps.specs.declared.capability.Form.TheVariants as form
-use Rattle.pc_sound.specs.RegionWorld.{Place, InSlot, OnStack, InField, InMail, Standing, Unused, Loose, Opened, Held, Child, World, home, Frozen, ice, in_ice, under_ice, Seen, same, under, frozen, Over, over_loose, over_slot, over_own, over_field, over_part, over_child, FitsIn, Fits, AliasIn, Alias, WorldOk}
-use Rattle.pc_sound.specs.RegionPlaces.{stand, standing, Shifts}
+use Rattle.pc_sound.specs.RegionWorld.{Place, InSlot, OnStack, InField, InMail, Standing, Loose, Opened, Held, Child, World, home, Frozen, ice, in_ice, under_ice, Seen, same, under, frozen, Over, over_loose, over_slot, over_own, over_field, over_part, over_child, FitsIn, Fits, AliasIn, Alias, WorldOk}
+use Rattle.pc_sound.specs.RegionPlaces.{standing, Shifts}
 use Rattle.pc_sound.proofs.RegionStands.{stand_here, stand_other}
 
 module _

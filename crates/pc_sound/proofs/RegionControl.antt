@@ -1,11 +1,10 @@
 -- Eval at nodes that look at what they evaluate, and at those of which all children are evaluated first, in regions.
-use Rattle.std.specs.Prelude.{◌≡◌, ◌⊎◌, ℕ, zero, suc, ◌+◌, ◌<◌, Bool, true, false, ◌&&◌, cond, List, [], ◌∷◌, ◌++◌, length, Option, Some, None, slice_get, refl}
+use Rattle.std.specs.Prelude.{◌≡◌, ◌⊎◌, ℕ, ◌<◌, Bool, true, false, cond, List, [], ◌∷◌, ◌++◌, length, Option, Some, None, slice_get, refl}
 use Rattle.std.proofs.Common.{inl, inr, ap, sym, subst, ◌∙◌, append_assoc, arith}
 use Rattle.std.proofs.lemmas.Option.{same_Some, none-some}
 use Rattle.std.proofs.lemmas.Bool.{and_parts}
 use Rattle.pc_caps.specs.Gets.{get_below}
 use Rattle.pc_caps.specs.Order.{is_below}
-use Rattle.pc_caps.specs.declared.capability.Cap.{Cap}
 use Rattle.pc_caps.specs.declared.capability.Form.{Form}
 use Rattle.pc_caps.specs.declared.capability.Form.TheVariants as form
 use Rattle.pc_core.specs.declared.declarations.Method.{Method}
@@ -22,7 +21,7 @@ use Rattle.pc_ann.specs.declared.annotation.Note.{Note}
 use Rattle.pc_ann.specs.declared.annotation.Ann.{Ann}
 use Rattle.pc_ann.specs.Masks.{meet}
 use Rattle.pc_ann.specs.MaskLaws.{meet_bits, within_bits}
-use Rattle.pc_sub.specs.Sub.{Sub, is_sub}
+use Rattle.pc_sub.specs.Sub.{is_sub}
 use Rattle.pc_sub.specs.Above.{is_sub_iff}
 use Rattle.pc_semantics.specs.declared.frames.Frame.{Frame}
 use Rattle.pc_semantics.specs.declared.frames.Task.{Task}
@@ -30,21 +29,20 @@ use Rattle.pc_semantics.specs.declared.frames.Task.TheVariants as task
 use Rattle.pc_semantics.specs.Around.{Around, Goes, doing}
 use Rattle.pc_semantics.specs.Evaluation.{evaluations, children_first, first_then, items}
 use Rattle.pc_rules.specs.Parts.{Ty, Masks, lower, before, after, through, type_of, last_child}
-use Rattle.pc_rules.specs.Control.{joined_types, joined, gives, result_ok}
-use Rattle.pc_rules.specs.Homes.{home, home_body}
-use Rattle.pc_rules.specs.Rules.{said_by}
+use Rattle.pc_rules.specs.Control.{joined, gives, result_ok}
+use Rattle.pc_rules.specs.Homes.{home, home_body, home_method, children_before}
 use Rattle.pc_rules.specs.Threads.{false_true}
 use Rattle.pc_sound.specs.Tasks.{Within, is_lazy}
 use Rattle.pc_sound.specs.RegionWorld.{World}
-use Rattle.pc_sound.specs.RegionTasks.{Entry, Shallow, Below, Ascent, Joins, Decides, Recovers, ascend, MayAscend, top_of, Climbs, SlotsShallow, entry_of, piled, uses_top, EvalRises, BodyRises, FinishRises, TestRises, TasksRise}
+use Rattle.pc_sound.specs.RegionTasks.{Entry, Shallow, Below, Ascent, Joins, Decides, ascend, MayAscend, top_of, Climbs, SlotsShallow, entry_of, piled, uses_top, EvalRises, BodyRises, FinishRises, TasksRise}
 use Rattle.pc_sound.specs.RegionMoves.{RegionMoveOk, Situated}
 use Rattle.pc_sound.specs.RegionScope.{LiveShallow}
-use Rattle.pc_sound.proofs.Needs.{Needs, IsChild}
+use Rattle.pc_sound.proofs.Needs.{Needs}
 use Rattle.pc_sound.proofs.Basic.{within_same, within_trans}
 use Rattle.pc_sound.proofs.Begin.{BodyRule}
 use Rattle.pc_sound.proofs.EvalChildren.{within_is, items_less, First, first_of_them, type_is}
-use Rattle.pc_sound.proofs.Inverse.{Says, LazyRule, IfRule, WhileRule, SeqRule, RecoverRule, read_is, condition_is}
-use Rattle.pc_sound.proofs.RegionRise.{goes_on, evaluates}
+use Rattle.pc_sound.proofs.Inverse.{LazyRule, IfRule, WhileRule, SeqRule, read_is}
+use Rattle.pc_sound.proofs.RegionRise.{evaluates}
 use Rattle.pc_sound.proofs.RegionChildren.{IsAt, at_depth, child_rises, whole_rises, evaluations_rise, items_rise}
 
 -- ---- types
@@ -104,6 +102,19 @@ calm [] us (inl l) = absurd (omega (arith, l))
 calm [] us (inr e) = e
 calm (c ∷ cs) us k = refl
 
+-- A child is no body: the body of a method is its last node.
+no_body : (core : CoreData) (ann : Ann) (needs : Needs core ann) (n c : ℕ) (x y : Node) (i : ℕ) → slice_get core.nodes n ≡ Some x → slice_get core.nodes c ≡ Some y → y.method ≡ x.method → slice_get x.children i ≡ Some c → y.kind ≡ nodes.Body → ⊥
+no_body core ann needs n c x y i at child own h is =
+    let a = home core c needs.formed (get_below core.nodes c y child) in
+    let b = home core n needs.formed (get_below core.nodes n x at) in
+    let last : c ≡ a.body = home_body core c y a child is in
+    let number : a.number ≡ b.number = sym (home_method core c y a child) ∙ own ∙ home_method core n x b at in
+    let method : a.method ≡ b.method = same_Some a.method b.method (sym a.is_method ∙ ap (slice_get core.methods) number ∙ b.is_method) in
+    let body : a.body ≡ b.body = same_Some a.body b.body (sym a.is_body ∙ ap (λ (z : Method). z.body) method ∙ b.is_body) in
+    let to = b.to in
+    let before = children_before core n x needs.formed at i c h in
+    omega (arith, last, body, to, before)
+
 module _ (core : CoreData) (ann : Ann) (needs : Needs core ann) (flat : LiveShallow core ann) (around : Around) (f : Frame) (fs : List Frame) (w : World) (n : ℕ) (s : Situated core ann w around f (task.Eval n ∷ f.tasks) fs) where
   abbrev d : ℕ
   d = s.active.depth
@@ -115,7 +126,7 @@ module _ (core : CoreData) (ann : Ann) (needs : Needs core ann) (flat : LiveShal
   pub children_of : (x : Node) (k : NodeKind) → slice_get core.nodes n ≡ Some x → x.method ≡ f.method → x.depth ≡ d → x.kind ≡ k → Each (λ i c. IsAt core f.method (inner_depth k d) c) x.children
   children_of x k at own deep is i c h =
       let y = needs.children n x at i c h in
-      (y.0, y.1, y.2 ∙ own, (needs.formed.nodes n x at).depths i c h y.0 y.1 ∙ ap (λ (j : NodeKind). inner_depth j x.depth) is ∙ ap (inner_depth k) deep)
+      (y.0, y.1, y.2 ∙ own, (needs.formed.nodes n x at).depths i c h y.0 y.1 ∙ ap (λ (j : NodeKind). inner_depth j x.depth) is ∙ ap (inner_depth k) deep, no_body core ann needs n c x y.0 i at y.1 y.2 h)
 
   pub child_of : (m e : ℕ) (cs ds : List ℕ) (i c : ℕ) → cs ≡ ds → slice_get ds i ≡ Some c → Each (λ i c. IsAt core m e c) cs → IsAt core m e c
   child_of m e cs ds i c is at each = each i c (ap (λ (es : List ℕ). slice_get es i) is ∙ at)
@@ -170,7 +181,7 @@ module _ (core : CoreData) (ann : Ann) (needs : Needs core ann) (flat : LiveShal
         (subst (λ (m : Masks). TasksRise core ann f.method ts d m.0 (at_depth d (type_of ann c) ∷ g)) end next)
 
     -- A child of this depth from these masks, whose value becomes that of the node.
-    tail_rises : (c : ℕ) (from behind : Masks) (l : Mask) (j : ℕ) (a : Ascent) → IsAt core f.method j c → (u : First ann c [] from behind) → Within from.0 l → Within e.follows.live behind.0 → MayAscend core a (at_depth j u.note.ty) → ascend a (at_depth j u.note.ty) ≡ entry_of e.node e.note
+    pub tail_rises : (c : ℕ) (from behind : Masks) (l : Mask) (j : ℕ) (a : Ascent) → IsAt core f.method j c → (u : First ann c [] from behind) → Within from.0 l → Within e.follows.live behind.0 → MayAscend core a (at_depth j u.note.ty) → ascend a (at_depth j u.note.ty) ≡ entry_of e.node e.note
         → EvalRises core ann f.method j l g c (λ d l g. TasksRise core ann f.method f.tasks d l g)
     tail_rises c from behind l j a child u wl left may is =
         let o = e.follows in
@@ -197,6 +208,7 @@ module _ (core : CoreData) (ann : Ann) (needs : Needs core ann) (flat : LiveShal
           kind = lazy;
           note = e.note;
           is_note = e.is_note;
+          ty = q.says.ty;
           depth = e.depth;
           left = q.left;
           right = q.right;
@@ -259,6 +271,7 @@ module _ (core : CoreData) (ann : Ann) (needs : Needs core ann) (flat : LiveShal
           note = e.note;
           is_note = e.is_note;
           own = e.own;
+          inner = e.inner;
           depth = e.depth;
           live = live;
           follows = e.follows;
@@ -268,6 +281,7 @@ module _ (core : CoreData) (ann : Ann) (needs : Needs core ann) (flat : LiveShal
           is_node = e.is_node;
           note = e.note;
           is_note = e.is_note;
+          ty = q.says.ty;
           depth = e.depth;
           condition = q.condition;
           body = q.body;

@@ -21,7 +21,7 @@ use Rattle.pc_sound.specs.RegionMoves.{one_more, Others, Turned, RegionMoveOk}
 use Rattle.pc_sound.proofs.RegionKept.{frames_kept, mail_kept, mail_more}
 
 -- What stands at a place after a write: what was written, there, or what stood at another place.
-set_cases : {T : Type 0} → (xs : List T) (i : ℕ) (y : T) (j : ℕ) (x : T) → slice_get (slice_set xs i y) j ≡ Some x → ((j ≡ i) × (x ≡ y)) ⊎ ((j ≢ i) × (slice_get xs j ≡ Some x))
+pub set_cases : {T : Type 0} → (xs : List T) (i : ℕ) (y : T) (j : ℕ) (x : T) → slice_get (slice_set xs i y) j ≡ Some x → ((j ≡ i) × (x ≡ y)) ⊎ ((j ≢ i) × (slice_get xs j ≡ Some x))
 set_cases {T = T} xs i y j x e =
     elim (cases_eq j i) [
       | inl at ↦ elim (get_set xs i y j x e) [

@@ -1,14 +1,12 @@
 -- A value is pushed in a running frame, and goes up its way: the world that the climb leaves fits the frame that goes on.
-use Rattle.std.specs.Prelude.{◌≡◌, ◌⊎◌, ℕ, ◌+◌, ◌<◌, ◌≤◌, Bool, true, false, not, ◌&&◌, ◌||◌, List, [], ◌∷◌, length, Option, Some, None, nat_eq, nat_lt, slice_get, refl}
-use Rattle.std.proofs.Common.{inl, inr, ap, sym, subst, ◌∙◌, arith}
-use Rattle.std.proofs.lemmas.Bool.{eqb-true, eqb-false, ne_eqb, le-ltb}
+use Rattle.std.specs.Prelude.{◌≡◌, ℕ, ◌+◌, ◌<◌, ◌≤◌, Bool, true, false, not, ◌&&◌, ◌||◌, List, [], ◌∷◌, length, Option, Some, None, nat_eq, nat_lt, slice_get, refl}
+use Rattle.std.proofs.Common.{ap, sym, subst, ◌∙◌, arith}
+use Rattle.std.proofs.lemmas.Bool.{ne_eqb, le-ltb}
 use Rattle.std.proofs.lemmas.Option.{same_Some}
 use Rattle.pc_heap.specs.Objects.{ObjectMap}
 use Rattle.pc_heap.specs.declared.value.Value.{Value}
 use Rattle.pc_caps.specs.declared.capability.Cap.{Cap}
-use Rattle.pc_caps.specs.declared.capability.Form.{Form}
 use Rattle.pc_caps.specs.Tables.{unalias}
-use Rattle.pc_core.specs.declared.declarations.Method.{Method}
 use Rattle.pc_core.specs.declared.nodes.Slot.{Slot}
 use Rattle.pc_core.specs.CoreData.{CoreData}
 use Rattle.pc_core.specs.Members.{bind_some}
@@ -24,10 +22,10 @@ use Rattle.pc_sound.specs.Types.{OfSome}
 use Rattle.pc_sound.specs.Tasks.{Within}
 use Rattle.pc_sound.specs.RegionWorld.{Place, InSlot, OnStack, InField, InMail, World, FitsSome, Alias, AliasSome, WorldOk}
 use Rattle.pc_sound.specs.RegionTasks.{Entry, Shallow, SlotsShallow, Rises, TasksRise, top_of, uses_top}
-use Rattle.pc_sound.specs.RegionFrames.{ThisFits, SlotsFit, StackFits, OpenedTo, WaitFits, FramesFit, FieldsFit, TopAlias}
+use Rattle.pc_sound.specs.RegionFrames.{ThisFits, SlotsFit, StackFits, OpenedTo, WaitFits, FieldsFit, TopAlias}
 use Rattle.pc_sound.specs.RegionMoves.{elsewhere, Others, Turned, RegionMoveOk, Situated}
 use Rattle.pc_sound.specs.RegionPlaces.{Shifts}
-use Rattle.pc_sound.specs.RegionClimb.{passed, Stands, Climbed, ClimbLaw}
+use Rattle.pc_sound.specs.RegionClimb.{passed, ClimbLaw}
 use Rattle.pc_sound.proofs.Basic.{within_trans}
 use Rattle.pc_sound.proofs.RegionShifts.{others_kept, fields_kept, below_kept}
 
@@ -161,21 +159,6 @@ module _ (core : CoreData) (ann : Ann) (climb : ClimbLaw core) (objects : Object
       })
 
 -- ---- the world stays
-
--- A world that is as it was.
-pub shifts_same : (w : World) (objects : ObjectMap) (count i b : ℕ) (gone : Place → Bool) → WorldOk w objects count → Shifts w w objects count i b gone
-shifts_same w objects count i b gone ok = record {
-  world = ok;
-  fits = λ p f v e k. k;
-  sent = λ j. refl;
-  top = λ j n. refl;
-  context = λ l n. refl;
-  contexts = λ j l there n k. refl;
-  opened = λ j l n e. e;
-  alias = λ j c f v there n a. a;
-  over = λ j m l there n o. o;
-  low = λ m l n k o. o;
-}
 
 no_more : (n m : ℕ) → n ≡ m → n ≡ m + 0
 no_more n m e = omega (arith, e)

@@ -1,17 +1,15 @@
 -- What is read of a slot, by regions: an alias on the stack, and that it may be used.
-use Rattle.std.specs.Prelude.{◌≡◌, ◌≢◌, ◌⊎◌, ℕ, ◌+◌, ◌<◌, ◌≤◌, Bool, true, false, Option, Some, None, refl}
+use Rattle.std.specs.Prelude.{◌≡◌, ◌⊎◌, ℕ, ◌+◌, ◌<◌, ◌≤◌, true, false, Option, Some, None, refl}
 use Rattle.std.proofs.Common.{inl, inr, ap, sym, subst, ◌∙◌, arith}
-use Rattle.std.proofs.lemmas.Option.{same_Some, none-some}
 use Rattle.pc_heap.specs.Objects.{ObjectMap}
 use Rattle.pc_heap.specs.declared.value.Value.{Value}
 use Rattle.pc_heap.specs.declared.value.Value.TheVariants.{Num, Truth, Text, Prim, At}
 use Rattle.pc_caps.specs.Tables.{plain, unalias, sendable}
 use Rattle.pc_caps.specs.declared.capability.Cap.{Cap}
 use Rattle.pc_caps.specs.declared.capability.Cap.TheVariants as cap
-use Rattle.pc_caps.specs.declared.capability.Form.{Form}
 use Rattle.pc_caps.specs.declared.capability.Form.TheVariants as form
 use Rattle.pc_rules.specs.Threads.{false_true}
-use Rattle.pc_sound.specs.RegionWorld.{Place, InSlot, OnStack, Standing, Opened, Held, Child, World, Frozen, Belongs, slot, child, Seen, same, under, frozen, Over, over_slot, over_part, steady, FitsIn, Fits, AliasIn, Alias, WorldOk}
+use Rattle.pc_sound.specs.RegionWorld.{Place, InSlot, OnStack, Opened, Held, Child, World, slot, child, Seen, same, under, Over, over_slot, over_part, FitsIn, Fits, AliasIn, Alias, WorldOk}
 use Rattle.pc_sound.specs.RegionFrames.{OpenedTo}
 use Rattle.pc_sound.specs.RegionSettle.{FreeIn, Free}
 use Rattle.pc_sound.proofs.RegionSafe.{one_actor, context_belongs, over_is_of}

@@ -1,5 +1,5 @@
 -- Eval at literals, `this` and slots, in regions.
-use Rattle.std.specs.Prelude.{◌≡◌, ◌≢◌, ◌⊎◌, ℕ, zero, suc, ◌+◌, ◌<◌, ◌≤◌, Bool, true, false, ◌&&◌, ◌||◌, cond, List, [], ◌∷◌, length, Option, Some, None, nat_eq, slice_get, slice_set, refl}
+use Rattle.std.specs.Prelude.{◌≡◌, ◌≢◌, ◌⊎◌, ℕ, ◌+◌, ◌<◌, ◌≤◌, Bool, true, false, ◌&&◌, ◌||◌, cond, List, [], ◌∷◌, length, Option, Some, None, nat_eq, slice_get, slice_set, refl}
 use Rattle.std.proofs.Common.{inl, inr, ap, sym, subst, ◌∙◌, arith}
 use Rattle.std.proofs.lemmas.Bool.{eqb-true, eq-eqb, ne_eqb, and_parts}
 use Rattle.std.proofs.lemmas.Option.{same_Some, none-some}
@@ -32,10 +32,10 @@ use Rattle.pc_semantics.specs.Evaluation.{push_slot, take_slot}
 use Rattle.pc_rules.specs.Parts.{Ty, slot_of, reachable, full, before}
 use Rattle.pc_rules.specs.Values.{this_form}
 use Rattle.pc_rules.specs.Threads.{false_true}
-use Rattle.pc_sound.specs.Types.{OfType, OfSome, held_in}
+use Rattle.pc_sound.specs.Types.{OfType, held_in}
 use Rattle.pc_sound.specs.Tasks.{Within, Follows, EvalOk, TasksOk}
 use Rattle.pc_sound.specs.Moves.{Runs}
-use Rattle.pc_sound.specs.RegionWorld.{Place, InSlot, OnStack, InField, InMail, Opened, World, Seen, Fits, Alias, AliasIn, FitsSome, AliasSome}
+use Rattle.pc_sound.specs.RegionWorld.{Place, InSlot, OnStack, InField, InMail, Opened, World, Seen, Fits, Alias, AliasIn, FitsSome}
 use Rattle.pc_sound.specs.RegionTasks.{Entry, Rises, entry_of, EvalRises, TasksRise}
 use Rattle.pc_sound.specs.RegionFrames.{OpenedTo, ThisFits, SlotsFit, StackFits}
 use Rattle.pc_sound.specs.RegionMoves.{elsewhere, RegionMoveOk, Situated}
@@ -46,10 +46,10 @@ use Rattle.pc_sound.proofs.Needs.{Needs}
 use Rattle.pc_sound.proofs.Needed.{first_own, not_first}
 use Rattle.pc_sound.proofs.Basic.{of_lower}
 use Rattle.pc_sound.proofs.EvalValue.{not_zero, taken_lower, own_at, seen_this, slot_ok}
-use Rattle.pc_sound.proofs.EvalChildren.{within_is}
-use Rattle.pc_sound.proofs.Inverse.{Says, Used, ThisRule, LocalRule, ConsumeRule}
+use Rattle.pc_sound.proofs.Inverse.{Says, Used, ThisRule}
 use Rattle.pc_sound.proofs.RegionShifts.{others_kept, fields_kept, below_kept}
-use Rattle.pc_sound.proofs.RegionRise.{Pushes, rise, slot_depth, shifts_same, others_both, and_none, not_here, lower_frame}
+use Rattle.pc_sound.proofs.RegionSettle.{shifts_none}
+use Rattle.pc_sound.proofs.RegionRise.{Pushes, rise, slot_depth, others_both, and_none, not_here, lower_frame}
 use Rattle.pc_sound.proofs.RegionChildren.{at_depth}
 use Rattle.pc_sound.proofs.RegionSlot.{slot_read, iso_free, trn_free}
 
@@ -351,7 +351,7 @@ module _ (core : CoreData) (ann : Ann) (needs : Needs core ann) (climb : ClimbLa
 
       -- What is not `iso` or `trn` is only copied.
       copied : Fits w place (unalias p.1) value_at.value → RegionMoveOk core ann w around fs (Goes (pushed (with_slot f z None) value_at.value))
-      copied fits = taken_goes w (shifts_same w around.objects around.actors i base (one_slot i h z) s.world) top_at s.active.opened fits
+      copied fits = taken_goes w (shifts_none w around.objects around.actors i base (one_slot i h z) s.world) top_at s.active.opened fits
 
       abbrev held_at : Place
       held_at = InSlot i h z (base + u.slot.0.depth)

@@ -93,7 +93,7 @@ module _ (core : CoreData) (ann : Ann) (needs : Needs core ann) (around : Around
 
 module _ (core : CoreData) (ann : Ann) (needs : Needs core ann) (around : Around) (f : Frame) (fs : List Frame) (r : Runs core ann around f fs) (e : ReturnOk core f.method r.held.set r.held.wants) where
   -- A constructor's object is finished.
-  built : constructs e.own.kind ≡ true → Finished around.objects r.held.this
+  pub built : constructs e.own.kind ≡ true → Finished around.objects r.held.this
   built c =
       let is : e.own ≡ r.held.own = same_Some e.own r.held.own (sym e.is_own ∙ r.held.is_own) in
       all_set core ann needs around.objects around.actors r.held.set e.own.entity r.held.this r.objects

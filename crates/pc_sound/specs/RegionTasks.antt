@@ -119,6 +119,7 @@ pub record EvalRises (core : CoreData) (ann : Ann) (m d : ℕ) (l : Mask) (below
   pub note : Note
   pub is_note : slice_get ann.notes n ≡ Some note
   pub own : node.method ≡ m
+  pub inner : node.kind ≡ nodes.Body → ⊥
   pub depth : node.depth ≡ d
   pub live : Within note.live_before l
   pub follows : Rises core m note.live_after (entry_of node note) below go
@@ -156,6 +157,7 @@ pub record TestRises (core : CoreData) (ann : Ann) (m d : ℕ) (l : Mask) (g : L
   pub kind : is_lazy node.kind ≡ true
   pub note : Note
   pub is_note : slice_get ann.notes n ≡ Some note
+  pub ty : note.ty ≡ Some (2, form.Val)
   pub depth : node.depth ≡ d
   pub left : ℕ
   pub right : ℕ
@@ -193,6 +195,7 @@ pub record LoopRises (core : CoreData) (ann : Ann) (m d : ℕ) (l : Mask) (g : L
   pub is_node : slice_get core.nodes n ≡ Some node
   pub note : Note
   pub is_note : slice_get ann.notes n ≡ Some note
+  pub ty : note.ty ≡ Some (0, form.Val)
   pub depth : node.depth ≡ d
   pub condition : ℕ
   pub body : ℕ
