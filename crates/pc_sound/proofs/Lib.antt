@@ -79,3 +79,4 @@ mod RegionStored
 mod RegionStore
 mod RegionStoreTask
 mod RegionStores
+mod RegionCalled

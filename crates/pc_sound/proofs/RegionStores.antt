@@ -92,8 +92,8 @@ module _ (settle : SettleLaw) (take : TakeLaw) (core : CoreData) (climb : ClimbL
   store_kind (nodes.Assign z) is h said = let q = rule_of z g.note.rule said in stored z (names_is core ann needs around f fs r stores n me (nodes.Assign z) is) q.0 q.1
   store_kind k is h said = absurd (false_true h)
 
-pub regions_store : SettleLaw → TakeLaw → ((core : CoreData) → ClimbLaw core) → ((core : CoreData) (ann : Ann) → Needs core ann → LiveShallow core ann) → (n : ℕ) → KeepsRegions (task.Store n)
+pub regions_store : SettleLaw → TakeLaw → ((core : CoreData) (ann : Ann) → Needs core ann → ClimbLaw core) → ((core : CoreData) (ann : Ann) → Needs core ann → LiveShallow core ann) → (n : ℕ) → KeepsRegions (task.Store n)
 regions_store settle take climb flat n core ann needs around f fs r e w s =
     let g = s.tasks in
-    rw (g.is_node) (store_kind settle take core (climb core) ann (flat core ann needs) needs around f fs r n e w s g g.node.kind refl g.kind
+    rw (g.is_node) (store_kind settle take core (climb core ann needs) ann (flat core ann needs) needs around f fs r n e w s g g.node.kind refl g.kind
     (rule_is core ann needs around f fs r stores n (finish_at core ann f.method r.held.live r.held.set r.held.wants stores n (λ l s g. TasksOk core ann f.method f.tasks l s g) e g.node g.note g.is_node g.is_note)))
