@@ -79,3 +79,6 @@ mod RegionTakes
 mod RegionReturn
 mod RegionStored
 mod RegionStore
+mod RegionStoreTask
+mod RegionStores
+mod RegionCalled

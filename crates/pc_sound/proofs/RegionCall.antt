@@ -143,7 +143,7 @@ piled_shallow : (ann : Ann) (d : ℕ) (cs : List ℕ) (below : List Entry) → S
 piled_shallow ann d [] below k = k
 piled_shallow ann d (c ∷ cs) below k = (piled_shallow ann d cs (record { ty = type_of ann c; depth = d } ∷ below) k).1
 
-lower_shift : (w w' : World) (objects : ObjectMap) (count i b c : ℕ) (gone : Place → Bool) → c ≤ b → Shifts w w' objects count i b gone → Shifts w w' objects count i c gone
+pub lower_shift : (w w' : World) (objects : ObjectMap) (count i b c : ℕ) (gone : Place → Bool) → c ≤ b → Shifts w w' objects count i b gone → Shifts w w' objects count i c gone
 lower_shift w w' objects count i b c gone low x = record {
   world = x.world;
   fits = x.fits;

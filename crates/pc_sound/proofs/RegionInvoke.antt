@@ -175,8 +175,8 @@ module _ (settle : SettleLaw) (core : CoreData) (climb : ClimbLaw core) (ann : A
         ]
       ]
 
-pub regions_invoke : SettleLaw → LentLaw → ((core : CoreData) → ClimbLaw core) → (n : ℕ) → KeepsRegions (task.Invoke n)
+pub regions_invoke : SettleLaw → LentLaw → ((core : CoreData) (ann : Ann) → Needs core ann → ClimbLaw core) → (n : ℕ) → KeepsRegions (task.Invoke n)
 regions_invoke settle lends climb n core ann needs around f fs r e w s =
     let g = s.tasks in
     let k = invokes_is g.node.kind g.kind in
-    rw (g.is_node, k.1) (invoke_ok settle core (climb core) ann needs around f fs r n e w s g k.0 k.1 lends)
+    rw (g.is_node, k.1) (invoke_ok settle core (climb core ann needs) ann needs around f fs r n e w s g k.0 k.1 lends)
