@@ -116,9 +116,9 @@ applies_this k a h = false_true h
 -- ---- the task
 
 module _ (core : CoreData) (ann : Ann) (needs : Needs core ann) (around : Around) (f : Frame) (fs : List Frame) (r : Runs core ann around f fs) (n : ℕ) (e : FinishOk core ann f.method r.held.live r.held.set r.held.wants applies n (λ l s g. TasksOk core ann f.method f.tasks l s g))
-  -- what holds where a text is too long, and where what the operands leave below them gets the result, which is no object's address
-  (Holds : Move → Type 0) (long : Holds Overflows)
-  (done : (us rest : List Value) (ty : Ty) (v : Value) → f.stack ≡ us ++ rest → length us ≡ length e.node.children → Says e.note (Some ty) e.behind → StackOk core around.objects r.held.this e.below rest → OfType core around.objects ty v → no_object v ≡ true → Holds (Goes (pushed (with_stack f rest) v))) where
+    -- what holds where a text is too long, and where what the operands leave below them gets the result, which is no object's address
+    (Holds : Move → Type 0) (long : Holds Overflows)
+    (done : (us rest : List Value) (ty : Ty) (v : Value) → f.stack ≡ us ++ rest → length us ≡ length e.node.children → Says e.note (Some ty) e.behind → StackOk core around.objects r.held.this e.below rest → OfType core around.objects ty v → no_object v ≡ true → Holds (Goes (pushed (with_stack f rest) v))) where
   -- The move goes by what is on top.
   top_by : (v : Value) (rest : List Value) (next : Value → Frame → Move) → f.stack ≡ v ∷ rest → Holds (next v (with_stack f rest)) → Holds (with_top f f.stack next)
   top_by v rest next is k = subst (λ (vs : List Value). Holds (with_top f vs next)) (sym is) k

@@ -77,7 +77,7 @@ shallow_behind [] below d k = k
 shallow_behind (e ∷ es) below d k = shallow_behind es below d k.1
 
 module _ (core : CoreData) (ann : Ann) (needs : Needs core ann) (climb : ClimbLaw core) (around : Around) (f : Frame) (fs : List Frame) (r : Runs core ann around f fs) (w : World) (n : ℕ) (s : Situated core ann w around f (task.Apply n ∷ f.tasks) fs)
-  (e : FinishOk core ann f.method r.held.live r.held.set r.held.wants applies n (λ l z g. TasksOk core ann f.method f.tasks l z g)) (x : FinishRises core ann f.method s.active.depth s.active.holds.live s.active.holds.entries applies n (λ d l g. TasksRise core ann f.method f.tasks d l g)) where
+    (e : FinishOk core ann f.method r.held.live r.held.set r.held.wants applies n (λ l z g. TasksOk core ann f.method f.tasks l z g)) (x : FinishRises core ann f.method s.active.depth s.active.holds.live s.active.holds.entries applies n (λ d l g. TasksRise core ann f.method f.tasks d l g)) where
   abbrev base : ℕ
   base = s.active.holds.base
 

@@ -205,8 +205,8 @@ left_lent core ann around f fs ts w s does n go e m =
 -- ---- a call
 
 module _ (settle : SettleLaw) (core : CoreData) (ann : Ann) (needs : Needs core ann) (around : Around) (f : Frame) (fs : List Frame) (r : Runs core ann around f fs) (n : ℕ)
-  (e : FinishOk core ann f.method r.held.live r.held.set r.held.wants invokes n (λ l s g. TasksOk core ann f.method f.tasks l s g)) (w : World) (s : Situated core ann w around f (task.Invoke n ∷ f.tasks) fs)
-  (g : FinishRises core ann f.method s.active.depth s.active.holds.live s.active.holds.entries invokes n (λ d l st. TasksRise core ann f.method f.tasks d l st)) (name : ℕ) (is_call : g.node.kind ≡ nodes.Call name) where
+    (e : FinishOk core ann f.method r.held.live r.held.set r.held.wants invokes n (λ l s g. TasksOk core ann f.method f.tasks l s g)) (w : World) (s : Situated core ann w around f (task.Invoke n ∷ f.tasks) fs)
+    (g : FinishRises core ann f.method s.active.depth s.active.holds.live s.active.holds.entries invokes n (λ d l st. TasksRise core ann f.method f.tasks d l st)) (name : ℕ) (is_call : g.node.kind ≡ nodes.Call name) where
   abbrev pub level : ℕ
   level = s.active.holds.base + s.active.depth
 
@@ -388,9 +388,9 @@ module _ (settle : SettleLaw) (core : CoreData) (ann : Ann) (needs : Needs core 
         in
         let context : u.context i (suc level) ≡ q = all.calm.context i (suc level) s.here (subst (λ (j : ℕ). suc level ≤ j) (sym top) last_level) ∙ home_is in
         let open_still : OpenedTo u i base s.active.depth = λ j up to.
-            let low : j ≤ w.top i = low_enough j to in
-            ap u.stands (all.calm.context i j s.here (up_far j (w.top i) (v.top i) low (top ∙ ap suc (sym is_top))))
-            ∙ all.calm.opened (v.context i j) i (ap w.stands (lent_before w i q j low) ∙ s.active.opened j up to)
+        let low : j ≤ w.top i = low_enough j to in
+        ap u.stands (all.calm.context i j s.here (up_far j (w.top i) (v.top i) low (top ∙ ap suc (sym is_top))))
+        ∙ all.calm.opened (v.context i j) i (ap w.stands (lent_before w i q j low) ∙ s.active.opened j up to)
         in
         let go = λ (d : ℕ) (l : Mask) (es : List Entry). TasksRise core ann f.method f.tasks d l es in
         let left = left_lent core ann around f fs (task.Invoke n ∷ f.tasks) w s invokes n go g m in

@@ -63,7 +63,7 @@ pub record Rests (core : CoreData) (ann : Ann) (w : World) (i m base d : ℕ) (l
   pub wait : WaitFits core ann w i base m fs
 
 module _ (core : CoreData) (ann : Ann) (around : Around) (f : Frame) (fs : List Frame) (ts : List Task) (w : World) (s : Situated core ann w around f ts fs)
-  (does : NodeKind → Bool) (n : ℕ) (go : ℕ → Mask → List Entry → Type 0) (e : FinishRises core ann f.method s.active.depth s.active.holds.live s.active.holds.entries does n go) where
+    (does : NodeKind → Bool) (n : ℕ) (go : ℕ → Mask → List Entry → Type 0) (e : FinishRises core ann f.method s.active.depth s.active.holds.live s.active.holds.entries does n go) where
   -- What the children left is taken.
   pub pull_all : Pulled ann w around.actor (length fs) s.active.holds.base s.active.depth e.node.children e.below f.stack
   pull_all = pull ann w around.actor (length fs) s.active.holds.base s.active.depth e.node.children e.below f.stack (subst (λ (g : List Entry). StackFits w around.actor (length fs) s.active.holds.base g f.stack) e.stack s.active.holds.stack_fit)

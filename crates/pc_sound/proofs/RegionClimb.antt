@@ -167,14 +167,14 @@ module _ (core : CoreData) (ann : Ann) (needs : Needs core ann) (settle : Settle
       record {
         stands = record { world = s.world; here = s.here; top = s.top; opened = s.opened; typed = tt; fits = tt; alias = tt };
         shifts = shifts_none w objects count i base (passed i h n (base + e.depth)) s.world;
-      })
+      },
+    )
 
     joins_some : (g t : Ty) → e.ty ≡ Some t → Below core t g → (x : World) × Climbed core w x objects count i h n base (record { ty = Some g; depth = e.depth }) v
     joins_some g t is below =
         let gone : Place → Bool = passed i h n (base + e.depth) in
         let got = settle w objects count s.world i s.here h n (base + e.depth) at_top gone (passed_self i h n (base + e.depth) (base + e.depth)) place t.1 g.1 v below.1 (fits_at t is) (near_same w i h n (base + e.depth) t.1 g.1) (refl, at_top) in
-        let t2 = s.top in
-        (
+        let t2 = s.top in (
           got.0,
           record {
             stands = record {
@@ -187,15 +187,15 @@ module _ (core : CoreData) (ann : Ann) (needs : Needs core ann) (settle : Settle
               alias = subst (λ (k : ℕ). Alias got.0 i base k g.1 v) s.top (got.1.fresh base low_base (λ trn. ap (w.context i) (sym s.top)) (subst (λ (k : ℕ). Alias w i base k t.1 v) (sym s.top) (alias_at t is)));
             };
             shifts = shifts_less w got.0 objects count i (w.top i) base gone gone low_base (λ p z. z) got.1.shifts;
-          })
+          },
+        )
 
     -- ---- deciding
 
     decides : (t : Ty) → e.ty ≡ Some t → t.0 ≡ 2 → (x : World) × Climbed core w x objects count i h n base (record { ty = Some (2, form.Val); depth = e.depth }) v
     decides t is two =
         let b = is_truth core ann needs objects t.1 v (subst (λ (k : ℕ). OfType core objects (k, t.1) v) two (typed_at t is)) in
-        let typed : OfType core objects (2, form.Val) (Truth b.0) = record { entity = 2; is_entity = refl; below = inl refl; kind = tt; finished = λ h. tt } in
-        (
+        let typed : OfType core objects (2, form.Val) (Truth b.0) = record { entity = 2; is_entity = refl; below = inl refl; kind = tt; finished = λ h. tt } in (
           w,
           record {
             stands = record {
@@ -208,7 +208,8 @@ module _ (core : CoreData) (ann : Ann) (needs : Needs core ann) (settle : Settle
               alias = subst (λ (u : Value). Alias w i base (base + e.depth) form.Val u) (sym b.1) tt;
             };
             shifts = shifts_none w objects count i base (passed i h n (base + e.depth)) s.world;
-          })
+          },
+        )
 
     -- ---- the end of a recover
 
@@ -335,14 +336,14 @@ module _ (core : CoreData) (ann : Ann) (needs : Needs core ann) (settle : Settle
       frozenly f is fit = (
         cold w same_shifts s.top s.opened,
         c_lifted w same_shifts s.top s.opened Froze (ice_parent w same_shifts s.top s.opened) (ice_holder w same_shifts s.top s.opened) f
-        (subst (λ (g : Form). Fits (cold w same_shifts s.top s.opened) to g v) (sym is) (box_out w same_shifts s.top s.opened fit)),
+            (subst (λ (g : Form). Fits (cold w same_shifts s.top s.opened) to g v) (sym is) (box_out w same_shifts s.top s.opened fit)),
       )
 
       heldly : (f : Form) → lift f ≡ form.IsoE → (a : World) (x : Shifts w a objects count i base gone) (last : a.top i ≡ base + e.depth) (ajar : OpenedTo a i base e.depth) → Fits a place form.Ref v → (x : World) × Lifted x f
       heldly f is a x last ajar fit = (
         closed a x last ajar (Held to) (no_parent a x last ajar) (no_holder a x last ajar),
         c_lifted a x last ajar (Held to) (no_parent a x last ajar) (no_holder a x last ajar) f
-        (subst (λ (g : Form). Fits (closed a x last ajar (Held to) (no_parent a x last ajar) (no_holder a x last ajar)) to g v) (sym is) (held_fits a x last ajar v fit)),
+            (subst (λ (g : Form). Fits (closed a x last ajar (Held to) (no_parent a x last ajar) (no_holder a x last ajar)) to g v) (sym is) (held_fits a x last ajar v fit)),
       )
 
       lifted : (f : Form) → Fits w place f v → (x : World) × Lifted x f
@@ -386,13 +387,13 @@ module _ (core : CoreData) (ann : Ann) (needs : Needs core ann) (settle : Settle
               alias = subst (λ (f : Form). Alias x i base low f v) at (lift_alias x i base low t.1 v);
             };
             shifts = out.shifts;
-          })
+          },
+        )
 
         as_written : (k : Cap) → fits (lift t.1) k ≡ true → unalias k ≡ g.1 → (y : World) × Climbed core w y objects count i h n base (record { ty = Some g; depth = e.depth - 1 }) v
         as_written k may at =
             let t2 = out.top in
-            let got = settle x objects count out.shifts.world i s.here h n low (omega (arith, t2)) gone (passed_self i h n low low) to (lift t.1) (unalias k) v may out.fits (near_same x i h n low (lift t.1) (unalias k)) (refl, omega (arith, t2)) in
-            (
+            let got = settle x objects count out.shifts.world i s.here h n low (omega (arith, t2)) gone (passed_self i h n low low) to (lift t.1) (unalias k) v may out.fits (near_same x i h n low (lift t.1) (unalias k)) (refl, omega (arith, t2)) in (
               got.0,
               record {
                 stands = record {
@@ -405,7 +406,8 @@ module _ (core : CoreData) (ann : Ann) (needs : Needs core ann) (settle : Settle
                   alias = subst (λ (f : Form). Alias got.0 i base low f v) at (no_alias got.0 i base low k v);
                 };
                 shifts = both_passed w x got.0 objects count i base h n low low (omega arith) out.shifts (shifts_less x got.0 objects count i (x.top i) base gone gone (omega (arith, t2)) (λ p z. z) got.1.shifts);
-              })
+              },
+            )
 
       recovers : (k : Option Cap) (t : Ty) (f : Form) → e.ty ≡ Some t → recovered k t.1 ≡ Some f → (y : World) × Climbed core w y objects count i h n base (record { ty = Some (t.0, f); depth = e.depth - 1 }) v
       recovers None t f is out =

@@ -245,99 +245,99 @@ module _ (w : World) (i q : ℕ) (plain : w.role q ≡ None) where
       ]
 
 module _
-  (w : World) (objects : ObjectMap) (count : ℕ) (ok : WorldOk w objects count) (i : ℕ) (here : i < count) (b : ℕ) (floor : b ≤ w.top i)
-  (above : (j : ℕ) → b < j → j ≤ w.top i → w.stands (w.context i j) ≡ Opened i) (q n : ℕ) (plain : w.role q ≡ None) (least : b ≤ n) (most : n ≤ w.top i) (held : Over w i q n)
+    (w : World) (objects : ObjectMap) (count : ℕ) (ok : WorldOk w objects count) (i : ℕ) (here : i < count) (b : ℕ) (floor : b ≤ w.top i)
+    (above : (j : ℕ) → b < j → j ≤ w.top i → w.stands (w.context i j) ≡ Opened i) (q n : ℕ) (plain : w.role q ≡ None) (least : b ≤ n) (most : n ≤ w.top i) (held : Over w i q n)
   where
-  same_children : (x u : ℕ) (at : Option Place) → w.stands x ≡ Child u at → (to : Option Place) × (w.stands x ≡ Child u to) × (steady at ≡ true → steady to ≡ true)
-  same_children x u at e = (at, e, λ s. s)
+    same_children : (x u : ℕ) (at : Option Place) → w.stands x ≡ Child u at → (to : Option Place) × (w.stands x ≡ Child u to) × (steady at ≡ true → steady to ≡ true)
+    same_children x u at e = (at, e, λ s. s)
 
-  over_by : (j l : ℕ) → ((x : ℕ) → Over w j x l → q ≡ x → ⊥) → (x : ℕ) → Over w j x l → Over (lent w i q) j x l
-  over_by j l far x o =
-      renewed.over_same w (lent w i q) (λ a. refl) (λ y e. e) (λ y a k e. e) same_children j l
-      (λ y e. e) (λ y h s e. e) (λ y e. lent_role w i q plain y j l e) (λ y k e. lent_none w i q plain y (far y k) e) o
+    over_by : (j l : ℕ) → ((x : ℕ) → Over w j x l → q ≡ x → ⊥) → (x : ℕ) → Over w j x l → Over (lent w i q) j x l
+    over_by j l far x o =
+        renewed.over_same w (lent w i q) (λ a. refl) (λ y e. e) (λ y a k e. e) same_children j l
+        (λ y e. e) (λ y h s e. e) (λ y e. lent_role w i q plain y j l e) (λ y k e. lent_none w i q plain y (far y k) e) o
 
-  -- Lower levels are not over q, and neither are those of other actors.
-  not_low : (l : ℕ) → l < b → (x : ℕ) → Over w i x l → q ≡ x → ⊥
-  not_low l low x o is = let e = one_level w i l held (subst (λ (y : ℕ). Over w i y l) (sym is) o) in omega (arith, e, low, least)
+    -- Lower levels are not over q, and neither are those of other actors.
+    not_low : (l : ℕ) → l < b → (x : ℕ) → Over w i x l → q ≡ x → ⊥
+    not_low l low x o is = let e = one_level w i l held (subst (λ (y : ℕ). Over w i y l) (sym is) o) in omega (arith, e, low, least)
 
-  not_theirs : (j : ℕ) → i ≢ j → (x : ℕ) → Belongs w j x → q ≡ x → ⊥
-  not_theirs j differ x k is = differ (one_actor w j (over_is_of w objects count ok i here held) (subst (Belongs w j) (sym is) k))
+    not_theirs : (j : ℕ) → i ≢ j → (x : ℕ) → Belongs w j x → q ≡ x → ⊥
+    not_theirs j differ x k is = differ (one_actor w j (over_is_of w objects count ok i here held) (subst (Belongs w j) (sym is) k))
 
-  over_low : (l x : ℕ) → l < b → Over w i x l → Over (lent w i q) i x l
-  over_low l x low o = over_by i l (λ y k is. not_low l low y k is) x o
+    over_low : (l x : ℕ) → l < b → Over w i x l → Over (lent w i q) i x l
+    over_low l x low o = over_by i l (λ y k is. not_low l low y k is) x o
 
-  over_theirs : (j l x : ℕ) → j < count → i ≢ j → Over w j x l → Over (lent w i q) j x l
-  over_theirs j l x there differ o = over_by j l (λ y k is. not_theirs j differ y (over_is_of w objects count ok j there k) is) x o
+    over_theirs : (j l x : ℕ) → j < count → i ≢ j → Over w j x l → Over (lent w i q) j x l
+    over_theirs j l x there differ o = over_by j l (λ y k is. not_theirs j differ y (over_is_of w objects count ok j there k) is) x o
 
-  old_on : (j l : ℕ) → j < count → l ≤ w.top j → ((w.stands (w.context j l) ≡ Opened j) ⊎ ((m : ℕ) × (m < l) × Over w j (w.context j l) m))
-      → (w.stands (w.context j l) ≡ Opened j) ⊎ ((m : ℕ) × (m < l) × Over (lent w i q) j (w.context j l) m)
-  old_on j l there t (inl e) = inl e
-  old_on j l there t (inr o) =
-      elim (cases_eq i j) [
-        | inl is ↦ elim (cases_lt b l) [
-          | inl up ↦ inl (subst (λ (k : ℕ). w.stands (w.context k l) ≡ Opened k) is (above l up (subst (λ (k : ℕ). l ≤ w.top k) (sym is) t)))
-          | inr low ↦ let m : ℕ = o.0 in
-              let under_it = o.1 in
-              inr (m, o.1, subst (λ (k : ℕ). Over (lent w i q) k (w.context j l) m) is (over_low m (w.context j l) (omega (arith, under_it, low)) (subst (λ (k : ℕ). Over w k (w.context j l) m) (sym is) o.2)))
+    old_on : (j l : ℕ) → j < count → l ≤ w.top j → ((w.stands (w.context j l) ≡ Opened j) ⊎ ((m : ℕ) × (m < l) × Over w j (w.context j l) m))
+        → (w.stands (w.context j l) ≡ Opened j) ⊎ ((m : ℕ) × (m < l) × Over (lent w i q) j (w.context j l) m)
+    old_on j l there t (inl e) = inl e
+    old_on j l there t (inr o) =
+        elim (cases_eq i j) [
+          | inl is ↦ elim (cases_lt b l) [
+            | inl up ↦ inl (subst (λ (k : ℕ). w.stands (w.context k l) ≡ Opened k) is (above l up (subst (λ (k : ℕ). l ≤ w.top k) (sym is) t)))
+            | inr low ↦ let m : ℕ = o.0 in
+                let under_it = o.1 in
+                inr (m, o.1, subst (λ (k : ℕ). Over (lent w i q) k (w.context j l) m) is (over_low m (w.context j l) (omega (arith, under_it, low)) (subst (λ (k : ℕ). Over w k (w.context j l) m) (sym is) o.2)))
+          ]
+          | inr differ ↦ inr (o.0, o.1, over_theirs j o.0 (w.context j l) there differ o.2)
         ]
-        | inr differ ↦ inr (o.0, o.1, over_theirs j o.0 (w.context j l) there differ o.2)
-      ]
 
-  all_on : (j l : ℕ) → j < count → l ≤ with_number w.top i (suc (w.top i)) j
-      → (w.stands ((lent w i q).context j l) ≡ Opened j) ⊎ ((m : ℕ) × (m < l) × Over (lent w i q) j ((lent w i q).context j l) m)
-  all_on j l there t =
-      elim (levels w objects count ok i here q plain j l t) [
-        | inl k ↦ let at : suc (w.top i) ≡ l = k.1 in
-            let now : Over (lent w i q) i ((lent w i q).context j l) n = subst (λ (y : ℕ). Over (lent w i q) i y n) (sym (context_here w.context i (suc (w.top i)) q j l k.0 k.1)) (over_lent w i q plain i n held) in
-            inr (n, omega (arith, most, at), subst (λ (y : ℕ). Over (lent w i q) y ((lent w i q).context j l) n) k.0 now)
-        | inr low ↦ subst (λ (c : ℕ). (w.stands c ≡ Opened j) ⊎ ((m : ℕ) × (m < l) × Over (lent w i q) j c m)) (sym (old_context w objects count ok i here q plain j l low)) (old_on j l there low (ok.contexts j l there low))
-      ]
+    all_on : (j l : ℕ) → j < count → l ≤ with_number w.top i (suc (w.top i)) j
+        → (w.stands ((lent w i q).context j l) ≡ Opened j) ⊎ ((m : ℕ) × (m < l) × Over (lent w i q) j ((lent w i q).context j l) m)
+    all_on j l there t =
+        elim (levels w objects count ok i here q plain j l t) [
+          | inl k ↦ let at : suc (w.top i) ≡ l = k.1 in
+              let now : Over (lent w i q) i ((lent w i q).context j l) n = subst (λ (y : ℕ). Over (lent w i q) i y n) (sym (context_here w.context i (suc (w.top i)) q j l k.0 k.1)) (over_lent w i q plain i n held) in
+              inr (n, omega (arith, most, at), subst (λ (y : ℕ). Over (lent w i q) y ((lent w i q).context j l) n) k.0 now)
+          | inr low ↦ subst (λ (c : ℕ). (w.stands c ≡ Opened j) ⊎ ((m : ℕ) × (m < l) × Over (lent w i q) j c m)) (sym (old_context w objects count ok i here q plain j l low)) (old_on j l there low (ok.contexts j l there low))
+        ]
 
-  lent_ok : WorldOk (lent w i q) objects count
-  lent_ok = record {
-    zero = role_kept w objects count ok i here q plain 0 0 0 ok.zero;
-    named = λ j l t u. named_on w objects count ok i here q plain j l t u;
-    roles = λ x j l e. roles_on w objects count ok i here q plain x j l e;
-    root = λ j t. ap w.stands (old_context w objects count ok i here q plain j 0 (omega arith)) ∙ ok.root j t;
-    own = λ j t. ok.own j t ∙ sym (old_context w objects count ok i here q plain j 0 (omega arith));
-    contexts = all_on;
-    unused = λ x more. let u = ok.unused x more in (u.0, lent_none w i q plain x (λ is. over_used w i q n held (ap w.stands is ∙ u.0)) u.1);
-    regions = ok.regions;
-    parents = ok.parents;
-    holders = ok.holders;
-  }
-
-  lent_alias : (j c : ℕ) → j < count → i ≢ j → (f : Form) (v : Value) → Alias w j c (w.top j) f v → Alias (lent w i q) j c (w.top j) f v
-  lent_alias j c there differ f v a =
-      renewed.alias_same w (lent w i q) (λ a. refl) (λ y e. e) (λ y a k e. e) same_children j (w.top j)
-      (λ l x u o. over_theirs j l x there differ o) (λ x l o e. lent_none w i q plain x (not_theirs j differ x (over_is_of w objects count ok j there o)) e)
-      (λ x at e r. lent_none w i q plain x (not_theirs j differ x (child (w.context j (w.top j)) at e (context_belongs w objects count ok j there (w.top j) (omega arith)))) r)
-      (λ x u at e. (at, e)) (old_context w objects count ok i here q plain j (w.top j) (omega arith)) c f v a
-
-  module _ (gone : Place → Bool) (high : (p : Place) → higher i (w.top i) p ≡ true → gone p ≡ true) where
-    lent_homes : (p : Place) → gone p ≡ false → home (lent w i q) p ≡ home w p
-    lent_homes (InSlot j h s l) g = place_home w objects count ok i here q plain (gone (InSlot j h s l)) j l (λ e. high (InSlot j h s l) e) g
-    lent_homes (OnStack j h d l) g = place_home w objects count ok i here q plain (gone (OnStack j h d l)) j l (λ e. high (OnStack j h d l) e) g
-    lent_homes (InField a k) g = refl
-    lent_homes (InMail j t k) g = refl
-
-    lent_shifts : Shifts w (lent w i q) objects count i b gone
-    lent_shifts = record {
-      world = lent_ok;
-      fits = λ p f v g e. renewed.fits_same w (lent w i q) (λ a. refl) (λ y e. e) (λ y a k e. e) same_children gone lent_homes (λ x p g e. e) (λ x u p g e. e) p f v g e;
-      sent = λ j. refl;
-      top = λ j n. number_other w.top i (suc (w.top i)) j n;
-      context = λ l n. old_context w objects count ok i here q plain i l (omega (arith, n, floor));
-      contexts = λ j l t n u. old_context w objects count ok i here q plain j l u;
-      opened = λ j l n e. ap w.stands (near j l n) ∙ e;
-      alias = λ j c f v t n a. lent_alias j c t n f v a;
-      over = λ j m l t n o. subst (λ (x : ℕ). Over (lent w i q) j x l) (sym (near j m (inl n))) (over_theirs j l (w.context j m) t n o);
-      low = λ m l n k o. subst (λ (x : ℕ). Over (lent w i q) i x l) (sym (near i m (inr n))) (over_low l (w.context i m) k o);
+    lent_ok : WorldOk (lent w i q) objects count
+    lent_ok = record {
+      zero = role_kept w objects count ok i here q plain 0 0 0 ok.zero;
+      named = λ j l t u. named_on w objects count ok i here q plain j l t u;
+      roles = λ x j l e. roles_on w objects count ok i here q plain x j l e;
+      root = λ j t. ap w.stands (old_context w objects count ok i here q plain j 0 (omega arith)) ∙ ok.root j t;
+      own = λ j t. ok.own j t ∙ sym (old_context w objects count ok i here q plain j 0 (omega arith));
+      contexts = all_on;
+      unused = λ x more. let u = ok.unused x more in (u.0, lent_none w i q plain x (λ is. over_used w i q n held (ap w.stands is ∙ u.0)) u.1);
+      regions = ok.regions;
+      parents = ok.parents;
+      holders = ok.holders;
     }
-      where
-        near : (j l : ℕ) → (i ≢ j) ⊎ (l ≤ b) → (lent w i q).context j l ≡ w.context j l
-        near j l (inl n) = context_other w.context i (suc (w.top i)) q j l (λ is at. n is)
-        near j l (inr n) = context_other w.context i (suc (w.top i)) q j l (λ is at. omega (arith, at, n, floor))
+
+    lent_alias : (j c : ℕ) → j < count → i ≢ j → (f : Form) (v : Value) → Alias w j c (w.top j) f v → Alias (lent w i q) j c (w.top j) f v
+    lent_alias j c there differ f v a =
+        renewed.alias_same w (lent w i q) (λ a. refl) (λ y e. e) (λ y a k e. e) same_children j (w.top j)
+        (λ l x u o. over_theirs j l x there differ o) (λ x l o e. lent_none w i q plain x (not_theirs j differ x (over_is_of w objects count ok j there o)) e)
+        (λ x at e r. lent_none w i q plain x (not_theirs j differ x (child (w.context j (w.top j)) at e (context_belongs w objects count ok j there (w.top j) (omega arith)))) r)
+        (λ x u at e. (at, e)) (old_context w objects count ok i here q plain j (w.top j) (omega arith)) c f v a
+
+    module _ (gone : Place → Bool) (high : (p : Place) → higher i (w.top i) p ≡ true → gone p ≡ true) where
+      lent_homes : (p : Place) → gone p ≡ false → home (lent w i q) p ≡ home w p
+      lent_homes (InSlot j h s l) g = place_home w objects count ok i here q plain (gone (InSlot j h s l)) j l (λ e. high (InSlot j h s l) e) g
+      lent_homes (OnStack j h d l) g = place_home w objects count ok i here q plain (gone (OnStack j h d l)) j l (λ e. high (OnStack j h d l) e) g
+      lent_homes (InField a k) g = refl
+      lent_homes (InMail j t k) g = refl
+
+      lent_shifts : Shifts w (lent w i q) objects count i b gone
+      lent_shifts = record {
+        world = lent_ok;
+        fits = λ p f v g e. renewed.fits_same w (lent w i q) (λ a. refl) (λ y e. e) (λ y a k e. e) same_children gone lent_homes (λ x p g e. e) (λ x u p g e. e) p f v g e;
+        sent = λ j. refl;
+        top = λ j n. number_other w.top i (suc (w.top i)) j n;
+        context = λ l n. old_context w objects count ok i here q plain i l (omega (arith, n, floor));
+        contexts = λ j l t n u. old_context w objects count ok i here q plain j l u;
+        opened = λ j l n e. ap w.stands (near j l n) ∙ e;
+        alias = λ j c f v t n a. lent_alias j c t n f v a;
+        over = λ j m l t n o. subst (λ (x : ℕ). Over (lent w i q) j x l) (sym (near j m (inl n))) (over_theirs j l (w.context j m) t n o);
+        low = λ m l n k o. subst (λ (x : ℕ). Over (lent w i q) i x l) (sym (near i m (inr n))) (over_low l (w.context i m) k o);
+      }
+        where
+          near : (j l : ℕ) → (i ≢ j) ⊎ (l ≤ b) → (lent w i q).context j l ≡ w.context j l
+          near j l (inl n) = context_other w.context i (suc (w.top i)) q j l (λ is at. n is)
+          near j l (inr n) = context_other w.context i (suc (w.top i)) q j l (λ is at. omega (arith, at, n, floor))
 
 pub lends : LentLaw
 lends w objects count ok i here b floor above q l plain least most held gone high =

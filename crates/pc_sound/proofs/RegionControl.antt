@@ -305,10 +305,10 @@ module _ (core : CoreData) (ann : Ann) (needs : Needs core ann) (flat : LiveShal
         let o = e.follows in
         let at : at_depth d q.note.ty ≡ entry_of e.node e.note = entry_at q.note.ty q.says.ty in
         let all = items_rise core ann flat f.method d e.node.children f.tasks (before e.note) q.behind s.active.holds.live g q.last q.note o.live o.way (here nodes.Seq is) q.is_behind q.is_last q.is_note e.live s.active.shallow
-            (λ i h. items_less core e.node.children q.behind.0 i (within_is e.note.live_after _ q.says.live i (o.left i h)))
-            (subst (Climbs core o.way) (sym at) o.climbs) (subst (λ (x : Entry). Shallow g (top_of o.way x).depth) (sym at) o.shallow)
-            (subst (λ (x : Entry). SlotsShallow core f.method o.live (top_of o.way x).depth) (sym at) o.slots)
-            (subst (λ (x : Entry). TasksRise core ann f.method f.tasks (top_of o.way x).depth o.live (top_of o.way x ∷ g)) (sym at) o.next)
+        (λ i h. items_less core e.node.children q.behind.0 i (within_is e.note.live_after _ q.says.live i (o.left i h)))
+        (subst (Climbs core o.way) (sym at) o.climbs) (subst (λ (x : Entry). Shallow g (top_of o.way x).depth) (sym at) o.shallow)
+        (subst (λ (x : Entry). SlotsShallow core f.method o.live (top_of o.way x).depth) (sym at) o.slots)
+        (subst (λ (x : Entry). TasksRise core ann f.method f.tasks (top_of o.way x).depth o.live (top_of o.way x ∷ g)) (sym at) o.next)
         in
         evaluates core ann around f (task.Eval n ∷ f.tasks) fs w s (items e.node.children ++ f.tasks) all (calm_sequence e.node.children q.last q.is_last)
       where

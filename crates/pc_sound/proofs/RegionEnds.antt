@@ -201,6 +201,7 @@ was_part are i l u at (Held p) e =
   where
     loose_is : Loose i l ≡ Child u at → ⊥
     loose_is f = cc
+
     held_is : Held p ≡ Child u at → ⊥
     held_is f = cc
 
@@ -386,6 +387,7 @@ module _ (w : World) (objects : ObjectMap) (count : ℕ) (ok : WorldOk w objects
         where
           level_is : (y : ℕ) → w.role y ≡ Some (i, m) → k < m → w.context i (suc k) ≡ y
           level_is y r more = let z = ok.roles y i m r in let t = z.1 in let is : m ≡ suc k = omega (arith, t, more, last) in subst (λ (n : ℕ). w.context i n ≡ y) is z.2
+
           goes : {y : ℕ} → Over w i y m → k < m → Down y
           goes {y} (over_loose e) more = (k, omega (arith, least, most), omega arith, over_loose (loose_down y m (quits y (Loose i m) e refl) (omega (arith, more))))
           goes {y} (over_slot h s e) more =

@@ -144,7 +144,8 @@ module _ (core : CoreData) (ann : Ann) (needs : Needs core ann) (flat : LiveShal
           λ u. absurd (false_true u),
           below_under w v around.objects around.actors i (w.top i) gone x core ann (length fs) (λ h k l low under. low_kept i (w.top i) i l under) (λ h c l low under. low_kept i (w.top i) i l under) base f.method fs (omega arith) (omega (arith, top_is)) s.wait,
         );
-      })
+      },
+    )
 
     pub recover_goes : (k : Option Cap) → e.node.kind ≡ nodes.Recover k → RecoverRule core ann e.node e.note k → RegionMoveOk core ann w around fs (first_then f e.node.children [])
     recover_goes k is q =

@@ -81,8 +81,7 @@ module _ (w : World) (objects : ObjectMap) (count i base d : ℕ) (ok : WorldOk 
   from_ref cap.Iso q g is o e = subst (λ (f : Form). Reads f q) (same_Some form.Iso g is) (iso_read q (base + d) e (over_own a j e (ap w.role o ∙ is_last)) (omega arith) (omega arith))
   from_ref cap.Trn q g is o e =
       let at : w.stands q ≡ Child context (Some (InField a j)) = e ∙ ap (λ (u : ℕ). Child u (Some (InField a j))) o in
-      subst (λ (f : Form). Reads f q) (same_Some form.Trn g is)
-      (
+      subst (λ (f : Form). Reads f q) (same_Some form.Trn g is) (
         under context (Some (InField a j)) at (same refl),
         (no_role w objects count i base d ok here top opened q (base + d) (over_part context (Some (InField a j)) at refl is_last) (omega arith) (child_shut q context (Some (InField a j)) at), Some (InField a j), at, refl),
       )

@@ -51,8 +51,8 @@ base_low base c b n = omega (arith, n)
 -- ---- one frame, of which this is kept up to a level
 
 module _ (w w' : World) (i h top : ℕ)
-  (in_slot : (s l : ℕ) (f : Form) (v : Value) → l ≤ top → Fits w (InSlot i h s l) f v → Fits w' (InSlot i h s l) f v) (most : ℕ)
-  (on_stack : (d l : ℕ) (f : Form) (v : Value) → d < most → l ≤ top → Fits w (OnStack i h d l) f v → Fits w' (OnStack i h d l) f v) where
+    (in_slot : (s l : ℕ) (f : Form) (v : Value) → l ≤ top → Fits w (InSlot i h s l) f v → Fits w' (InSlot i h s l) f v) (most : ℕ)
+    (on_stack : (d l : ℕ) (f : Form) (v : Value) → d < most → l ≤ top → Fits w (OnStack i h d l) f v → Fits w' (OnStack i h d l) f v) where
   pub this_low : (core : CoreData) (m base : ℕ) (slots : List (Option Value)) → base ≤ top → ThisFits core w i h m base slots → ThisFits core w' i h m base slots
   this_low core m base slots low k x v is at = in_slot 0 base _ v low (k x v is at)
 
@@ -74,62 +74,61 @@ module _ (w w' : World) (i h top : ℕ)
 -- ---- the frames that wait
 
 module _
-  (core : CoreData) (ann : Ann) (w w' : World) (j bound level : ℕ)
-  (in_slot : (h s l : ℕ) (f : Form) (v : Value) → h < bound → l ≤ level → Fits w (InSlot j h s l) f v → Fits w' (InSlot j h s l) f v)
-  (on_stack : (h d l : ℕ) (f : Form) (v : Value) → h < bound → l ≤ level → Fits w (OnStack j h d l) f v → Fits w' (OnStack j h d l) f v)
-  (ajar : (l : ℕ) → l ≤ level → w.stands (w.context j l) ≡ Opened j → w'.stands (w'.context j l) ≡ Opened j)
-  (over : (m l : ℕ) → m ≤ level → l < level → Over w j (w.context j m) l → Over w' j (w'.context j m) l)
+    (core : CoreData) (ann : Ann) (w w' : World) (j bound level : ℕ)
+    (in_slot : (h s l : ℕ) (f : Form) (v : Value) → h < bound → l ≤ level → Fits w (InSlot j h s l) f v → Fits w' (InSlot j h s l) f v)
+    (on_stack : (h d l : ℕ) (f : Form) (v : Value) → h < bound → l ≤ level → Fits w (OnStack j h d l) f v → Fits w' (OnStack j h d l) f v)
+    (ajar : (l : ℕ) → l ≤ level → w.stands (w.context j l) ≡ Opened j → w'.stands (w'.context j l) ≡ Opened j)
+    (over : (m l : ℕ) → m ≤ level → l < level → Over w j (w.context j m) l → Over w' j (w'.context j m) l)
   where
-  pub between : (a b c : ℕ) → a ≤ b → b ≤ c → a ≤ c
-  between a b c m n = omega (arith, m, n)
+    pub between : (a b c : ℕ) → a ≤ b → b ≤ c → a ≤ c
+    between a b c m n = omega (arith, m, n)
 
-  pub not_under : (h : ℕ) → h < 0 → ⊥
-  not_under h low = omega (arith, low)
+    pub not_under : (h : ℕ) → h < 0 → ⊥
+    not_under h low = omega (arith, low)
 
-  pub lower_at : (x : Method) (t : Option Ty) (base at b : ℕ) → Entered w j x t base at b x.kind → at ≤ b
-  lower_at x t base at b e = entered_at core ann w w' j 0 (λ h s l f v low k. absurd (not_under h low)) (λ h d l f v low k. absurd (not_under h low)) level ajar over x t base at b x.kind e
+    pub lower_at : (x : Method) (t : Option Ty) (base at b : ℕ) → Entered w j x t base at b x.kind → at ≤ b
+    lower_at x t base at b e = entered_at core ann w w' j 0 (λ h s l f v low k. absurd (not_under h low)) (λ h d l f v low k. absurd (not_under h low)) level ajar over x t base at b x.kind e
 
-  pub entered_low : (x : Method) (t : Option Ty) (base at b : ℕ) → b ≤ level → Entered w j x t base at b x.kind → Entered w' j x t base at b x.kind
-  entered_low x t base at b low e = entered_kept core ann w w' j 0 (λ h s l f v low k. absurd (not_under h low)) (λ h d l f v low k. absurd (not_under h low)) level ajar over x t base at b x.kind low e
+    pub entered_low : (x : Method) (t : Option Ty) (base at b : ℕ) → b ≤ level → Entered w j x t base at b x.kind → Entered w' j x t base at b x.kind
+    entered_low x t base at b low e = entered_kept core ann w w' j 0 (λ h s l f v low k. absurd (not_under h low)) (λ h d l f v low k. absurd (not_under h low)) level ajar over x t base at b x.kind low e
 
-  abbrev pub awaits_low : (h b : ℕ) (x : Method) (f : Frame) → h < bound → b ≤ level → Awaits core ann w j h b x f → Awaits core ann w' j h b x f
-  awaits_low h b x f under floor k = record {
-    holds = record {
-      base = k.holds.base;
-      live = k.holds.live;
-      entries = k.holds.entries;
-      this_fits = this_low w w' j h level (λ s l g v low e. in_slot h s l g v under low e) (length f.stack) (λ d l g v few low e. on_stack h d l g v under low e) core f.method k.holds.base f.slots
-          (base_low k.holds.base k.call.depth level (between (k.holds.base + k.call.depth) b level (lower_at x k.call.ty k.holds.base (k.holds.base + k.call.depth) b k.entered) floor)) k.holds.this_fits;
-      slots_fit = slots_low w w' j h level (λ s l g v low e. in_slot h s l g v under low e) (length f.stack) (λ d l g v few low e. on_stack h d l g v under low e) core ann f.method k.holds.base (top_of k.way k.call).depth k.holds.live f.slots
-          (level_low k.holds.base (top_of k.way k.call).depth k.call.depth level (top_down k.way k.call) (between (k.holds.base + k.call.depth) b level (lower_at x k.call.ty k.holds.base (k.holds.base + k.call.depth) b k.entered) floor)) k.not_deeper k.holds.slots_fit;
-      stack_fit = stack_low w w' j h level (λ s l g v low e. in_slot h s l g v under low e) (length f.stack) (λ d l g v few low e. on_stack h d l g v under low e) k.holds.base (top_of k.way k.call).depth k.holds.entries f.stack
-          (level_low k.holds.base (top_of k.way k.call).depth k.call.depth level (top_down k.way k.call) (between (k.holds.base + k.call.depth) b level (lower_at x k.call.ty k.holds.base (k.holds.base + k.call.depth) b k.entered) floor)) (omega arith) k.shallow k.holds.stack_fit;
-    };
-    call = k.call;
-    entered = entered_low x k.call.ty k.holds.base (k.holds.base + k.call.depth) b floor k.entered;
-    opened = λ l up to. ajar l (between l (k.holds.base + k.call.depth) level to (between (k.holds.base + k.call.depth) b level (lower_at x k.call.ty k.holds.base (k.holds.base + k.call.depth) b k.entered) floor)) (k.opened l up to);
-    result = k.result;
-    way = k.way;
-    climbs = k.climbs;
-    shallow = k.shallow;
-    not_deeper = k.not_deeper;
-    next = k.next;
-  }
+    abbrev pub awaits_low : (h b : ℕ) (x : Method) (f : Frame) → h < bound → b ≤ level → Awaits core ann w j h b x f → Awaits core ann w' j h b x f
+    awaits_low h b x f under floor k = record {
+      holds = record {
+        base = k.holds.base;
+        live = k.holds.live;
+        entries = k.holds.entries;
+        this_fits = this_low w w' j h level (λ s l g v low e. in_slot h s l g v under low e) (length f.stack) (λ d l g v few low e. on_stack h d l g v under low e) core f.method k.holds.base f.slots
+            (base_low k.holds.base k.call.depth level (between (k.holds.base + k.call.depth) b level (lower_at x k.call.ty k.holds.base (k.holds.base + k.call.depth) b k.entered) floor)) k.holds.this_fits;
+        slots_fit = slots_low w w' j h level (λ s l g v low e. in_slot h s l g v under low e) (length f.stack) (λ d l g v few low e. on_stack h d l g v under low e) core ann f.method k.holds.base (top_of k.way k.call).depth k.holds.live f.slots
+            (level_low k.holds.base (top_of k.way k.call).depth k.call.depth level (top_down k.way k.call) (between (k.holds.base + k.call.depth) b level (lower_at x k.call.ty k.holds.base (k.holds.base + k.call.depth) b k.entered) floor)) k.not_deeper k.holds.slots_fit;
+        stack_fit = stack_low w w' j h level (λ s l g v low e. in_slot h s l g v under low e) (length f.stack) (λ d l g v few low e. on_stack h d l g v under low e) k.holds.base (top_of k.way k.call).depth k.holds.entries f.stack
+            (level_low k.holds.base (top_of k.way k.call).depth k.call.depth level (top_down k.way k.call) (between (k.holds.base + k.call.depth) b level (lower_at x k.call.ty k.holds.base (k.holds.base + k.call.depth) b k.entered) floor)) (omega arith) k.shallow k.holds.stack_fit;
+      };
+      call = k.call;
+      entered = entered_low x k.call.ty k.holds.base (k.holds.base + k.call.depth) b floor k.entered;
+      opened = λ l up to. ajar l (between l (k.holds.base + k.call.depth) level to (between (k.holds.base + k.call.depth) b level (lower_at x k.call.ty k.holds.base (k.holds.base + k.call.depth) b k.entered) floor)) (k.opened l up to);
+      result = k.result;
+      way = k.way;
+      climbs = k.climbs;
+      shallow = k.shallow;
+      not_deeper = k.not_deeper;
+      next = k.next;
+    }
 
-  -- The frame's base is what the frames below wait at; it is the same in both worlds.
-  wait_low_at : (b m : ℕ) (fs : List Frame) → length fs ≤ bound → b ≤ level → WaitFits core ann w j b m fs → WaitFits core ann w' j b m fs
-  wait_low_at b m [] few floor k = k
-  wait_low_at b m (f ∷ fs) few floor k =
-      (
-        k.0,
-        k.1,
-        awaits_low (length fs) b k.0 f (omega (arith, few)) floor k.2,
-        wait_low_at k.2.holds.base f.method fs (omega (arith, few))
-            (base_low k.2.holds.base k.2.call.depth level (between (k.2.holds.base + k.2.call.depth) b level (lower_at k.0 k.2.call.ty k.2.holds.base (k.2.holds.base + k.2.call.depth) b k.2.entered) floor)) k.3,
-      )
+    -- The frame's base is what the frames below wait at; it is the same in both worlds.
+    wait_low_at : (b m : ℕ) (fs : List Frame) → length fs ≤ bound → b ≤ level → WaitFits core ann w j b m fs → WaitFits core ann w' j b m fs
+    wait_low_at b m [] few floor k = k
+    wait_low_at b m (f ∷ fs) few floor k = (
+      k.0,
+      k.1,
+      awaits_low (length fs) b k.0 f (omega (arith, few)) floor k.2,
+      wait_low_at k.2.holds.base f.method fs (omega (arith, few))
+          (base_low k.2.holds.base k.2.call.depth level (between (k.2.holds.base + k.2.call.depth) b level (lower_at k.0 k.2.call.ty k.2.holds.base (k.2.holds.base + k.2.call.depth) b k.2.entered) floor)) k.3,
+    )
 
-  pub wait_low : (b m : ℕ) (fs : List Frame) → length fs ≤ bound → b ≤ level → WaitFits core ann w j b m fs → WaitFits core ann w' j b m fs
-  wait_low b m fs few floor k = wait_low_at b m fs few floor k
+    pub wait_low : (b m : ℕ) (fs : List Frame) → length fs ≤ bound → b ≤ level → WaitFits core ann w j b m fs → WaitFits core ann w' j b m fs
+    wait_low b m fs few floor k = wait_low_at b m fs few floor k
 
 -- Where no place of a frame below this height is left, up to the level of the frame.
 pub below_low : (w w' : World) (objects : ObjectMap) (count i b : ℕ) (gone : Place → Bool) → Shifts w w' objects count i b gone → (core : CoreData) (ann : Ann) (bound : ℕ)

@@ -130,33 +130,34 @@ module _ (core : CoreData) (ann : Ann) (climb : ClimbLaw core) (objects : Object
       let w' : World = up.0 in
       let goal : Entry = top_of o.way (record { ty = t; depth = d }) in
       let gone : Place → Bool = passed i (length fs) (length vs) (base + goal.depth) in
-      let x : Shifts w w' objects count i base gone = up.1.shifts in
-      (w',
-      record {
-        world = x.world;
-        fields = fields_kept w w' objects count i base gone x core (λ a k. refl) p.fields;
-        others = others_kept w w' objects count i base gone x (λ q e. passed_elsewhere i (length fs) (length vs) (base + goal.depth) q e);
-        frames = (
-          record {
-            holds = record {
-              base = base;
-              live = o.live;
-              entries = goal ∷ below;
-              this_fits = this_kept core ann climb objects count i (length fs) m w base (length vs) goal.depth w' x slots p.this_fits;
-              slots_fit = slots_kept core ann climb objects count i (length fs) m w base (length vs) goal.depth w' x o.live live slots (within_trans o.live after live o.left less) o.slots p.slots_fit;
-              stack_fit = (up.1.stands.fits, stack_on core ann climb objects count i (length fs) m w base (length vs) goal.depth w' x below vs (omega arith) o.shallow p.stack_fit);
-            };
-            depth = goal.depth;
-            last = sym up.1.stands.top;
-            opened = up.1.stands.opened;
-            not_deeper = o.slots;
-            shallow = (omega arith, o.shallow);
-          },
-          o.next,
-          λ u. subst (λ (k : ℕ). AliasSome w' i base k goal.ty v) (sym up.1.stands.top) up.1.stands.alias,
-          below_kept w w' objects count i base gone x core ann (length fs) (λ h s l low. lower_frame (nat_eq i i) (length fs) h (nat_lt (base + goal.depth) l) low) (λ h c l low. lower_frame (nat_eq i i) (length fs) h (nat_eq (length vs) c || nat_lt (base + goal.depth) l) low) base m fs refl (omega arith) p.wait,
-        );
-      })
+      let x : Shifts w w' objects count i base gone = up.1.shifts in (
+        w',
+        record {
+          world = x.world;
+          fields = fields_kept w w' objects count i base gone x core (λ a k. refl) p.fields;
+          others = others_kept w w' objects count i base gone x (λ q e. passed_elsewhere i (length fs) (length vs) (base + goal.depth) q e);
+          frames = (
+            record {
+              holds = record {
+                base = base;
+                live = o.live;
+                entries = goal ∷ below;
+                this_fits = this_kept core ann climb objects count i (length fs) m w base (length vs) goal.depth w' x slots p.this_fits;
+                slots_fit = slots_kept core ann climb objects count i (length fs) m w base (length vs) goal.depth w' x o.live live slots (within_trans o.live after live o.left less) o.slots p.slots_fit;
+                stack_fit = (up.1.stands.fits, stack_on core ann climb objects count i (length fs) m w base (length vs) goal.depth w' x below vs (omega arith) o.shallow p.stack_fit);
+              };
+              depth = goal.depth;
+              last = sym up.1.stands.top;
+              opened = up.1.stands.opened;
+              not_deeper = o.slots;
+              shallow = (omega arith, o.shallow);
+            },
+            o.next,
+            λ u. subst (λ (k : ℕ). AliasSome w' i base k goal.ty v) (sym up.1.stands.top) up.1.stands.alias,
+            below_kept w w' objects count i base gone x core ann (length fs) (λ h s l low. lower_frame (nat_eq i i) (length fs) h (nat_lt (base + goal.depth) l) low) (λ h c l low. lower_frame (nat_eq i i) (length fs) h (nat_eq (length vs) c || nat_lt (base + goal.depth) l) low) base m fs refl (omega arith) p.wait,
+          );
+        },
+      )
 
 -- ---- the world stays
 
@@ -196,7 +197,8 @@ module _ (core : CoreData) (ann : Ann) (around : Around) (f : Frame) (ts : List 
         fresh,
         s.wait,
       );
-    })
+    },
+  )
 
   -- Only the tasks differ, and an evaluation comes first.
   pub evaluates : (us : List Task) → TasksRise core ann f.method us s.active.depth s.active.holds.live s.active.holds.entries → uses_top us ≡ false → RegionMoveOk core ann w around fs (Goes (record { method = f.method; slots = f.slots; stack = f.stack; tasks = us }))

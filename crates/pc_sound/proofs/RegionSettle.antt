@@ -90,303 +90,303 @@ home_standing w q s (InField a k) = refl
 home_standing w q s (InMail j t k) = refl
 
 module _
-  (w : World) (objects : ObjectMap) (count : ℕ) (ok : WorldOk w objects count) (i : ℕ) (here : i < count) (h d l : ℕ) (level : l ≤ w.top i)
-  (gone : Place → Bool) (left : gone (OnStack i h d l) ≡ true) (a : Address) (own : OwnedBy w (OnStack i h d l) (w.region a))
+    (w : World) (objects : ObjectMap) (count : ℕ) (ok : WorldOk w objects count) (i : ℕ) (here : i < count) (h d l : ℕ) (level : l ≤ w.top i)
+    (gone : Place → Bool) (left : gone (OnStack i h d l) ≡ true) (a : Address) (own : OwnedBy w (OnStack i h d l) (w.region a))
   where
-  abbrev q : ℕ
-  q = w.region a
+    abbrev q : ℕ
+    q = w.region a
 
-  abbrev at_stack : Place
-  at_stack = OnStack i h d l
+    abbrev at_stack : Place
+    at_stack = OnStack i h d l
 
-  -- ---- what is known of it
+    -- ---- what is known of it
 
-  mine_if : OwnedBy w at_stack q → Belongs w i q
-  mine_if (inl e) = stack h d l e
-  mine_if (inr e) = child (w.context i l) (Some at_stack) e (context_belongs w objects count ok i here l level)
+    mine_if : OwnedBy w at_stack q → Belongs w i q
+    mine_if (inl e) = stack h d l e
+    mine_if (inr e) = child (w.context i l) (Some at_stack) e (context_belongs w objects count ok i here l level)
 
-  warm : Frozen w q → ⊥
-  warm f = not_frozen w (mine_if own) f
+    warm : Frozen w q → ⊥
+    warm f = not_frozen w (mine_if own) f
 
-  shut_if : OwnedBy w at_stack q → (j : ℕ) → w.stands q ≡ Opened j → ⊥
-  shut_if (inl e) j f = cc
-  shut_if (inr e) j f = cc
+    shut_if : OwnedBy w at_stack q → (j : ℕ) → w.stands q ≡ Opened j → ⊥
+    shut_if (inl e) j f = cc
+    shut_if (inr e) j f = cc
 
-  free_if : OwnedBy w at_stack q → (j m : ℕ) → Over w j q m → ⊥
-  free_if (inl e) j m o = none_over_stack w j q m i h d l e o
-  free_if (inr e) j m o = none_over_part w j q m (w.context i l) i h d l e o
+    free_if : OwnedBy w at_stack q → (j m : ℕ) → Over w j q m → ⊥
+    free_if (inl e) j m o = none_over_stack w j q m i h d l e o
+    free_if (inr e) j m o = none_over_part w j q m (w.context i l) i h d l e o
 
-  held_if : OwnedBy w at_stack q → (p : Place) → w.stands q ≡ Held p → gone p ≡ true
-  held_if (inl e) p f = let is : at_stack ≡ p = cc in ap gone (sym is) ∙ left
-  held_if (inr e) p f = absurd (cc)
+    held_if : OwnedBy w at_stack q → (p : Place) → w.stands q ≡ Held p → gone p ≡ true
+    held_if (inl e) p f = let is : at_stack ≡ p = cc in ap gone (sym is) ∙ left
+    held_if (inr e) p f = absurd (cc)
 
-  part_if : OwnedBy w at_stack q → (u : ℕ) (p : Place) → w.stands q ≡ Child u (Some p) → gone p ≡ true
-  part_if (inl e) u p f = absurd (cc)
-  part_if (inr e) u p f = let is : at_stack ≡ p = cc in ap gone (sym is) ∙ left
+    part_if : OwnedBy w at_stack q → (u : ℕ) (p : Place) → w.stands q ≡ Child u (Some p) → gone p ≡ true
+    part_if (inl e) u p f = absurd (cc)
+    part_if (inr e) u p f = let is : at_stack ≡ p = cc in ap gone (sym is) ∙ left
 
-  unsteady_if : OwnedBy w at_stack q → (u : ℕ) (at : Option Place) → w.stands q ≡ Child u at → steady at ≡ true → ⊥
-  unsteady_if (inl e) u at f t = cc
-  unsteady_if (inr e) u at f t = let is : at ≡ Some at_stack = cc in false_true (sym (ap steady is) ∙ t)
+    unsteady_if : OwnedBy w at_stack q → (u : ℕ) (at : Option Place) → w.stands q ≡ Child u at → steady at ≡ true → ⊥
+    unsteady_if (inl e) u at f t = cc
+    unsteady_if (inr e) u at f t = let is : at ≡ Some at_stack = cc in false_true (sym (ap steady is) ∙ t)
 
-  no_context : (j m : ℕ) → j < count → m ≤ w.top j → q ≡ w.context j m → ⊥
-  no_context j m there t is =
-      elim (ok.contexts j m there t) [
-        | inl e ↦ shut_if own j (ap w.stands is ∙ e)
-        | inr o ↦ free_if own j o.0 (subst (λ (x : ℕ). Over w j x o.0) (sym is) o.2)
-      ]
-
-  pub plain : w.role q ≡ None
-  plain =
-      elim (none_or (w.role q)) [
-        | inl x ↦ let k = ok.roles q x.0.0 x.0.1 x.1 in absurd (no_context x.0.0 x.0.1 k.0 k.1 (sym k.2))
-        | inr e ↦ e
-      ]
-
-  -- ---- it stands as s
-
-  module _
-    (s : Standing) (seen : (c u : ℕ) (at : Option Place) → w.stands q ≡ Child u at → Seen (standing w q s) c u → Seen (standing w q s) c q)
-    (parent : (u : ℕ) (at : Option Place) → s ≡ Child u at → u < w.next) (holder : (a : Address) (k : ℕ) → s ≡ Held (InField a k) → (o : Object) × (get objects a ≡ Some o))
-    where
-    stays : (x : ℕ) → (q ≡ x → ⊥) → (standing w q s).stands x ≡ w.stands x
-    stays x n = stand_other w.stands q s x n
-
-    over_on : (j : ℕ) {x m : ℕ} → Over w j x m → Over (standing w q s) j x m
-    over_on j {x} {m} o =
-        stands.over_through w objects count ok i here (w.top i) gone q s (mine_if own) warm (shut_if own) (held_if own) (part_if own) (λ n low k. free_if own i n k) (λ n up down. absurd (omega (arith, up, down))) seen parent holder j m
-        (λ y k is. free_if own j m (subst (λ (z : ℕ). Over w j z m) (sym is) k)) o
-
-    alias_in : (j c k : ℕ) (f : Form) (x : ℕ) → AliasIn w j c k f x → AliasIn (standing w q s) j c k f x
-    alias_in j c k form.Iso x a =
-        let far = λ (is : q ≡ x). free_if own j a.2 (subst (λ (z : ℕ). Over w j z a.2) (sym is) a.5) in
-        (a.0, λ u at e. a.1 u at (sym (stays x far) ∙ e), a.2, a.3, a.4, over_on j a.5)
-    alias_in j c k form.Trn x a =
-        let far = λ (is : q ≡ x). unsteady_if own (w.context j k) a.1 (ap w.stands is ∙ a.2) a.3 in
-        (a.0, a.1, stays x far ∙ a.2, a.3)
-    alias_in j c k form.IsoE x a = tt
-    alias_in j c k form.TrnE x a = tt
-    alias_in j c k form.Ref x a = tt
-    alias_in j c k form.Val x a = tt
-    alias_in j c k form.Box x a = tt
-    alias_in j c k form.Tag x a = tt
-
-    alias_on : (j c k : ℕ) (f : Form) (v : Value) → Alias w j c k f v → Alias (standing w q s) j c k f v
-    alias_on j c k f (At a) e = alias_in j c k f (w.region a) e
-    alias_on j c k f (Num m) e = tt
-    alias_on j c k f (Truth t) e = tt
-    alias_on j c k f (Text t) e = tt
-    alias_on j c k f (Prim m) e = tt
-
-    standing_settles : (f g : Form) (to : Place) (v : Value) → Fits (standing w q s) to g v
-        → ((c : ℕ) → c ≤ w.top i → (g ≡ form.Trn → home w to ≡ w.context i (w.top i)) → Alias w i c (w.top i) f v → Alias (standing w q s) i c (w.top i) g v)
-        → Settled w (standing w q s) objects count i gone f g to v
-    standing_settles f g to v fits fresh = record {
-      shifts = stands.standing_shifts w objects count ok i here (w.top i) gone q s (mine_if own) warm (shut_if own) (held_if own) (part_if own) (λ n low k. free_if own i n k) (λ n up down. absurd (omega (arith, up, down))) seen parent holder;
-      role = λ x. refl;
-      context = λ j m there t. refl;
-      top = λ j. refl;
-      opened = λ x j e. stays x (λ is. shut_if own j (ap w.stands is ∙ e)) ∙ e;
-      over = λ j o. over_on j o;
-      alias = λ j c k g u there t a. alias_on j c k g u a;
-      fits = fits;
-      fresh = fresh;
-    }
-
-  -- ---- it becomes a part of r
-
-  module _
-    (r : ℕ) (apart : q ≡ r → ⊥) (used : r < w.next)
-    (seen : (c u : ℕ) (at : Option Place) → w.stands q ≡ Child u at → Seen (merged w q r) c (renamed q r u) → Seen (merged w q r) c r)
-    where
-    merged_settles : (f : Form) (to : Place) (v : Value) → Fits (merged w q r) to form.Ref v → Settled w (merged w q r) objects count i gone f form.Ref to v
-    merged_settles f to v fits = record {
-      shifts = merge.merged_shifts w objects count ok i here (w.top i) (omega arith) gone q r apart used plain (mine_if own) warm (shut_if own) (held_if own) (part_if own) (free_if own) (unsteady_if own) seen;
-      role = λ x. refl;
-      context = λ j m there t. merge.context_same w objects count ok i here (w.top i) (omega arith) gone q r apart used plain (mine_if own) warm (shut_if own) (held_if own) (part_if own) (free_if own) (unsteady_if own) seen j m there t;
-      top = λ j. refl;
-      opened = λ x j e. merge.opened_on w objects count ok i here (w.top i) (omega arith) gone q r apart used plain (mine_if own) warm (shut_if own) (held_if own) (part_if own) (free_if own) (unsteady_if own) seen x j e;
-      over = λ j {q = x} {l = m} o. merge.over_on w objects count ok i here (w.top i) (omega arith) gone q r apart used plain (mine_if own) warm (shut_if own) (held_if own) (part_if own) (free_if own) (unsteady_if own) seen j m o;
-      alias = λ j c k g u there t a. merge.alias_on w objects count ok i here (w.top i) (omega arith) gone q r apart used plain (mine_if own) warm (shut_if own) (held_if own) (part_if own) (free_if own) (unsteady_if own) seen j c k g u a;
-      fits = fits;
-      fresh = λ c low at b. no_alias (merged w q r) i c (w.top i) v;
-    }
-
-  -- ---- where it lands
-
-  context_used : (m : ℕ) → m ≤ w.top i → w.context i m < w.next
-  context_used m t =
-      elim (cases_lt (w.context i m) w.next) [
-        | inl low ↦ low
-        | inr high ↦ absurd (none-some (i, m) (sym (ok.unused (w.context i m) high).1 ∙ ok.named i m here t))
-      ]
-
-  landed_used : (g : Form) (to : Place) → Lands w objects i at_stack g to → sendable_form g ≡ false → home w to < w.next
-  landed_used g (InSlot j k t m) x n = subst (λ (y : ℕ). w.context y m < w.next) (sym x.0) (context_used m x.1)
-  landed_used g (OnStack j k t m) x n = subst (λ (y : ℕ). w.context y m < w.next) (sym x.0) (context_used m x.1)
-  landed_used g (InField b k) x n = ok.regions b
-  landed_used g (InMail j t k) x n = absurd (false_true (sym n ∙ x))
-
-  target_apart : (b : Address) → OwnedBy w at_stack q → (w.stands (w.region b) ≢ Held at_stack) → ((u : ℕ) → w.stands (w.region b) ≢ Child u (Some at_stack)) → q ≡ w.region b → ⊥
-  target_apart b (inl e) x y is = x (ap w.stands (sym is) ∙ e)
-  target_apart b (inr e) x y is = y (w.context i l) (ap w.stands (sym is) ∙ e)
-
-  landed_apart : (g : Form) (to : Place) → Lands w objects i at_stack g to → sendable_form g ≡ false → q ≡ home w to → ⊥
-  landed_apart g (InSlot j k t m) x n is = no_context i m here x.1 (is ∙ ap (λ (y : ℕ). w.context y m) x.0)
-  landed_apart g (OnStack j k t m) x n is = no_context i m here x.1 (is ∙ ap (λ (y : ℕ). w.context y m) x.0)
-  landed_apart g (InField b k) x n is = target_apart b own x.1 x.2 is
-  landed_apart g (InMail j t k) x n is = absurd (false_true (sym n ∙ x))
-
-  landed_holder : (g : Form) (to : Place) → Lands w objects i at_stack g to → (b : Address) (k : ℕ) → Held to ≡ Held (InField b k) → (o : Object) × (get objects b ≡ Some o)
-  landed_holder g (InSlot j n t m) x b k e = absurd (cc)
-  landed_holder g (OnStack j n t m) x b k e = absurd (cc)
-  landed_holder g (InField c n) x b k e = let is : c ≡ b = cc in subst (λ (y : Address). (o : Object) × (get objects y ≡ Some o)) is x.0
-  landed_holder g (InMail j t n) x b k e = absurd (cc)
-
-  -- ---- each way to stand
-
-  not_child : (s : Standing) (u : ℕ) (at : Option Place) → s ≡ Held at_stack → s ≡ Child u at → ⊥
-  not_child s u at e f = cc
-
-  is_there : (s : Standing) → (standing w q s).stands q ≡ s
-  is_there s = stand_here w.stands q s
-
-  no_place : (u n : ℕ) (at : Option Place) (b : Address) → Child u at ≡ Held (InField b n) → ⊥
-  no_place u n at b e = cc
-
-  parent_is : (u v : ℕ) (at to : Option Place) → Child u at ≡ Child v to → u < w.next → v < w.next
-  parent_is u v at to e x = let is : u ≡ v = cc in subst (λ (y : ℕ). y < w.next) is x
-
-  held_no_child : (p : Place) (u : ℕ) (at : Option Place) → Held p ≡ Child u at → ⊥
-  held_no_child p u at e = cc
-
-  module _
-    (to : Place) (f : Form) (seen_held : (c u : ℕ) (at : Option Place) (s : Standing) → w.stands q ≡ Child u at → Seen (standing w q s) c u → Seen (standing w q s) c (home w to))
-    where
-    -- Below the region with which the place lives.
-    below : (at : Option Place) (c u : ℕ) (old : Option Place) → w.stands q ≡ Child u old → Seen (standing w q (Child (home w to) at)) c u → Seen (standing w q (Child (home w to) at)) c q
-    below at c u old e k = under (home w to) at (is_there (Child (home w to) at)) (seen_held c u old (Child (home w to) at) e k)
-
-    as_child : (at : Option Place) (g : Form) → Lands w objects i at_stack g to → sendable_form g ≡ false → FitsIn (standing w q (Child (home w to) at)) to g q
-        → ((c : ℕ) → c ≤ w.top i → (g ≡ form.Trn → home w to ≡ w.context i (w.top i)) → AliasIn w i c (w.top i) f q → AliasIn (standing w q (Child (home w to) at)) i c (w.top i) g q)
-        → Settled w (standing w q (Child (home w to) at)) objects count i gone f g to (At a)
-    as_child at g lands n fits fresh =
-        standing_settles (Child (home w to) at) (below at) (λ u to' e. parent_is (home w to) u at to' e (landed_used g to lands n)) (λ b k e. absurd (no_place (home w to) k at b e)) f g to (At a) fits fresh
-
-    seen_so : (at : Option Place) → Seen (standing w q (Child (home w to) at)) (home (standing w q (Child (home w to) at)) to) q
-    seen_so at = under (home w to) at (is_there (Child (home w to) at)) (same (sym (home_standing w q (Child (home w to) at) to)))
-
-    to_trn_own : Lands w objects i at_stack form.TrnE to → Settled w (standing w q (Child (home w to) (Some to))) objects count i gone f form.TrnE to (At a)
-    to_trn_own lands =
-        as_child (Some to) form.TrnE lands refl (is_there (Child (home w to) (Some to)) ∙ ap (λ (c : ℕ). Child c (Some to)) (sym (home_standing w q (Child (home w to) (Some to)) to))) (λ c low near b. tt)
-
-    to_trn : Lands w objects i at_stack form.Trn to → Settled w (standing w q (Child (home w to) None)) objects count i gone f form.Trn to (At a)
-    to_trn lands =
-        as_child None form.Trn lands refl (seen_so None) (λ c low near b. (plain, None, is_there (Child (home w to) None) ∙ ap (λ (y : ℕ). Child y None) (near refl), refl))
-
-    to_box : Lands w objects i at_stack form.Box to → Settled w (standing w q (Child (home w to) None)) objects count i gone f form.Box to (At a)
-    to_box lands = as_child None form.Box lands refl (seen_so None) (λ c low near b. tt)
-
-  to_val : (f : Form) (to : Place) → Settled w (standing w q Froze) objects count i gone f form.Val to (At a)
-  to_val f to =
-      standing_settles Froze (λ c u at e k. frozen (ice (is_there Froze))) (λ u at e. absurd (no_parent u at e)) (λ b k e. absurd (no_hold b k e)) f form.Val to (At a) (ice (is_there Froze)) (λ c low near b. tt)
-    where
-      no_parent : (u : ℕ) (at : Option Place) → Froze ≡ Child u at → ⊥
-      no_parent u at e = cc
-      no_hold : (b : Address) (k : ℕ) → Froze ≡ Held (InField b k) → ⊥
-      no_hold b k e = cc
-
-  -- A part of the region with which the place lives.
-  to_ref : (f : Form) (to : Place) → Lands w objects i at_stack form.Ref to → ((c u : ℕ) (at : Option Place) → w.stands q ≡ Child u at → Seen (merged w q (home w to)) c (renamed q (home w to) u) → Seen (merged w q (home w to)) c (home w to))
-      → Settled w (merged w q (home w to)) objects count i gone f form.Ref to (At a)
-  to_ref f to lands seen =
-      let apart = landed_apart form.Ref to lands refl in
-      merged_settles (home w to) apart (landed_used form.Ref to lands refl) seen f to (At a)
-      (merge.renamed_here q (home w to) q refl ∙ sym (home_merged to apart))
-    where
-      nothing : q ≡ 0 → ⊥
-      nothing is = none-some (0, 0) (sym plain ∙ ap w.role is ∙ ok.zero)
-      home_merged : (p : Place) → (q ≡ home w p → ⊥) → home (merged w q (home w to)) p ≡ home w p
-      home_merged (InSlot j k t m) n = merge.renamed_other q (home w to) (w.context j m) n
-      home_merged (OnStack j k t m) n = merge.renamed_other q (home w to) (w.context j m) n
-      home_merged (InField b k) n = merge.renamed_other q (home w to) (w.region b) n
-      home_merged (InMail j t k) n = refl
-
-  -- ---- what was held
-
-  to_loose : (g : Form) (to : Place) → w.stands q ≡ Held at_stack → FitsIn (standing w q (Loose i (w.top i))) to g q
-      → ((c : ℕ) → c ≤ w.top i → (g ≡ form.Trn → home w to ≡ w.context i (w.top i)) → AliasIn w i c (w.top i) form.IsoE q → AliasIn (standing w q (Loose i (w.top i))) i c (w.top i) g q)
-      → Settled w (standing w q (Loose i (w.top i))) objects count i gone form.IsoE g to (At a)
-  to_loose g to e fits fresh =
-      standing_settles (Loose i (w.top i)) (λ c u at f k. absurd (not_child (w.stands q) u at e f)) (λ u at f. absurd (no_parent u at f)) (λ b k f. absurd (no_hold b k f)) form.IsoE g to (At a) fits fresh
-    where
-      no_parent : (u : ℕ) (at : Option Place) → Loose i (w.top i) ≡ Child u at → ⊥
-      no_parent u at f = cc
-      no_hold : (b : Address) (k : ℕ) → Loose i (w.top i) ≡ Held (InField b k) → ⊥
-      no_hold b k f = cc
-
-  loose_no_child : (s : Standing) (u : ℕ) (at : Option Place) → s ≡ Loose i (w.top i) → s ≡ Child u at → ⊥
-  loose_no_child s u at e f = cc
-
-  from_iso : (g : Form) (to : Place) → w.stands q ≡ Held at_stack → Lands w objects i at_stack g to → (w' : World) × Settled w w' objects count i gone form.IsoE g to (At a)
-  from_iso form.IsoE to e lands =
-      (
-        standing w q (Held to),
-        standing_settles (Held to) (λ c u at f k. absurd (not_child (w.stands q) u at e f)) (λ u at f. absurd (held_no_child to u at f)) (landed_holder form.IsoE to lands) form.IsoE form.IsoE to (At a) (is_there (Held to)) (λ c low near b. tt),
-      )
-  from_iso form.TrnE to e lands = (standing w q (Child (home w to) (Some to)), to_trn_own to form.IsoE (λ c u at s f k. absurd (not_child (w.stands q) u at e f)) lands)
-  from_iso form.Iso to e lands =
-      (
-        standing w q (Loose i (w.top i)),
-        to_loose form.Iso to e tt (λ c low near b. (plain, λ u at f. loose_no_child ((standing w q (Loose i (w.top i))).stands q) u at (is_there (Loose i (w.top i))) f, w.top i, low, omega arith, over_loose (is_there (Loose i (w.top i))))),
-      )
-  from_iso form.Trn to e lands = (standing w q (Child (home w to) None), to_trn to form.IsoE (λ c u at s f k. absurd (not_child (w.stands q) u at e f)) lands)
-  from_iso form.Ref to e lands = (merged w q (home w to), to_ref form.IsoE to lands (λ c u at f k. absurd (not_child (w.stands q) u at e f)))
-  from_iso form.Val to e lands = (standing w q Froze, to_val form.IsoE to)
-  from_iso form.Box to e lands = (standing w q (Child (home w to) None), to_box to form.IsoE (λ c u at s f k. absurd (not_child (w.stands q) u at e f)) lands)
-  from_iso form.Tag to e lands = (standing w q (Loose i (w.top i)), to_loose form.Tag to e tt (λ c low near b. tt))
-
-  -- ---- what was a child
-
-  child_is : (u : ℕ) (at : Option Place) (s : Standing) → s ≡ Child (w.context i l) (Some at_stack) → s ≡ Child u at → w.context i l ≡ u
-  child_is u at s e f = cc
-
-  module _ (to : Place) (e : w.stands q ≡ Child (w.context i l) (Some at_stack)) (near : NearTrn w at_stack to) (apart : q ≡ home w to → ⊥) where
-    still : (c u : ℕ) (at : Option Place) (s : Standing) → w.stands q ≡ Child u at → Seen (standing w q s) c u → Seen (standing w q s) c (home w to)
-    still c u at s f k =
-        let from : Seen (standing w q s) c (w.context i l) = subst (Seen (standing w q s) c) (sym (child_is u at (w.stands q) e f)) k in
-        elim near [
-          | inl is ↦ subst (Seen (standing w q s) c) (sym is) from
-          | inr x ↦ under (w.context i l) x.0 (stand_other w.stands q s (home w to) apart ∙ x.1) from
+    no_context : (j m : ℕ) → j < count → m ≤ w.top j → q ≡ w.context j m → ⊥
+    no_context j m there t is =
+        elim (ok.contexts j m there t) [
+          | inl e ↦ shut_if own j (ap w.stands is ∙ e)
+          | inr o ↦ free_if own j o.0 (subst (λ (x : ℕ). Over w j x o.0) (sym is) o.2)
         ]
 
-    home_apart : q ≡ w.context i l → ⊥
-    home_apart is = no_context i l here level is
-
-    in_part : (c u : ℕ) (at : Option Place) → w.stands q ≡ Child u at → Seen (merged w q (home w to)) c (renamed q (home w to) u) → Seen (merged w q (home w to)) c (home w to)
-    in_part c u at f k =
-        let same_home : renamed q (home w to) u ≡ w.context i l =
-            ap (renamed q (home w to)) (sym (child_is u at (w.stands q) e f)) ∙ merge.renamed_other q (home w to) (w.context i l) home_apart in
-        let from : Seen (merged w q (home w to)) c (w.context i l) = subst (Seen (merged w q (home w to)) c) same_home k in
-        elim near [
-          | inl is ↦ subst (Seen (merged w q (home w to)) c) (sym is) from
-          | inr x ↦ under (w.context i l) x.0 (ap (child_renamed q (home w to)) (stand_other w.stands q Unused (home w to) apart ∙ x.1) ∙ ap (λ (y : ℕ). Child y x.0) (merge.renamed_other q (home w to) (w.context i l) home_apart)) from
+    pub plain : w.role q ≡ None
+    plain =
+        elim (none_or (w.role q)) [
+          | inl x ↦ let k = ok.roles q x.0.0 x.0.1 x.1 in absurd (no_context x.0.0 x.0.1 k.0 k.1 (sym k.2))
+          | inr e ↦ e
         ]
 
-  from_trn : (g : Form) (to : Place) → is_below form.TrnE g ≡ true → w.stands q ≡ Child (w.context i l) (Some at_stack) → Near w at_stack form.TrnE g to → Lands w objects i at_stack g to → (w' : World) × Settled w w' objects count i gone form.TrnE g to (At a)
-  from_trn form.IsoE to n e near lands = absurd (false_true n)
-  from_trn form.Iso to n e near lands = absurd (false_true n)
-  from_trn form.TrnE to n e near lands = (standing w q (Child (home w to) (Some to)), to_trn_own to form.TrnE (still to e near (landed_apart form.TrnE to lands refl)) lands)
-  from_trn form.Trn to n e near lands = (standing w q (Child (home w to) None), to_trn to form.TrnE (still to e near (landed_apart form.Trn to lands refl)) lands)
-  from_trn form.Box to n e near lands = (standing w q (Child (home w to) None), to_box to form.TrnE (still to e near (landed_apart form.Box to lands refl)) lands)
-  from_trn form.Ref to n e near lands = (merged w q (home w to), to_ref form.TrnE to lands (in_part to e near (landed_apart form.Ref to lands refl)))
-  from_trn form.Val to n e near lands = (standing w q Froze, to_val form.TrnE to)
-  from_trn form.Tag to n e near lands =
-      (
-        standing w q (Child (w.context i l) None),
-        standing_settles (Child (w.context i l) None)
-        (λ c u at f k. under (w.context i l) None (is_there (Child (w.context i l) None)) (subst (Seen (standing w q (Child (w.context i l) None)) c) (sym (child_is u at (w.stands q) e f)) k))
-        (λ u at f. parent_is (w.context i l) u None at f (context_used l level)) (λ b k f. absurd (no_place (w.context i l) k None b f)) form.TrnE form.Tag to (At a) tt (λ c low near' b. tt),
-      )
+    -- ---- it stands as s
+
+    module _
+        (s : Standing) (seen : (c u : ℕ) (at : Option Place) → w.stands q ≡ Child u at → Seen (standing w q s) c u → Seen (standing w q s) c q)
+        (parent : (u : ℕ) (at : Option Place) → s ≡ Child u at → u < w.next) (holder : (a : Address) (k : ℕ) → s ≡ Held (InField a k) → (o : Object) × (get objects a ≡ Some o))
+      where
+        stays : (x : ℕ) → (q ≡ x → ⊥) → (standing w q s).stands x ≡ w.stands x
+        stays x n = stand_other w.stands q s x n
+
+        over_on : (j : ℕ) {x m : ℕ} → Over w j x m → Over (standing w q s) j x m
+        over_on j {x} {m} o =
+            stands.over_through w objects count ok i here (w.top i) gone q s (mine_if own) warm (shut_if own) (held_if own) (part_if own) (λ n low k. free_if own i n k) (λ n up down. absurd (omega (arith, up, down))) seen parent holder j m
+            (λ y k is. free_if own j m (subst (λ (z : ℕ). Over w j z m) (sym is) k)) o
+
+        alias_in : (j c k : ℕ) (f : Form) (x : ℕ) → AliasIn w j c k f x → AliasIn (standing w q s) j c k f x
+        alias_in j c k form.Iso x a =
+            let far = λ (is : q ≡ x). free_if own j a.2 (subst (λ (z : ℕ). Over w j z a.2) (sym is) a.5) in
+            (a.0, λ u at e. a.1 u at (sym (stays x far) ∙ e), a.2, a.3, a.4, over_on j a.5)
+        alias_in j c k form.Trn x a =
+            let far = λ (is : q ≡ x). unsteady_if own (w.context j k) a.1 (ap w.stands is ∙ a.2) a.3 in
+            (a.0, a.1, stays x far ∙ a.2, a.3)
+        alias_in j c k form.IsoE x a = tt
+        alias_in j c k form.TrnE x a = tt
+        alias_in j c k form.Ref x a = tt
+        alias_in j c k form.Val x a = tt
+        alias_in j c k form.Box x a = tt
+        alias_in j c k form.Tag x a = tt
+
+        alias_on : (j c k : ℕ) (f : Form) (v : Value) → Alias w j c k f v → Alias (standing w q s) j c k f v
+        alias_on j c k f (At a) e = alias_in j c k f (w.region a) e
+        alias_on j c k f (Num m) e = tt
+        alias_on j c k f (Truth t) e = tt
+        alias_on j c k f (Text t) e = tt
+        alias_on j c k f (Prim m) e = tt
+
+        standing_settles : (f g : Form) (to : Place) (v : Value) → Fits (standing w q s) to g v
+            → ((c : ℕ) → c ≤ w.top i → (g ≡ form.Trn → home w to ≡ w.context i (w.top i)) → Alias w i c (w.top i) f v → Alias (standing w q s) i c (w.top i) g v)
+            → Settled w (standing w q s) objects count i gone f g to v
+        standing_settles f g to v fits fresh = record {
+          shifts = stands.standing_shifts w objects count ok i here (w.top i) gone q s (mine_if own) warm (shut_if own) (held_if own) (part_if own) (λ n low k. free_if own i n k) (λ n up down. absurd (omega (arith, up, down))) seen parent holder;
+          role = λ x. refl;
+          context = λ j m there t. refl;
+          top = λ j. refl;
+          opened = λ x j e. stays x (λ is. shut_if own j (ap w.stands is ∙ e)) ∙ e;
+          over = λ j o. over_on j o;
+          alias = λ j c k g u there t a. alias_on j c k g u a;
+          fits = fits;
+          fresh = fresh;
+        }
+
+    -- ---- it becomes a part of r
+
+    module _
+        (r : ℕ) (apart : q ≡ r → ⊥) (used : r < w.next)
+        (seen : (c u : ℕ) (at : Option Place) → w.stands q ≡ Child u at → Seen (merged w q r) c (renamed q r u) → Seen (merged w q r) c r)
+      where
+        merged_settles : (f : Form) (to : Place) (v : Value) → Fits (merged w q r) to form.Ref v → Settled w (merged w q r) objects count i gone f form.Ref to v
+        merged_settles f to v fits = record {
+          shifts = merge.merged_shifts w objects count ok i here (w.top i) (omega arith) gone q r apart used plain (mine_if own) warm (shut_if own) (held_if own) (part_if own) (free_if own) (unsteady_if own) seen;
+          role = λ x. refl;
+          context = λ j m there t. merge.context_same w objects count ok i here (w.top i) (omega arith) gone q r apart used plain (mine_if own) warm (shut_if own) (held_if own) (part_if own) (free_if own) (unsteady_if own) seen j m there t;
+          top = λ j. refl;
+          opened = λ x j e. merge.opened_on w objects count ok i here (w.top i) (omega arith) gone q r apart used plain (mine_if own) warm (shut_if own) (held_if own) (part_if own) (free_if own) (unsteady_if own) seen x j e;
+          over = λ j {q = x} {l = m} o. merge.over_on w objects count ok i here (w.top i) (omega arith) gone q r apart used plain (mine_if own) warm (shut_if own) (held_if own) (part_if own) (free_if own) (unsteady_if own) seen j m o;
+          alias = λ j c k g u there t a. merge.alias_on w objects count ok i here (w.top i) (omega arith) gone q r apart used plain (mine_if own) warm (shut_if own) (held_if own) (part_if own) (free_if own) (unsteady_if own) seen j c k g u a;
+          fits = fits;
+          fresh = λ c low at b. no_alias (merged w q r) i c (w.top i) v;
+        }
+
+    -- ---- where it lands
+
+    context_used : (m : ℕ) → m ≤ w.top i → w.context i m < w.next
+    context_used m t =
+        elim (cases_lt (w.context i m) w.next) [
+          | inl low ↦ low
+          | inr high ↦ absurd (none-some (i, m) (sym (ok.unused (w.context i m) high).1 ∙ ok.named i m here t))
+        ]
+
+    landed_used : (g : Form) (to : Place) → Lands w objects i at_stack g to → sendable_form g ≡ false → home w to < w.next
+    landed_used g (InSlot j k t m) x n = subst (λ (y : ℕ). w.context y m < w.next) (sym x.0) (context_used m x.1)
+    landed_used g (OnStack j k t m) x n = subst (λ (y : ℕ). w.context y m < w.next) (sym x.0) (context_used m x.1)
+    landed_used g (InField b k) x n = ok.regions b
+    landed_used g (InMail j t k) x n = absurd (false_true (sym n ∙ x))
+
+    target_apart : (b : Address) → OwnedBy w at_stack q → (w.stands (w.region b) ≢ Held at_stack) → ((u : ℕ) → w.stands (w.region b) ≢ Child u (Some at_stack)) → q ≡ w.region b → ⊥
+    target_apart b (inl e) x y is = x (ap w.stands (sym is) ∙ e)
+    target_apart b (inr e) x y is = y (w.context i l) (ap w.stands (sym is) ∙ e)
+
+    landed_apart : (g : Form) (to : Place) → Lands w objects i at_stack g to → sendable_form g ≡ false → q ≡ home w to → ⊥
+    landed_apart g (InSlot j k t m) x n is = no_context i m here x.1 (is ∙ ap (λ (y : ℕ). w.context y m) x.0)
+    landed_apart g (OnStack j k t m) x n is = no_context i m here x.1 (is ∙ ap (λ (y : ℕ). w.context y m) x.0)
+    landed_apart g (InField b k) x n is = target_apart b own x.1 x.2 is
+    landed_apart g (InMail j t k) x n is = absurd (false_true (sym n ∙ x))
+
+    landed_holder : (g : Form) (to : Place) → Lands w objects i at_stack g to → (b : Address) (k : ℕ) → Held to ≡ Held (InField b k) → (o : Object) × (get objects b ≡ Some o)
+    landed_holder g (InSlot j n t m) x b k e = absurd (cc)
+    landed_holder g (OnStack j n t m) x b k e = absurd (cc)
+    landed_holder g (InField c n) x b k e = let is : c ≡ b = cc in subst (λ (y : Address). (o : Object) × (get objects y ≡ Some o)) is x.0
+    landed_holder g (InMail j t n) x b k e = absurd (cc)
+
+    -- ---- each way to stand
+
+    not_child : (s : Standing) (u : ℕ) (at : Option Place) → s ≡ Held at_stack → s ≡ Child u at → ⊥
+    not_child s u at e f = cc
+
+    is_there : (s : Standing) → (standing w q s).stands q ≡ s
+    is_there s = stand_here w.stands q s
+
+    no_place : (u n : ℕ) (at : Option Place) (b : Address) → Child u at ≡ Held (InField b n) → ⊥
+    no_place u n at b e = cc
+
+    parent_is : (u v : ℕ) (at to : Option Place) → Child u at ≡ Child v to → u < w.next → v < w.next
+    parent_is u v at to e x = let is : u ≡ v = cc in subst (λ (y : ℕ). y < w.next) is x
+
+    held_no_child : (p : Place) (u : ℕ) (at : Option Place) → Held p ≡ Child u at → ⊥
+    held_no_child p u at e = cc
+
+    module _
+        (to : Place) (f : Form) (seen_held : (c u : ℕ) (at : Option Place) (s : Standing) → w.stands q ≡ Child u at → Seen (standing w q s) c u → Seen (standing w q s) c (home w to))
+      where
+        -- Below the region with which the place lives.
+        below : (at : Option Place) (c u : ℕ) (old : Option Place) → w.stands q ≡ Child u old → Seen (standing w q (Child (home w to) at)) c u → Seen (standing w q (Child (home w to) at)) c q
+        below at c u old e k = under (home w to) at (is_there (Child (home w to) at)) (seen_held c u old (Child (home w to) at) e k)
+
+        as_child : (at : Option Place) (g : Form) → Lands w objects i at_stack g to → sendable_form g ≡ false → FitsIn (standing w q (Child (home w to) at)) to g q
+            → ((c : ℕ) → c ≤ w.top i → (g ≡ form.Trn → home w to ≡ w.context i (w.top i)) → AliasIn w i c (w.top i) f q → AliasIn (standing w q (Child (home w to) at)) i c (w.top i) g q)
+            → Settled w (standing w q (Child (home w to) at)) objects count i gone f g to (At a)
+        as_child at g lands n fits fresh =
+            standing_settles (Child (home w to) at) (below at) (λ u to' e. parent_is (home w to) u at to' e (landed_used g to lands n)) (λ b k e. absurd (no_place (home w to) k at b e)) f g to (At a) fits fresh
+
+        seen_so : (at : Option Place) → Seen (standing w q (Child (home w to) at)) (home (standing w q (Child (home w to) at)) to) q
+        seen_so at = under (home w to) at (is_there (Child (home w to) at)) (same (sym (home_standing w q (Child (home w to) at) to)))
+
+        to_trn_own : Lands w objects i at_stack form.TrnE to → Settled w (standing w q (Child (home w to) (Some to))) objects count i gone f form.TrnE to (At a)
+        to_trn_own lands =
+            as_child (Some to) form.TrnE lands refl (is_there (Child (home w to) (Some to)) ∙ ap (λ (c : ℕ). Child c (Some to)) (sym (home_standing w q (Child (home w to) (Some to)) to))) (λ c low near b. tt)
+
+        to_trn : Lands w objects i at_stack form.Trn to → Settled w (standing w q (Child (home w to) None)) objects count i gone f form.Trn to (At a)
+        to_trn lands =
+            as_child None form.Trn lands refl (seen_so None) (λ c low near b. (plain, None, is_there (Child (home w to) None) ∙ ap (λ (y : ℕ). Child y None) (near refl), refl))
+
+        to_box : Lands w objects i at_stack form.Box to → Settled w (standing w q (Child (home w to) None)) objects count i gone f form.Box to (At a)
+        to_box lands = as_child None form.Box lands refl (seen_so None) (λ c low near b. tt)
+
+    to_val : (f : Form) (to : Place) → Settled w (standing w q Froze) objects count i gone f form.Val to (At a)
+    to_val f to =
+        standing_settles Froze (λ c u at e k. frozen (ice (is_there Froze))) (λ u at e. absurd (no_parent u at e)) (λ b k e. absurd (no_hold b k e)) f form.Val to (At a) (ice (is_there Froze)) (λ c low near b. tt)
+      where
+        no_parent : (u : ℕ) (at : Option Place) → Froze ≡ Child u at → ⊥
+        no_parent u at e = cc
+
+        no_hold : (b : Address) (k : ℕ) → Froze ≡ Held (InField b k) → ⊥
+        no_hold b k e = cc
+
+    -- A part of the region with which the place lives.
+    to_ref : (f : Form) (to : Place) → Lands w objects i at_stack form.Ref to → ((c u : ℕ) (at : Option Place) → w.stands q ≡ Child u at → Seen (merged w q (home w to)) c (renamed q (home w to) u) → Seen (merged w q (home w to)) c (home w to))
+        → Settled w (merged w q (home w to)) objects count i gone f form.Ref to (At a)
+    to_ref f to lands seen =
+        let apart = landed_apart form.Ref to lands refl in
+        merged_settles (home w to) apart (landed_used form.Ref to lands refl) seen f to (At a)
+        (merge.renamed_here q (home w to) q refl ∙ sym (home_merged to apart))
+      where
+        nothing : q ≡ 0 → ⊥
+        nothing is = none-some (0, 0) (sym plain ∙ ap w.role is ∙ ok.zero)
+
+        home_merged : (p : Place) → (q ≡ home w p → ⊥) → home (merged w q (home w to)) p ≡ home w p
+        home_merged (InSlot j k t m) n = merge.renamed_other q (home w to) (w.context j m) n
+        home_merged (OnStack j k t m) n = merge.renamed_other q (home w to) (w.context j m) n
+        home_merged (InField b k) n = merge.renamed_other q (home w to) (w.region b) n
+        home_merged (InMail j t k) n = refl
+
+    -- ---- what was held
+
+    to_loose : (g : Form) (to : Place) → w.stands q ≡ Held at_stack → FitsIn (standing w q (Loose i (w.top i))) to g q
+        → ((c : ℕ) → c ≤ w.top i → (g ≡ form.Trn → home w to ≡ w.context i (w.top i)) → AliasIn w i c (w.top i) form.IsoE q → AliasIn (standing w q (Loose i (w.top i))) i c (w.top i) g q)
+        → Settled w (standing w q (Loose i (w.top i))) objects count i gone form.IsoE g to (At a)
+    to_loose g to e fits fresh =
+        standing_settles (Loose i (w.top i)) (λ c u at f k. absurd (not_child (w.stands q) u at e f)) (λ u at f. absurd (no_parent u at f)) (λ b k f. absurd (no_hold b k f)) form.IsoE g to (At a) fits fresh
+      where
+        no_parent : (u : ℕ) (at : Option Place) → Loose i (w.top i) ≡ Child u at → ⊥
+        no_parent u at f = cc
+
+        no_hold : (b : Address) (k : ℕ) → Loose i (w.top i) ≡ Held (InField b k) → ⊥
+        no_hold b k f = cc
+
+    loose_no_child : (s : Standing) (u : ℕ) (at : Option Place) → s ≡ Loose i (w.top i) → s ≡ Child u at → ⊥
+    loose_no_child s u at e f = cc
+
+    from_iso : (g : Form) (to : Place) → w.stands q ≡ Held at_stack → Lands w objects i at_stack g to → (w' : World) × Settled w w' objects count i gone form.IsoE g to (At a)
+    from_iso form.IsoE to e lands = (
+      standing w q (Held to),
+      standing_settles (Held to) (λ c u at f k. absurd (not_child (w.stands q) u at e f)) (λ u at f. absurd (held_no_child to u at f)) (landed_holder form.IsoE to lands) form.IsoE form.IsoE to (At a) (is_there (Held to)) (λ c low near b. tt),
+    )
+    from_iso form.TrnE to e lands = (standing w q (Child (home w to) (Some to)), to_trn_own to form.IsoE (λ c u at s f k. absurd (not_child (w.stands q) u at e f)) lands)
+    from_iso form.Iso to e lands = (
+      standing w q (Loose i (w.top i)),
+      to_loose form.Iso to e tt (λ c low near b. (plain, λ u at f. loose_no_child ((standing w q (Loose i (w.top i))).stands q) u at (is_there (Loose i (w.top i))) f, w.top i, low, omega arith, over_loose (is_there (Loose i (w.top i))))),
+    )
+    from_iso form.Trn to e lands = (standing w q (Child (home w to) None), to_trn to form.IsoE (λ c u at s f k. absurd (not_child (w.stands q) u at e f)) lands)
+    from_iso form.Ref to e lands = (merged w q (home w to), to_ref form.IsoE to lands (λ c u at f k. absurd (not_child (w.stands q) u at e f)))
+    from_iso form.Val to e lands = (standing w q Froze, to_val form.IsoE to)
+    from_iso form.Box to e lands = (standing w q (Child (home w to) None), to_box to form.IsoE (λ c u at s f k. absurd (not_child (w.stands q) u at e f)) lands)
+    from_iso form.Tag to e lands = (standing w q (Loose i (w.top i)), to_loose form.Tag to e tt (λ c low near b. tt))
+
+    -- ---- what was a child
+
+    child_is : (u : ℕ) (at : Option Place) (s : Standing) → s ≡ Child (w.context i l) (Some at_stack) → s ≡ Child u at → w.context i l ≡ u
+    child_is u at s e f = cc
+
+    module _ (to : Place) (e : w.stands q ≡ Child (w.context i l) (Some at_stack)) (near : NearTrn w at_stack to) (apart : q ≡ home w to → ⊥) where
+      still : (c u : ℕ) (at : Option Place) (s : Standing) → w.stands q ≡ Child u at → Seen (standing w q s) c u → Seen (standing w q s) c (home w to)
+      still c u at s f k =
+          let from : Seen (standing w q s) c (w.context i l) = subst (Seen (standing w q s) c) (sym (child_is u at (w.stands q) e f)) k in
+          elim near [
+            | inl is ↦ subst (Seen (standing w q s) c) (sym is) from
+            | inr x ↦ under (w.context i l) x.0 (stand_other w.stands q s (home w to) apart ∙ x.1) from
+          ]
+
+      home_apart : q ≡ w.context i l → ⊥
+      home_apart is = no_context i l here level is
+
+      in_part : (c u : ℕ) (at : Option Place) → w.stands q ≡ Child u at → Seen (merged w q (home w to)) c (renamed q (home w to) u) → Seen (merged w q (home w to)) c (home w to)
+      in_part c u at f k =
+          let same_home : renamed q (home w to) u ≡ w.context i l =
+          ap (renamed q (home w to)) (sym (child_is u at (w.stands q) e f)) ∙ merge.renamed_other q (home w to) (w.context i l) home_apart in
+          let from : Seen (merged w q (home w to)) c (w.context i l) = subst (Seen (merged w q (home w to)) c) same_home k in
+          elim near [
+            | inl is ↦ subst (Seen (merged w q (home w to)) c) (sym is) from
+            | inr x ↦ under (w.context i l) x.0 (ap (child_renamed q (home w to)) (stand_other w.stands q Unused (home w to) apart ∙ x.1) ∙ ap (λ (y : ℕ). Child y x.0) (merge.renamed_other q (home w to) (w.context i l) home_apart)) from
+          ]
+
+    from_trn : (g : Form) (to : Place) → is_below form.TrnE g ≡ true → w.stands q ≡ Child (w.context i l) (Some at_stack) → Near w at_stack form.TrnE g to → Lands w objects i at_stack g to → (w' : World) × Settled w w' objects count i gone form.TrnE g to (At a)
+    from_trn form.IsoE to n e near lands = absurd (false_true n)
+    from_trn form.Iso to n e near lands = absurd (false_true n)
+    from_trn form.TrnE to n e near lands = (standing w q (Child (home w to) (Some to)), to_trn_own to form.TrnE (still to e near (landed_apart form.TrnE to lands refl)) lands)
+    from_trn form.Trn to n e near lands = (standing w q (Child (home w to) None), to_trn to form.TrnE (still to e near (landed_apart form.Trn to lands refl)) lands)
+    from_trn form.Box to n e near lands = (standing w q (Child (home w to) None), to_box to form.TrnE (still to e near (landed_apart form.Box to lands refl)) lands)
+    from_trn form.Ref to n e near lands = (merged w q (home w to), to_ref form.TrnE to lands (in_part to e near (landed_apart form.Ref to lands refl)))
+    from_trn form.Val to n e near lands = (standing w q Froze, to_val form.TrnE to)
+    from_trn form.Tag to n e near lands = (
+      standing w q (Child (w.context i l) None),
+      standing_settles (Child (w.context i l) None)
+          (λ c u at f k. under (w.context i l) None (is_there (Child (w.context i l) None)) (subst (Seen (standing w q (Child (w.context i l) None)) c) (sym (child_is u at (w.stands q) e f)) k))
+          (λ u at f. parent_is (w.context i l) u None at f (context_used l level)) (λ b k f. absurd (no_place (w.context i l) k None b f)) form.TrnE form.Tag to (At a) tt (λ c low near' b. tt),
+    )
 
 -- ---- what is shared only comes
 
@@ -464,103 +464,101 @@ settle w objects count ok i here h d l level gone left to f g v n fits near land
 -- ---- taking
 
 module _
-  (w : World) (objects : ObjectMap) (count : ℕ) (ok : WorldOk w objects count) (i : ℕ) (here : i < count) (b : ℕ)
-  (above : (j : ℕ) → b < j → j ≤ w.top i → w.stands (w.context i j) ≡ Opened i) (p : Place) (gone : Place → Bool) (left : gone p ≡ true)
-  (h d l : ℕ) (level : l ≤ w.top i)
+    (w : World) (objects : ObjectMap) (count : ℕ) (ok : WorldOk w objects count) (i : ℕ) (here : i < count) (b : ℕ)
+    (above : (j : ℕ) → b < j → j ≤ w.top i → w.stands (w.context i j) ≡ Opened i) (p : Place) (gone : Place → Bool) (left : gone p ≡ true)
+    (h d l : ℕ) (level : l ≤ w.top i)
   where
-  module _ (a : Address) (own : OwnedBy w p (w.region a)) (free : FreeIn w i b (w.region a)) where
-    shut_of : OwnedBy w p (w.region a) → (j : ℕ) → w.stands (w.region a) ≡ Opened j → ⊥
-    shut_of (inl e) j f = cc
-    shut_of (inr e) j f = cc
+    module _ (a : Address) (own : OwnedBy w p (w.region a)) (free : FreeIn w i b (w.region a)) where
+      shut_of : OwnedBy w p (w.region a) → (j : ℕ) → w.stands (w.region a) ≡ Opened j → ⊥
+      shut_of (inl e) j f = cc
+      shut_of (inr e) j f = cc
 
-    held_of : OwnedBy w p (w.region a) → (t : Place) → w.stands (w.region a) ≡ Held t → gone t ≡ true
-    held_of (inl e) t f = let is : p ≡ t = cc in ap gone (sym is) ∙ left
-    held_of (inr e) t f = absurd (cc)
+      held_of : OwnedBy w p (w.region a) → (t : Place) → w.stands (w.region a) ≡ Held t → gone t ≡ true
+      held_of (inl e) t f = let is : p ≡ t = cc in ap gone (sym is) ∙ left
+      held_of (inr e) t f = absurd (cc)
 
-    part_of : OwnedBy w p (w.region a) → (u : ℕ) (t : Place) → w.stands (w.region a) ≡ Child u (Some t) → gone t ≡ true
-    part_of (inl e) u t f = absurd (cc)
-    part_of (inr e) u t f = let is : p ≡ t = cc in ap gone (sym is) ∙ left
+      part_of : OwnedBy w p (w.region a) → (u : ℕ) (t : Place) → w.stands (w.region a) ≡ Child u (Some t) → gone t ≡ true
+      part_of (inl e) u t f = absurd (cc)
+      part_of (inr e) u t f = let is : p ≡ t = cc in ap gone (sym is) ∙ left
 
-    module _
-      (f : Form) (s : Standing) (seen : (c u : ℕ) (at : Option Place) → w.stands (w.region a) ≡ Child u at → Seen (standing w (w.region a) s) c u → Seen (standing w (w.region a) s) c (w.region a))
-      (parent : (u : ℕ) (at : Option Place) → s ≡ Child u at → u < w.next) (holder : (c : Address) (k : ℕ) → s ≡ Held (InField c k) → (o : Object) × (get objects c ≡ Some o))
-      where
-      taken : Fits (standing w (w.region a) s) (OnStack i h d l) f (At a) → Taken w (standing w (w.region a) s) objects count i b gone f (OnStack i h d l) (At a)
-      taken fits = record {
-        shifts = stands.standing_shifts w objects count ok i here b gone (w.region a) s free.0 (λ x. not_frozen w free.0 x) (shut_of own) (held_of own) (part_of own) free.1 above seen parent holder;
-        region = refl;
-        role = λ q. refl;
-        context = λ j m there t. refl;
-        top = λ j. refl;
-        opened = λ q j e. stand_other w.stands (w.region a) s q (λ is. shut_of own j (ap w.stands is ∙ e)) ∙ e;
-        fits = fits;
-      }
+      module _
+          (f : Form) (s : Standing) (seen : (c u : ℕ) (at : Option Place) → w.stands (w.region a) ≡ Child u at → Seen (standing w (w.region a) s) c u → Seen (standing w (w.region a) s) c (w.region a))
+          (parent : (u : ℕ) (at : Option Place) → s ≡ Child u at → u < w.next) (holder : (c : Address) (k : ℕ) → s ≡ Held (InField c k) → (o : Object) × (get objects c ≡ Some o))
+        where
+          taken : Fits (standing w (w.region a) s) (OnStack i h d l) f (At a) → Taken w (standing w (w.region a) s) objects count i b gone f (OnStack i h d l) (At a)
+          taken fits = record {
+            shifts = stands.standing_shifts w objects count ok i here b gone (w.region a) s free.0 (λ x. not_frozen w free.0 x) (shut_of own) (held_of own) (part_of own) free.1 above seen parent holder;
+            region = refl;
+            role = λ q. refl;
+            context = λ j m there t. refl;
+            top = λ j. refl;
+            opened = λ q j e. stand_other w.stands (w.region a) s q (λ is. shut_of own j (ap w.stands is ∙ e)) ∙ e;
+            fits = fits;
+          }
 
-  to_stack : (c : Address) (k : ℕ) → Held (OnStack i h d l) ≡ Held (InField c k) → ⊥
-  to_stack c k e = cc
+    to_stack : (c : Address) (k : ℕ) → Held (OnStack i h d l) ≡ Held (InField c k) → ⊥
+    to_stack c k e = cc
 
-  not_part : (s : Standing) (u : ℕ) (at : Option Place) → s ≡ Held p → s ≡ Child u at → ⊥
-  not_part s u at e f = cc
+    not_part : (s : Standing) (u : ℕ) (at : Option Place) → s ≡ Held p → s ≡ Child u at → ⊥
+    not_part s u at e f = cc
 
-  part_is : (s : Standing) (v u : ℕ) (at : Option Place) → s ≡ Child v (Some p) → s ≡ Child u at → v ≡ u
-  part_is s v u at e f = cc
+    part_is : (s : Standing) (v u : ℕ) (at : Option Place) → s ≡ Child v (Some p) → s ≡ Child u at → v ≡ u
+    part_is s v u at e f = cc
 
-  no_field : (u n : ℕ) (at : Option Place) (c : Address) → Child u at ≡ Held (InField c n) → ⊥
-  no_field u n at c e = cc
+    no_field : (u n : ℕ) (at : Option Place) (c : Address) → Child u at ≡ Held (InField c n) → ⊥
+    no_field u n at c e = cc
 
-  no_part : (t : Place) (u : ℕ) (at : Option Place) → Held t ≡ Child u at → ⊥
-  no_part t u at e = cc
+    no_part : (t : Place) (u : ℕ) (at : Option Place) → Held t ≡ Child u at → ⊥
+    no_part t u at e = cc
 
-  child_of : (u v : ℕ) (at to : Option Place) → Child u at ≡ Child v to → u ≡ v
-  child_of u v at to e = cc
+    child_of : (u v : ℕ) (at to : Option Place) → Child u at ≡ Child v to → u ≡ v
+    child_of u v at to e = cc
 
-  context_low : w.context i l < w.next
-  context_low =
-      elim (cases_lt (w.context i l) w.next) [
-        | inl low ↦ low
-        | inr high ↦ absurd (none-some (i, l) (sym (ok.unused (w.context i l) high).1 ∙ ok.named i l here level))
-      ]
+    context_low : w.context i l < w.next
+    context_low =
+        elim (cases_lt (w.context i l) w.next) [
+          | inl low ↦ low
+          | inr high ↦ absurd (none-some (i, l) (sym (ok.unused (w.context i l) high).1 ∙ ok.named i l here level))
+        ]
 
-  take_at : (f : Form) (a : Address) → FitsIn w p f (w.region a) → FreeIn w i b (w.region a) → Takes w p f (OnStack i h d l) → (w' : World) × Taken w w' objects count i b gone f (OnStack i h d l) (At a)
-  take_at form.IsoE a e free t =
-      (
-        standing w (w.region a) (Held (OnStack i h d l)),
-        taken a (inl e) free form.IsoE (Held (OnStack i h d l)) (λ c u at f k. absurd (not_part (w.stands (w.region a)) u at e f)) (λ u at f. absurd (no_part (OnStack i h d l) u at f)) (λ c k f. absurd (to_stack c k f))
-        (stand_here w.stands (w.region a) (Held (OnStack i h d l))),
-      )
-  take_at form.TrnE a e free t =
-      let s = Child (w.context i l) (Some (OnStack i h d l)) in
-      (
-        standing w (w.region a) s,
-        taken a (inr e) free form.TrnE s
-        (λ c u at f k. under (w.context i l) (Some (OnStack i h d l)) (stand_here w.stands (w.region a) s) (subst (Seen (standing w (w.region a) s) c) (sym (part_is (w.stands (w.region a)) (home w p) u at e f) ∙ sym t) k))
-        (λ u at f. subst (λ (x : ℕ). x < w.next) (child_of (w.context i l) u (Some (OnStack i h d l)) at f) context_low) (λ c k f. absurd (no_field (w.context i l) k (Some (OnStack i h d l)) c f))
-        (stand_here w.stands (w.region a) s),
-      )
-  take_at form.Iso a e free t = absurd t
-  take_at form.Trn a e free t = absurd t
-  take_at form.Ref a e free t = absurd t
-  take_at form.Val a e free t = absurd t
-  take_at form.Box a e free t = absurd t
-  take_at form.Tag a e free t = absurd t
+    take_at : (f : Form) (a : Address) → FitsIn w p f (w.region a) → FreeIn w i b (w.region a) → Takes w p f (OnStack i h d l) → (w' : World) × Taken w w' objects count i b gone f (OnStack i h d l) (At a)
+    take_at form.IsoE a e free t = (
+      standing w (w.region a) (Held (OnStack i h d l)),
+      taken a (inl e) free form.IsoE (Held (OnStack i h d l)) (λ c u at f k. absurd (not_part (w.stands (w.region a)) u at e f)) (λ u at f. absurd (no_part (OnStack i h d l) u at f)) (λ c k f. absurd (to_stack c k f))
+          (stand_here w.stands (w.region a) (Held (OnStack i h d l))),
+    )
+    take_at form.TrnE a e free t =
+        let s = Child (w.context i l) (Some (OnStack i h d l)) in (
+          standing w (w.region a) s,
+          taken a (inr e) free form.TrnE s
+              (λ c u at f k. under (w.context i l) (Some (OnStack i h d l)) (stand_here w.stands (w.region a) s) (subst (Seen (standing w (w.region a) s) c) (sym (part_is (w.stands (w.region a)) (home w p) u at e f) ∙ sym t) k))
+              (λ u at f. subst (λ (x : ℕ). x < w.next) (child_of (w.context i l) u (Some (OnStack i h d l)) at f) context_low) (λ c k f. absurd (no_field (w.context i l) k (Some (OnStack i h d l)) c f))
+              (stand_here w.stands (w.region a) s),
+        )
+    take_at form.Iso a e free t = absurd t
+    take_at form.Trn a e free t = absurd t
+    take_at form.Ref a e free t = absurd t
+    take_at form.Val a e free t = absurd t
+    take_at form.Box a e free t = absurd t
+    take_at form.Tag a e free t = absurd t
 
-  nothing_taken : (f : Form) (v : Value) → Fits w (OnStack i h d l) f v → Taken w w objects count i b gone f (OnStack i h d l) v
-  nothing_taken f v fits = record {
-    shifts = shifts_none w objects count i b gone ok;
-    region = refl;
-    role = λ q. refl;
-    context = λ j m there t. refl;
-    top = λ j. refl;
-    opened = λ q j e. e;
-    fits = fits;
-  }
+    nothing_taken : (f : Form) (v : Value) → Fits w (OnStack i h d l) f v → Taken w w objects count i b gone f (OnStack i h d l) v
+    nothing_taken f v fits = record {
+      shifts = shifts_none w objects count i b gone ok;
+      region = refl;
+      role = λ q. refl;
+      context = λ j m there t. refl;
+      top = λ j. refl;
+      opened = λ q j e. e;
+      fits = fits;
+    }
 
-  take_value : (f : Form) (v : Value) → Fits w p f v → Free w i b v → Takes w p f (OnStack i h d l) → (w' : World) × Taken w w' objects count i b gone f (OnStack i h d l) v
-  take_value f (At a) fits free t = take_at f a fits free t
-  take_value f (Num n) fits free t = (w, nothing_taken f (Num n) tt)
-  take_value f (Truth n) fits free t = (w, nothing_taken f (Truth n) tt)
-  take_value f (Text n) fits free t = (w, nothing_taken f (Text n) tt)
-  take_value f (Prim n) fits free t = (w, nothing_taken f (Prim n) tt)
+    take_value : (f : Form) (v : Value) → Fits w p f v → Free w i b v → Takes w p f (OnStack i h d l) → (w' : World) × Taken w w' objects count i b gone f (OnStack i h d l) v
+    take_value f (At a) fits free t = take_at f a fits free t
+    take_value f (Num n) fits free t = (w, nothing_taken f (Num n) tt)
+    take_value f (Truth n) fits free t = (w, nothing_taken f (Truth n) tt)
+    take_value f (Text n) fits free t = (w, nothing_taken f (Text n) tt)
+    take_value f (Prim n) fits free t = (w, nothing_taken f (Prim n) tt)
 
 pub take : TakeLaw
 take w objects count ok i here b above p gone left h d l level f v fits free t = take_value w objects count ok i here b above p gone left h d l level f v fits free t

@@ -65,8 +65,7 @@ module _ (w : World) (objects : ObjectMap) (count i base d : ℕ) (ok : WorldOk 
     read_in : (k : Cap) (q : ℕ) → (c ≡ d) ⊎ (sendable k ≡ true) → FitsIn w (InSlot i h s (base + c)) (unalias k) q → FitsIn w (OnStack i h n (base + d)) (plain k) q × AliasIn w i base (base + d) (plain k) q
     read_in cap.Iso q near e = (tt, (no_role q (base + c) (slot_over q e) (omega arith) (held_shut q e), λ u at g. held_no_child q u at e g, base + c, omega arith, omega (arith, outer), slot_over q e))
     read_in cap.Trn q near e =
-        let is = level_is cap.Trn near refl in
-        (
+        let is = level_is cap.Trn near refl in (
           under (w.context i (base + c)) (Some (InSlot i h s (base + c))) e (same is),
           (no_role q (base + c) (child_over q e) (omega arith) (child_shut q (w.context i (base + c)) (Some (InSlot i h s (base + c))) e), Some (InSlot i h s (base + c)), e ∙ ap (λ (u : ℕ). Child u (Some (InSlot i h s (base + c)))) is, refl),
         )

@@ -46,7 +46,6 @@ use Rattle.pc_sound.proofs.RegionShifts.{others_kept, fields_kept, below_kept}
 use Rattle.pc_sound.proofs.RegionRise.{Pushes, rise, others_both}
 use Rattle.pc_sound.proofs.RegionCallers.{and_none, not_here, from_under, follows_at}
 
-
 -- The slot, and the places of the stack from a depth on.
 abbrev pub stored_gone : (i h s n : ℕ) → Place → Bool
 stored_gone i h s n (InSlot j g t l) = nat_eq i j && (nat_eq h g && nat_eq s t)
@@ -68,11 +67,11 @@ slot_stays i h s n t l k = and_none (nat_eq i i) (nat_eq h h && nat_eq s t) (and
 
 -- A frame whose slot s has got a value, in a world where it fits there and the old value fits the stack, goes on.
 module _ (core : CoreData) (climb : ClimbLaw core) (ann : Ann) (needs : Needs core ann) (around : Around) (f : Frame) (fs : List Frame) (r : Runs core ann around f fs) (n : ℕ)
-  (w : World) (s : Situated core ann w around f (task.Store n ∷ f.tasks) fs)
-  (g : FinishRises core ann f.method s.active.depth s.active.holds.live s.active.holds.entries stores n (λ d l st. TasksRise core ann f.method f.tasks d l st))
-  (z : ℕ) (low : 0 < z) (has_room : z < length f.slots) (y : Slot × (ℕ × Cap)) (is_slot : slot_of core ann f.method z ≡ Some y) (left : g.note.live_after ≡ with_number g.behind.0 z) (v : Value) (rest : List Value) (fits_rest : StackFits w around.actor (length fs) s.active.holds.base g.below rest) where
+    (w : World) (s : Situated core ann w around f (task.Store n ∷ f.tasks) fs)
+    (g : FinishRises core ann f.method s.active.depth s.active.holds.live s.active.holds.entries stores n (λ d l st. TasksRise core ann f.method f.tasks d l st))
+    (z : ℕ) (low : 0 < z) (has_room : z < length f.slots) (y : Slot × (ℕ × Cap)) (is_slot : slot_of core ann f.method z ≡ Some y) (left : g.note.live_after ≡ with_number g.behind.0 z) (v : Value) (rest : List Value) (fits_rest : StackFits w around.actor (length fs) s.active.holds.base g.below rest) where
   module _ (u : World) (x : Shifts w u around.objects around.actors around.actor s.active.holds.base (stored_gone around.actor (length fs) z (length rest))) (last : u.top around.actor ≡ s.active.holds.base + s.active.depth)
-    (ajar : OpenedTo u around.actor s.active.holds.base s.active.depth) (in_slot : Fits u (InSlot around.actor (length fs) z (s.active.holds.base + y.0.depth)) (unalias y.1.1) v) where
+      (ajar : OpenedTo u around.actor s.active.holds.base s.active.depth) (in_slot : Fits u (InSlot around.actor (length fs) z (s.active.holds.base + y.0.depth)) (unalias y.1.1) v) where
     this_stored : ThisFits core u around.actor (length fs) f.method s.active.holds.base (slice_set f.slots z (Some v))
     this_stored m c a b =
         x.fits (InSlot around.actor (length fs) 0 s.active.holds.base) (unalias m.receiver) c (slot_stays around.actor (length fs) z (length rest) 0 s.active.holds.base (λ e. absurd (omega (arith, e, low))))
@@ -120,10 +119,12 @@ module _ (core : CoreData) (climb : ClimbLaw core) (ann : Ann) (needs : Needs co
     stored_goes typed fits alias =
         let up = rise core ann climb around.objects around.actors around.actor f.method s.active.holds.base s.active.depth g.note.live_after g.below (slice_set f.slots z (Some v)) rest fs u pushes_stored g.note.live_after g.note.ty (or_none (held (slice_get f.slots z))) f.tasks
         (λ k b. b) typed fits alias (follows_at core ann around f fs (task.Store n ∷ f.tasks) w s stores n (λ d l st. TasksRise core ann f.method f.tasks d l st) g)
-        in
-        (up.0, record {
-          world = up.1.world;
-          fields = up.1.fields;
-          others = others_both w u up.0 around.actor around.actors (others_kept w u around.objects around.actors around.actor s.active.holds.base (stored_gone around.actor (length fs) z (length rest)) x (λ p e. gone_far around.actor (length fs) z (length rest) p e)) up.1.others;
-          frames = up.1.frames;
-        })
+        in (
+          up.0,
+          record {
+            world = up.1.world;
+            fields = up.1.fields;
+            others = others_both w u up.0 around.actor around.actors (others_kept w u around.objects around.actors around.actor s.active.holds.base (stored_gone around.actor (length fs) z (length rest)) x (λ p e. gone_far around.actor (length fs) z (length rest) p e)) up.1.others;
+            frames = up.1.frames;
+          },
+        )

@@ -63,11 +63,11 @@ both_or true b e k = e
 both_or false b e k = k
 
 module _ (settle : SettleLaw) (take : TakeLaw) (core : CoreData) (climb : ClimbLaw core) (ann : Ann) (needs : Needs core ann) (around : Around) (f : Frame) (fs : List Frame) (r : Runs core ann around f fs) (n : ℕ)
-  (w : World) (s : Situated core ann w around f (task.Store n ∷ f.tasks) fs)
-  (g : FinishRises core ann f.method s.active.depth s.active.holds.live s.active.holds.entries stores n (λ d l st. TasksRise core ann f.method f.tasks d l st))
-  (z : ℕ) (low : 0 < z) (has_room : z < length f.slots) (y : Slot × (ℕ × Cap)) (is_slot : slot_of core ann f.method z ≡ Some y) (left : g.note.live_after ≡ with_number g.behind.0 z) (v : Value) (rest : List Value) (fits_rest : StackFits w around.actor (length fs) s.active.holds.base g.below rest)
-  (near : (y.0.depth ≡ s.active.depth) ⊎ (sendable y.1.1 ≡ true)) (outer : y.0.depth ≤ s.active.depth) (form : Form) (less : is_below form (unalias y.1.1) ≡ true)
-  (fit : Fits w (OnStack around.actor (length fs) (length rest) (s.active.holds.base + s.active.depth)) form v) where
+    (w : World) (s : Situated core ann w around f (task.Store n ∷ f.tasks) fs)
+    (g : FinishRises core ann f.method s.active.depth s.active.holds.live s.active.holds.entries stores n (λ d l st. TasksRise core ann f.method f.tasks d l st))
+    (z : ℕ) (low : 0 < z) (has_room : z < length f.slots) (y : Slot × (ℕ × Cap)) (is_slot : slot_of core ann f.method z ≡ Some y) (left : g.note.live_after ≡ with_number g.behind.0 z) (v : Value) (rest : List Value) (fits_rest : StackFits w around.actor (length fs) s.active.holds.base g.below rest)
+    (near : (y.0.depth ≡ s.active.depth) ⊎ (sendable y.1.1 ≡ true)) (outer : y.0.depth ≤ s.active.depth) (form : Form) (less : is_below form (unalias y.1.1) ≡ true)
+    (fit : Fits w (OnStack around.actor (length fs) (length rest) (s.active.holds.base + s.active.depth)) form v) where
   pub level_ok : s.active.holds.base + s.active.depth ≤ s.active.holds.base + s.active.depth
   level_ok = omega arith
 
@@ -151,8 +151,8 @@ module _ (settle : SettleLaw) (take : TakeLaw) (core : CoreData) (climb : ClimbL
       in
       stored_goes core climb ann needs around f fs r n w s g z low has_room y is_slot left v rest fits_rest u x (two.calm.top i ∙ top_b)
       (λ j above to.
-          ap u.stands (two.calm.context i j s.here (open_level j (b.top i) top_b to)) ∙ two.calm.opened (b.context i j) i
-          (ap b.stands (one.calm.context i j s.here (open_level j (a.top i) top_a to)) ∙ one.calm.opened (a.context i j) i (up.ajar j above to)))
+      ap u.stands (two.calm.context i j s.here (open_level j (b.top i) top_b to)) ∙ two.calm.opened (b.context i j) i
+      (ap b.stands (one.calm.context i j s.here (open_level j (a.top i) top_a to)) ∙ one.calm.opened (a.context i j) i (up.ajar j above to)))
       (two.calm.shifts.fits (InSlot i h z (base + y.0.depth)) k v refl one.fits)
       (subst (λ (c : Value). OfSome core around.objects g.note.ty c) (sym is) typed)
       (subst (λ (c : Value). FitsSome u (OnStack i h m lv) g.note.ty c) (sym is) (subst (λ (o : Option Ty). FitsSome u (OnStack i h m lv) o old) (sym ty) two.fits))

@@ -143,7 +143,6 @@ module _ (take : TakeLaw) (w : World) (objects : ObjectMap) (count i base d : �
   same_home k (inl e) bound = ap (λ (l : ℕ). w.context i (base + l)) e
   same_home k (inr e) bound = absurd (false_true (sym bound ∙ e))
 
-
   ref_up : (u : Value) → w.context i (base + c) ≡ w.context i (base + d) → Fits w (InSlot i h s (base + c)) form.Ref u → Fits w (OnStack i h n (base + d)) form.Ref u
   ref_up (At a) is e = e ∙ is
   ref_up (Num m) is e = tt

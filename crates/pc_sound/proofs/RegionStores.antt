@@ -46,8 +46,8 @@ use Rattle.pc_sound.proofs.RegionStoreTask.{without_old, with_old}
 use Rattle.pc_sound.proofs.RegionSteps.{KeepsRegions}
 
 module _ (settle : SettleLaw) (take : TakeLaw) (core : CoreData) (climb : ClimbLaw core) (ann : Ann) (flat : LiveShallow core ann) (needs : Needs core ann) (around : Around) (f : Frame) (fs : List Frame) (r : Runs core ann around f fs) (n : ℕ)
-  (e : FinishOk core ann f.method r.held.live r.held.set r.held.wants stores n (λ l s g. TasksOk core ann f.method f.tasks l s g)) (w : World) (s : Situated core ann w around f (task.Store n ∷ f.tasks) fs)
-  (g : FinishRises core ann f.method s.active.depth s.active.holds.live s.active.holds.entries stores n (λ d l st. TasksRise core ann f.method f.tasks d l st)) where
+    (e : FinishOk core ann f.method r.held.live r.held.set r.held.wants stores n (λ l s g. TasksOk core ann f.method f.tasks l s g)) (w : World) (s : Situated core ann w around f (task.Store n ∷ f.tasks) fs)
+    (g : FinishRises core ann f.method s.active.depth s.active.holds.live s.active.holds.entries stores n (λ d l st. TasksRise core ann f.method f.tasks d l st)) where
   abbrev me : FinishOk core ann f.method r.held.live r.held.set r.held.wants stores n (λ l s g. TasksOk core ann f.method f.tasks l s g)
   me = finish_at core ann f.method r.held.live r.held.set r.held.wants stores n (λ l s g. TasksOk core ann f.method f.tasks l s g) e g.node g.note g.is_node g.is_note
 

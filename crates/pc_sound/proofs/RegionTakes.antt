@@ -90,6 +90,7 @@ was_field i t a k (InMail j n m) e =
   where
     slot_is : InSlot i 0 (suc m) 0 ≡ InField a k → ⊥
     slot_is f = cc
+
     mail_is : InMail j n m ≡ InField a k → ⊥
     mail_is f = cc
 
@@ -197,8 +198,7 @@ module _ (core : CoreData) (ann : Ann) (w : World) (i t : ℕ) where
       let slots = λ (h s l : ℕ) (g : Form) (v : Value) (low : h < suc (length fs)) (x : Fits w (InSlot j h s l) g v). fits_on w i t (InSlot j h s l) g v refl x in
       let stacks = λ (h d l : ℕ) (g : Form) (v : Value) (low : h < suc (length fs)) (x : Fits w (OnStack j h d l) g v). fits_on w i t (OnStack j h d l) g v refl x in
       let over = λ (m l : ℕ) (up : m ≤ k.0.holds.base) (low : l < k.0.holds.base) (x : Over w j (w.context j m) l). over_on w i t j l (w.context j m) x in
-      let ajar = λ (l : ℕ) (up : l ≤ k.0.holds.base) (x : w.stands (w.context j l) ≡ Opened j). opened_on w i t (w.context j l) j x in
-      (
+      let ajar = λ (l : ℕ) (up : l ≤ k.0.holds.base) (x : w.stands (w.context j l) ≡ Opened j). opened_on w i t (w.context j l) j x in (
         record {
           holds = holds_kept core ann w (received w i t) j (suc (length fs)) slots stacks k.0.holds.base ajar over (length fs) f.method f.slots f.stack (omega arith) k.0.holds;
           depth = k.0.depth;

@@ -45,7 +45,8 @@ use Rattle.pc_sound.specs.RegionSettle.{Free, Takes, TakeLaw}
 use Rattle.pc_sound.proofs.Needs.{Needs}
 use Rattle.pc_sound.proofs.Needed.{first_own, not_first}
 use Rattle.pc_sound.proofs.Basic.{of_lower}
-use Rattle.pc_sound.proofs.EvalValue.{not_zero, taken_lower, own_at, seen_this, slot_ok}
+use Rattle.pc_sound.proofs.EvalValue.{not_zero, own_at, seen_this, slot_ok}
+use Rattle.pc_sound.proofs.Places.{taken_lower}
 use Rattle.pc_sound.proofs.Inverse.{Says, Used, ThisRule}
 use Rattle.pc_sound.proofs.RegionShifts.{others_kept, fields_kept, below_kept}
 use Rattle.pc_sound.proofs.RegionSettle.{shifts_none}
@@ -134,7 +135,7 @@ slot_elsewhere i h s (InField a f) e = refl
 slot_elsewhere i h s (InMail j t f) e = refl
 
 module _ (core : CoreData) (ann : Ann) (needs : Needs core ann) (climb : ClimbLaw core) (take : TakeLaw) (around : Around) (f : Frame) (fs : List Frame) (r : Runs core ann around f fs) (w : World) (n : ℕ) (s : Situated core ann w around f (task.Eval n ∷ f.tasks) fs)
-  (e : EvalRises core ann f.method s.active.depth s.active.holds.live s.active.holds.entries n (λ d l g. TasksRise core ann f.method f.tasks d l g)) (t : EvalOk core ann f.method r.held.live r.held.set r.held.wants n (λ l z g. TasksOk core ann f.method f.tasks l z g)) where
+    (e : EvalRises core ann f.method s.active.depth s.active.holds.live s.active.holds.entries n (λ d l g. TasksRise core ann f.method f.tasks d l g)) (t : EvalOk core ann f.method r.held.live r.held.set r.held.wants n (λ l z g. TasksOk core ann f.method f.tasks l z g)) where
   abbrev i : ℕ
   i = around.actor
 
@@ -258,11 +259,11 @@ module _ (core : CoreData) (ann : Ann) (needs : Needs core ann) (climb : ClimbLa
       let said : Says e.note (Some ty) (before e.note) = subst (λ (x : Method). Says e.note (Some (x.entity, this_form core e.node x.entity q.slot e.note.set_before)) (before e.note)) own q.says in
       let typed : OfType core around.objects ty r.held.this = record { entity = r.held.own.entity; is_entity = r.held.this_ok.is_entity; below = inl refl; kind = r.held.this_ok.kind; finished = seen_this core ann needs around f fs r n typed_eval q.slot slot } in
       let read = this_seen (full core r.held.own.entity e.note.set_before && reachable e.node q.slot) q.slot.1.1
-          (λ b. this_read q.slot.1.1 (ap (λ (p : ℕ × Cap). p.1) slot)
-          (elim (near_slot q.slot (and_parts (full core r.held.own.entity e.note.set_before) (reachable e.node q.slot) b).1) [
-            | inl z ↦ inl (sym (this_depth q.slot q.is_slot) ∙ z)
-            | inr z ↦ inr z
-          ]))
+      (λ b. this_read q.slot.1.1 (ap (λ (p : ℕ × Cap). p.1) slot)
+      (elim (near_slot q.slot (and_parts (full core r.held.own.entity e.note.set_before) (reachable e.node q.slot) b).1) [
+        | inl z ↦ inl (sym (this_depth q.slot q.is_slot) ∙ z)
+        | inr z ↦ inr z
+      ]))
       in
       subst (λ (o : Option (Option Value)). RegionMoveOk core ann w around fs (push_slot f o)) (sym r.held.is_this) (leaf_goes ty r.held.this said typed read.0 read.1)
 
@@ -340,14 +341,16 @@ module _ (core : CoreData) (ann : Ann) (needs : Needs core ann) (climb : ClimbLa
         taken_goes : RegionMoveOk core ann w around fs (Goes (pushed (with_slot f z None) value_at.value))
         taken_goes =
             let up = rise core ann climb around.objects around.actors i f.method base d e.note.live_after s.active.holds.entries (slice_set f.slots z None) f.stack fs v left_pushes e.note.live_after (Some (p.0, unalias p.1)) value_at.value f.tasks
-                (λ k b. b) here_typed fits (no_alias v i base (base + d) p.1 value_at.value) (follows_at (Some (p.0, unalias p.1)) q.ty)
-            in
-            (up.0, record {
-              world = up.1.world;
-              fields = up.1.fields;
-              others = others_both w v up.0 i around.actors (others_kept w v around.objects around.actors i base (one_slot i h z) x (λ y g. slot_elsewhere i h z y g)) up.1.others;
-              frames = up.1.frames;
-            })
+            (λ k b. b) here_typed fits (no_alias v i base (base + d) p.1 value_at.value) (follows_at (Some (p.0, unalias p.1)) q.ty)
+            in (
+              up.0,
+              record {
+                world = up.1.world;
+                fields = up.1.fields;
+                others = others_both w v up.0 i around.actors (others_kept w v around.objects around.actors i base (one_slot i h z) x (λ y g. slot_elsewhere i h z y g)) up.1.others;
+                frames = up.1.frames;
+              },
+            )
 
       -- What is not `iso` or `trn` is only copied.
       copied : Fits w place (unalias p.1) value_at.value → RegionMoveOk core ann w around fs (Goes (pushed (with_slot f z None) value_at.value))
