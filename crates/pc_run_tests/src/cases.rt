@@ -48,7 +48,16 @@ const HELLO: &[u8] = b"actor Main
 fn hello(rt: HostRuntime) {
     let alloc = rt.alloc();
     let text = b"hi\nsteps 11 skipped 0 actors 2 objects 3 waiting 0\n";
-    assert!(rt; runs(alloc, HELLO, b"1*10 0", &[], Ok(report(11, 0, 2, 3, 0)), text));
+    assert!(rt;
+        runs(
+            alloc,
+            HELLO,
+            b"1*10 0",
+            &[],
+            Ok(report(11, 0, 2, 3, 0)),
+            text
+        )
+    );
     let text = b"steps 0 skipped 0 actors 2 objects 3 waiting 1\n";
     assert!(rt; runs(alloc, HELLO, b"", &[], Ok(report(0, 0, 2, 3, 1)), text));
     let text = b"steps 0 skipped 5 actors 2 objects 3 waiting 1\n";
@@ -67,9 +76,36 @@ const DOUBLES: &[u8] = b"actor Main
 fn too_long(rt: HostRuntime) {
     let alloc = rt.alloc();
     let schedule = b"1*9 0 1*1000";
-    assert!(rt; runs(alloc, DOUBLES, schedule, &[], Err(RunFault::TooLong(157)), b"go\n"));
-    assert!(rt; runs(alloc, DOUBLES, b"7*3 1*9 0 1*1000", &[], Err(RunFault::TooLong(160)), b"go\n"));
-    assert!(rt; runs(alloc, DOUBLES, schedule, &[(1, 1)], Err(RunFault::Sink), b"g"));
+    assert!(rt;
+        runs(
+            alloc,
+            DOUBLES,
+            schedule,
+            &[],
+            Err(RunFault::TooLong(157)),
+            b"go\n"
+        )
+    );
+    assert!(rt;
+        runs(
+            alloc,
+            DOUBLES,
+            b"7*3 1*9 0 1*1000",
+            &[],
+            Err(RunFault::TooLong(160)),
+            b"go\n"
+        )
+    );
+    assert!(rt;
+        runs(
+            alloc,
+            DOUBLES,
+            schedule,
+            &[(1, 1)],
+            Err(RunFault::Sink),
+            b"g"
+        )
+    );
 }
 
 /// Each text is one call of `put`, and the numbers are one more. Behind a call that failed nothing is written.
@@ -77,8 +113,26 @@ fn too_long(rt: HostRuntime) {
 fn sinks_that_fail(rt: HostRuntime) {
     let alloc = rt.alloc();
     assert!(rt; runs(alloc, HELLO, b"1*10 0", &[(1, 0)], Err(RunFault::Sink), b""));
-    assert!(rt; runs(alloc, HELLO, b"1*10 0", &[(1, 2)], Err(RunFault::Sink), b"hi"));
-    assert!(rt; runs(alloc, HELLO, b"1*10 0", &[(2, 2)], Err(RunFault::Sink), b"hi\nst"));
+    assert!(rt;
+        runs(
+            alloc,
+            HELLO,
+            b"1*10 0",
+            &[(1, 2)],
+            Err(RunFault::Sink),
+            b"hi"
+        )
+    );
+    assert!(rt;
+        runs(
+            alloc,
+            HELLO,
+            b"1*10 0",
+            &[(2, 2)],
+            Err(RunFault::Sink),
+            b"hi\nst"
+        )
+    );
 }
 
 const COUNTS: &[u8] = b"actor Main
