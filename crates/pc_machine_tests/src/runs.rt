@@ -134,12 +134,12 @@ actor Main
     n + 1
 ";
 
-/// A million steps: eight, 27,777 times round the loop with 36 each, and 20 of another time, up to the message.
+/// A million steps: eight, 27,026 times round the loop with 37 each, and 30 of another time, behind the message.
 #[test]
 fn a_million_steps(rt: HostRuntime) {
     let turns = [
-        turn(1, 1_000_000, 1_000_000, (2, 27_781, 27_778, 0)),
-        turn(0, 1_000_000, 27_778, (2, 27_781, 0, 27_778)),
+        turn(1, 1_000_000, 1_000_000, (2, 27_030, 27_027, 0)),
+        turn(0, 1_000_000, 27_027, (2, 27_030, 0, 27_027)),
     ];
     let outcome = outcome_behind(rt.alloc(), LONG, &turns, 0);
     assert!(rt; outcome == Some(Outcome::Skipped));
