@@ -1,1 +1,3 @@
+pub mod Finds
+pub mod Slices
 pub mod Sounds

@@ -1,184 +1,250 @@
--- A heap stays sound.
-use Rattle.std.proofs.Common.{◌≡◌, ℕ, ◌+◌, ◌<◌, ◌≤◌, Bool, true, false, cond, List, length, Option, Some, None, refl, sym, ap, ◌∙◌, subst, arith}
-use Rattle.std.specs.Prelude.{nat_eq, is_some, IsSome, slice_get, replicate}
-use Rattle.std.proofs.lemmas.Bool.{true≢false, eq-eqb, eqb-true}
-use Rattle.std.proofs.lemmas.Option.{none-some}
-use Rattle.std.proofs.lemmas.Option.{slice_get_within}
-use Rattle.std.proofs.lemmas.Map.Lookups.{exact_unsigned}
-use Rattle.std.proofs.lemmas.Map.Views.{tells_apart}
+-- A heap stays sound, and what its objects are then.
+use Rattle.std.proofs.Common.{◌≡◌, ℕ, zero, suc, ◌+◌, ◌^◌, ◌<◌, ◌≤◌, ◌⊎◌, inl, inr, Bool, true, false, cond, List, [], ◌∷◌, ◌++◌, length, set, slice_get, replicate, Option, Some, None, refl, sym, ap, ◌∙◌, subst, arith, length-append, length-set}
+use Rattle.std.proofs.lemmas.List.{length-replicate}
+use Rattle.std.specs.Prelude.{nat_eq}
 use Rattle.std.specs.Ordering.{nat_cmp, eq_by_cmp}
 use Rattle.std.specs.Cmp.{nat_cmp_total}
-use Rattle.std.specs.FinMap.{FinMap, empty, get, insert, remove, len, get-empty, len-empty, get-insert, get-remove}
+use Rattle.std.specs.FinMap.{empty, get, insert, len, same_map, get-insert, get-empty, len-empty}
+use Rattle.std.proofs.lemmas.Bool.{true≢false, eq-eqb, eqb-true}
+use Rattle.std.proofs.lemmas.Option.{none-some, same_Some, slice_get_within, slice_get_past}
+use Rattle.std.proofs.lemmas.Map.Lookups.{exact_unsigned}
+use Rattle.std.proofs.lemmas.Map.Views.{tells_apart}
 use Rattle.pc_heap.specs.declared.value.Address.{Address}
 use Rattle.pc_heap.specs.declared.value.Object.{Object}
 use Rattle.pc_heap.specs.declared.value.Value.{Value}
-use Rattle.pc_heap.specs.declared.spare.Spare.{Spare}
-use Rattle.pc_heap.specs.Objects.{address_cmp, ObjectMap, made_by, object_in, field_in}
-use Rattle.pc_heap.specs.Heaps.{object_limit}
-use Rattle.pc_heap.specs.Inside.{or_zero, shown, kept_at, room_of, Ready, Sound}
-use Rattle.pc_heap.specs.Maps.{addresses_total, exact_addresses, tied_own, get_own, get_removed, remove_insert, insert_remove, remove_other}
+use Rattle.pc_heap.specs.declared.entry.Entry.{Entry}
+use Rattle.pc_heap.specs.Objects.{address_cmp, ObjectMap, made_by, new_object, with_field, with_value, object_in, field_in}
+use Rattle.pc_heap.specs.Heaps.{Room, object_limit}
+use Rattle.pc_heap.specs.Maps.{addresses_total, exact_addresses, tied_own, get_at}
 use Rattle.pc_heap.specs.Counts.{one_if, made_more, made_same, len_more, len_same, made_few}
+use Rattle.pc_heap.specs.Rows.{RowList, RowData, row_in, numbers_of}
+use Rattle.pc_heap.specs.Entries.{Items, object_of, objects_of, at_number, entry_found, Laid}
+use Rattle.pc_heap.specs.Inside.{Ready, Sound}
+use Rattle.pc_heap.proofs.Finds.{other_than, object_found, found_is, entry_is, laid_within, laid_apart, laid_more}
+use Rattle.pc_heap.proofs.Slices.{part, get_part, set_before, set_after, set_inside, part_append, part_new, get_old, get_new, get_far}
 
-pub no_room : (spare : Option Spare) → room_of spare ≡ None → spare ≡ None
-no_room None e = refl
-no_room (Some spare) e = absurd (none-some _ (sym e))
+which : (b : Bool) → (b ≡ true) ⊎ (b ≡ false)
+which true = inl refl
+which false = inr refl
 
-no_object : (o : Option Object) → o ≡ None → IsSome o → ⊥
-no_object o e h = true≢false (sym h ∙ ap is_some e)
-
-free_if : (o : Option Object) → (IsSome o → ⊥) → o ≡ None
-free_if None never = refl
-free_if (Some x) never = absurd (never refl)
-
-none_made : (maker : ℕ) → made_by empty maker ≤ len (empty {X = Object} {R = address_cmp}) → made_by empty maker ≡ or_zero (get (empty {X = ℕ} {R = nat_cmp}) maker)
-none_made maker few =
-    let zero : or_zero (get (empty {X = ℕ} {R = nat_cmp}) maker) ≡ 0 = ap or_zero (get-empty nat_cmp maker) in
-    omega (arith, few, zero, len-empty address_cmp Object)
-
-pub sound_new : Sound empty empty 0 None
-sound_new = record {
-  ready = tt;
-  counted = λ maker. none_made maker (made_few empty maker);
-  below = λ a h. absurd (no_object (get empty a) (get-empty address_cmp a) h);
-  count = sym (len-empty address_cmp Object);
+-- a new heap
+pub sound_new : (free spare : ℕ) (rows : RowList) → rows ≡ [] → Sound [] free [] spare rows None
+sound_new free spare rows e = record {
+  found = λ a i at. absurd (none-some i (sym (ap (λ (m : RowList). slice_get (numbers_of m a.maker) a.serial) e) ∙ at));
+  numbered = λ i x at. absurd (none-some x at);
+  laid = refl;
+  counted = λ k. none_made k (made_few (objects_of [] []) k) ∙ sym (ap (λ (m : RowList). length (numbers_of m k)) e);
+  count = sym none_at_all;
   few = omega arith;
+  small = omega arith;
+  ready = tt;
 }
+  where
+    no_objects : objects_of [] [] ≡ empty
+    no_objects = same_map {R = address_cmp} addresses_total exact_addresses (objects_of [] []) empty (λ q. get_at addresses_total [] q ∙ sym (get-empty address_cmp q))
 
-module _ (m : ObjectMap) (s : FinMap nat_cmp ℕ) (made : ℕ) where
-  -- the address of the next object is free
-  pub next_free : (spare : Option Spare) → Sound m s made spare → (a : Address) → or_zero (get s a.maker) ≤ a.serial → get (shown m spare) a ≡ None
-  next_free spare so a high = free_if (get (shown m spare) a) (λ h. let low = so.below a h in omega (arith, low, high))
+    none_at_all : len (objects_of [] []) ≡ 0
+    none_at_all = ap len no_objects ∙ len-empty address_cmp Object
 
-  module _ (s2 : FinMap nat_cmp ℕ) (so : Sound m s made None) (a : Address) (blank : Object) (fields : List (Option Value)) (here : get s2 a.maker ≡ Some a.serial) (is : a.serial ≡ or_zero (get s a.maker)) where
-    pub claimed : remove (insert m a blank) a ≡ m
-    claimed = remove_insert addresses_total exact_addresses m a blank (next_free None so a (omega (arith, is)))
+    none_made : (k : ℕ) → made_by (objects_of [] []) k ≤ len (objects_of [] []) → made_by (objects_of [] []) k ≡ 0
+    none_made k le = let none = none_at_all in omega arith
 
-    pub claim_sound : len m < object_limit → ((q : ℕ) → or_zero (get s2 q) ≡ or_zero (get s q)) → fields ≡ replicate (length fields) None → Sound (insert m a blank) s2 made (Some record { address = a; fields = fields })
-    claim_sound few same none = record {
-      ready = (subst (λ (o : Option Object). IsSome o) (sym (get_own addresses_total m a blank)) refl, here, omega (arith, few, so.count), none);
-      counted = λ q. ap (λ n. made_by n q) claimed ∙ so.counted q ∙ sym (same q);
-      below = λ q h. subst (λ n. q.serial < n) (sym (same q.maker)) (so.below q (subst (λ (n : ObjectMap). IsSome (get n q)) claimed h));
-      count = so.count ∙ sym (ap len claimed);
-      few = so.few;
-    }
+module _ (made : List Entry) (free : ℕ) (items : Items) (spare : ℕ) (rows : RowList) (room : Option Room) (h : Sound made free items spare rows room) where
+  abbrev objects : ObjectMap
+  objects = objects_of items made
 
--- what is seen at an address that is not kept, and at one that is
-pub shown_get : (m : ObjectMap) (spare : Option Spare) (a : Address) → kept_at spare a ≡ false → get (shown m spare) a ≡ get m a
-shown_get m None a e = refl
-shown_get m (Some spare) a e = get-remove addresses_total m spare.address a ∙ ap (λ b. cond b None (get m a)) e
+  pub look : (q : Address) → get objects q ≡ object_found items (entry_found rows made q)
+  look = found_is made rows h.found h.numbered items
 
-shown_kept : (m : ObjectMap) (spare : Option Spare) (a : Address) → kept_at spare a ≡ true → get (shown m spare) a ≡ None
-shown_kept m None a e = absurd (true≢false (sym e))
-shown_kept m (Some spare) a e = get-remove addresses_total m spare.address a ∙ ap (λ b. cond b None (get m a)) e
+  pub serial_small : (maker : ℕ) → length (numbers_of rows maker) ≤ object_limit
+  serial_small maker = let few = h.few in omega (arith, h.counted maker, made_few objects maker, h.count)
 
-slice_some : (xs : List (Option Value)) (k : ℕ) (o : Option (Option Value)) → slice_get xs k ≡ o → is_some o ≡ true → k < length xs
-slice_some xs k None e h = absurd (true≢false (sym h))
-slice_some xs k (Some x) e h = slice_get_within xs k x e
+  -- the memory of the next object is another
+  pub moved : (free2 spare2 : ℕ) (rows2 : RowList) (room2 : Option Room) → ((k : ℕ) → numbers_of rows2 k ≡ numbers_of rows k) → Ready (length made) free2 spare2 rows2 room2 → Sound made free2 items spare2 rows2 room2
+  moved free2 spare2 rows2 room2 same ready = record {
+    found = λ a i e. h.found a i (ap (λ l. slice_get l a.serial) (sym (same a.maker)) ∙ e);
+    numbered = λ i e at. ap (λ l. slice_get l e.address.serial) (same e.address.maker) ∙ h.numbered i e at;
+    laid = h.laid;
+    counted = λ k. h.counted k ∙ ap length (sym (same k));
+    count = h.count;
+    few = h.few;
+    small = h.small;
+    ready = ready;
+  }
 
--- the object stands, and has the field
-pub record There (m : ObjectMap) (spare : Option Spare) (a : Address) (field : ℕ) : Type 0 where
-  pub kept : kept_at spare a ≡ false
-  pub seen : get (shown m spare) a ≡ get m a
-  pub stands : IsSome (get m a)
-  pub room : field < length (object_in (get m a)).fields
+  -- the field of an object
+  module _ (a : Address) (e : Entry) (is : entry_found rows made a ≡ Some e) (field : ℕ) where
+    here : (i : ℕ) × (slice_get (numbers_of rows a.maker) a.serial ≡ Some i) × (slice_get made i ≡ Some e) × (e.address ≡ a)
+    here = entry_is made rows h.found h.numbered a e is
 
-object_there : (o : Option Object) (field : ℕ) → is_some (field_in o field) ≡ true → IsSome o × (field < length (object_in o).fields)
-object_there None field h = absurd (true≢false (sym h))
-object_there (Some x) field h = (refl, slice_some x.fields field (slice_get x.fields field) refl h)
+    pub stands : get objects a ≡ Some (object_of items e)
+    stands = look a ∙ ap (object_found items) is
 
-there_cases : (m : ObjectMap) (spare : Option Spare) (a : Address) (field : ℕ) (t : Bool) → kept_at spare a ≡ t → is_some (field_in (get (shown m spare) a) field) ≡ true → There m spare a field
-there_cases m spare a field true e h = absurd (true≢false (sym h ∙ ap (λ o. is_some (field_in o field)) (shown_kept m spare a e)))
-there_cases m spare a field false e h =
-    let seen = shown_get m spare a e in
-    let there = object_there (get m a) field (ap (λ o. is_some (field_in o field)) (sym seen) ∙ h) in
-    record { kept = e; seen = seen; stands = there.0; room = there.1 }
+    module _ (lt : field < e.fields) where
+      pub within : e.first + field < length items
+      within = let on = (laid_within 0 made (length items) here.0 e h.laid here.2).1 in omega arith
 
-pub there : (m : ObjectMap) (spare : Option Spare) (a : Address) (field : ℕ) (n : ObjectMap) → shown m spare ≡ n → is_some (field_in (get n a) field) ≡ true → There m spare a field
-there m spare a field n e h = there_cases m spare a field (kept_at spare a) refl (ap (λ (x : ObjectMap). is_some (field_in (get x a) field)) e ∙ h)
+      pub place_small : e.first + field < 2 ^ 32
+      place_small = let small = h.small in let few = h.few in let on = within in omega arith
 
-pub field_object : (o : Option Object) (field : ℕ) → IsSome o → field_in o field ≡ slice_get (object_in o).fields field
-field_object None field h = absurd (true≢false (sym h))
-field_object (Some x) field h = refl
+      pub field_is : field_in (get objects a) field ≡ slice_get items (e.first + field)
+      field_is = ap (λ o. field_in o field) stands ∙ get_part e.first e.fields items field lt
 
-pub set_shown : (m : ObjectMap) (spare : Option Spare) (a : Address) (x : Object) → kept_at spare a ≡ false → shown (insert m a x) spare ≡ insert (shown m spare) a x
-set_shown m None a x e = refl
-set_shown m (Some spare) a x e = remove_other addresses_total exact_addresses m a spare.address x (λ same. true≢false (sym (tied_own addresses_total a) ∙ ap (eq_by_cmp address_cmp a) same ∙ e))
+      module _ (x : Option Value) where
+        abbrev items2 : Items
+        items2 = set items (e.first + field) x
 
-some_of : (o : Option Object) → IsSome o → (x : Object) × (o ≡ Some x)
-some_of None h = absurd (true≢false (sym h))
-some_of (Some x) h = (x, refl)
+        abbrev new : Object
+        new = object_of items2 e
 
-some_if : (b : Bool) (x : Object) (o : Option Object) → IsSome o → IsSome (cond b (Some x) o)
-some_if true x o h = refl
-some_if false x o h = h
+        other_object : (q : Address) (f : Entry) → (q ≡ a → ⊥) → entry_found rows made q ≡ Some f → object_of items2 f ≡ object_of items f
+        other_object q f apart isf =
+            let there = entry_is made rows h.found h.numbered q f isf in
+            let differ : (here.0 ≡ there.0 → ⊥) = λ same. apart (sym there.3 ∙ ap (λ (y : Entry). y.address) (same_Some f e (sym there.2 ∙ ap (slice_get made) (sym same) ∙ here.2)) ∙ here.3) in
+            ap (λ (fs : List (Option Value)). record { entity = f.entity; fields = fs }) (elim (laid_apart 0 made (length items) here.0 there.0 e f h.laid here.2 there.2 differ) [
+              | inl before ↦ set_before f.first f.fields items (e.first + field) x (omega arith)
+              | inr after ↦ set_after f.first f.fields items (e.first + field) x (omega arith)
+            ])
 
-set_ready : (m : ObjectMap) (s : FinMap nat_cmp ℕ) (made : ℕ) (spare : Option Spare) (a : Address) (x : Object) → Ready m s made spare → Ready (insert m a x) s made spare
-set_ready m s made None a x h = tt
-set_ready m s made (Some spare) a x h =
-    (subst (λ (o : Option Object). IsSome o) (sym (get-insert addresses_total m a x spare.address)) (some_if (eq_by_cmp address_cmp spare.address a) x (get m spare.address) h.0), h.1, h.2, h.3)
+        others : (q : Address) (o : Option Entry) → (q ≡ a → ⊥) → entry_found rows made q ≡ o → object_found items2 o ≡ object_found items o
+        others q None apart e2 = refl
+        others q (Some f) apart e2 = ap Some (other_object q f apart e2)
 
-was_some : (n : ObjectMap) (a q : Address) (x y : Object) (b : Bool) → eq_by_cmp address_cmp q a ≡ b → get n a ≡ Some y → IsSome (cond b (Some x) (get n q)) → IsSome (get n q)
-was_some n a q x y true e is h = subst (λ (o : Option Object). IsSome o) (sym (ap (get n) (tells_apart exact_addresses q a e) ∙ is)) refl
-was_some n a q x y false e is h = h
+        at_each : (q : Address) (b : Bool) → eq_by_cmp address_cmp q a ≡ b → object_found items2 (entry_found rows made q) ≡ cond b (Some new) (object_found items (entry_found rows made q))
+        at_each q true eb = ap (λ (k : Address). object_found items2 (entry_found rows made k)) (tells_apart exact_addresses q a eb) ∙ ap (object_found items2) is
+        at_each q false eb = others q (entry_found rows made q) (other_than q a eb) refl
 
-pub set_sound : (m : ObjectMap) (s : FinMap nat_cmp ℕ) (made : ℕ) (spare : Option Spare) (a : Address) (field : ℕ) (x : Object) → Sound m s made spare → There m spare a field → Sound (insert m a x) s made spare
-set_sound m s made spare a field x so there =
-    let n = shown m spare in
-    let y = some_of (get m a) there.stands in
-    let is : get n a ≡ Some y.0 = there.seen ∙ y.1 in
-    let new = set_shown m spare a x there.kept in
-    record {
-      ready = set_ready m s made spare a x so.ready;
-      counted = λ maker. ap (λ k. made_by k maker) new ∙ made_same n a x y.0 maker is ∙ so.counted maker;
-      below = λ q h. so.below q (was_some n a q x y.0 (eq_by_cmp address_cmp q a) refl is (subst (λ (o : Option Object). IsSome o) (ap (λ (k : ObjectMap). get k q) new ∙ get-insert addresses_total n a x q) h));
-      count = so.count ∙ sym (ap len new ∙ len_same n a x y.0 is);
-      few = so.few;
-    }
+        written : objects_of items2 made ≡ insert objects a new
+        written = same_map {R = address_cmp} addresses_total exact_addresses (objects_of items2 made) (insert objects a new) (λ q.
+            found_is made rows h.found h.numbered items2 q ∙ at_each q (eq_by_cmp address_cmp q a) refl ∙ ap (cond (eq_by_cmp address_cmp q a) (Some new)) (sym (look q)) ∙ sym (get-insert addresses_total objects a new q))
 
-next_count : (serial n : ℕ) (b c : Bool) (o : Option ℕ) → (b ≡ true → c ≡ true) → (c ≡ true → b ≡ true) → n ≡ or_zero o → (b ≡ true → or_zero o ≡ serial) → n + one_if c ≡ or_zero (cond b (Some (serial + 1)) o)
-next_count serial n true true o up down is own = omega (arith, is, own refl)
-next_count serial n true false o up down is own = absurd (true≢false (sym (up refl)))
-next_count serial n false true o up down is own = absurd (true≢false (sym (down refl)))
-next_count serial n false false o up down is own = omega (arith, is)
+        pub put : (v : Value) → x ≡ Some v → objects_of items2 made ≡ with_value objects a field v
+        put v ex = written ∙ ap (λ (fs : List (Option Value)). insert objects a (record { entity = e.entity; fields = fs })) (set_inside e.first e.fields items field x lt)
+            ∙ ap (λ (y : Option Value). insert objects a (record { entity = e.entity; fields = set (part e.first e.fields items) field y })) ex
+            ∙ ap (λ (o : Option Object). insert objects a (with_field (object_in o) field v)) (sym stands)
 
-no_less : (serial : ℕ) (b : Bool) (o : Option ℕ) → (b ≡ true → or_zero o ≡ serial) → or_zero o ≤ or_zero (cond b (Some (serial + 1)) o)
-no_less serial true o own = omega (arith, own refl)
-no_less serial false o own = omega arith
+        pub put_sound : Sound made free items2 spare rows room
+        put_sound =
+            let same = length-set items (e.first + field) x in record {
+              found = h.found;
+              numbered = h.numbered;
+              laid = subst (Laid 0 made) (sym same) h.laid;
+              counted = λ k. ap (λ (m : ObjectMap). made_by m k) written ∙ made_same objects a new (object_of items e) k stands ∙ h.counted k;
+              count = h.count ∙ sym (ap len written ∙ len_same objects a new (object_of items e) stands);
+              few = h.few;
+              small = let small = h.small in omega arith;
+              ready = h.ready;
+            }
 
-module _ (m : ObjectMap) (s : FinMap nat_cmp ℕ) (made : ℕ) (spare : Spare) (so : Sound m s made (Some spare)) where
-  own_serial : or_zero (get s spare.address.maker) ≡ spare.address.serial
-  own_serial = ap or_zero so.ready.1
+-- an object is made
+module _ (made : List Entry) (free : ℕ) (items : Items) (spare : ℕ) (rows : RowList) (maker entity fields : ℕ) (h : Sound made free items spare rows (Some record { maker = maker; fields = fields })) where
+  abbrev serials : List ℕ
+  serials = numbers_of rows maker
 
-  pub serial_small : spare.address.serial < object_limit
-  serial_small = omega (arith, own_serial, so.counted spare.address.maker, made_few (remove m spare.address) spare.address.maker, so.count, so.ready.2)
+  abbrev pub made_at : Address
+  made_at = record { maker = maker; serial = length serials }
 
-  own_if : (q : ℕ) → eq_by_cmp nat_cmp q spare.address.maker ≡ true → or_zero (get s q) ≡ spare.address.serial
-  own_if q e = ap (λ k. or_zero (get s k)) (tells_apart exact_unsigned q spare.address.maker e) ∙ own_serial
+  abbrev x : Entry
+  x = record { address = made_at; entity = entity; first = length items; fields = fields }
 
-  new_below : (x : Object) (q : Address) (b : Bool) → eq_by_cmp address_cmp q spare.address ≡ b → IsSome (cond b (Some x) (get (remove m spare.address) q))
-      → q.serial < or_zero (get (insert s spare.address.maker (spare.address.serial + 1)) q.maker)
-  new_below x q true e h =
-      let same = tells_apart exact_addresses q spare.address e in
-      let next : or_zero (get (insert s spare.address.maker (spare.address.serial + 1)) q.maker) ≡ spare.address.serial + 1 =
-      ap (λ (a : Address). or_zero (get (insert s spare.address.maker (spare.address.serial + 1)) a.maker)) same ∙ ap or_zero (get_own nat_cmp_total s spare.address.maker (spare.address.serial + 1)) in
-      omega (arith, next, ap (λ (a : Address). a.serial) same)
-  new_below x q false e h =
-      let more = no_less spare.address.serial (eq_by_cmp nat_cmp q.maker spare.address.maker) (get s q.maker) (own_if q.maker) in
-      let next = ap or_zero (get-insert nat_cmp_total s spare.address.maker (spare.address.serial + 1) q.maker) in
-      omega (arith, so.below q h, more, next)
+  abbrev made2 : List Entry
+  made2 = made ++ x ∷ []
 
-  pub make_sound : (x : Object) → Sound (insert m spare.address x) (insert s spare.address.maker (spare.address.serial + 1)) (made + 1) None
-  make_sound x =
-      let a = spare.address in
-      let n = remove m a in
-      let new : insert m a x ≡ insert n a x = sym (insert_remove addresses_total exact_addresses m a x) in
-      let free = get_removed addresses_total m a in
-      record {
-        ready = tt;
-        counted = λ q. ap (λ k. made_by k q) new ∙ made_more n a x q free
-            ∙ next_count a.serial (made_by n q) (eq_by_cmp nat_cmp q a.maker) (nat_eq a.maker q) (get s q) (λ e. eq-eqb a.maker q (sym (tells_apart exact_unsigned q a.maker e))) (λ e. subst (λ k. eq_by_cmp nat_cmp k a.maker ≡ true) (eqb-true a.maker q e) (tied_own nat_cmp_total a.maker)) (so.counted q) (own_if q)
-            ∙ sym (ap or_zero (get-insert nat_cmp_total s a.maker (a.serial + 1) q));
-        below = λ q h. new_below x q (eq_by_cmp address_cmp q a) refl (subst (λ (o : Option Object). IsSome o) (ap (λ (k : ObjectMap). get k q) new ∙ get-insert addresses_total n a x q) h);
-        count = omega (arith, so.count, ap len new, len_more n a x free);
-        few = omega (arith, so.ready.2);
-      }
+  abbrev values2 : Items
+  values2 = items ++ replicate fields None
+
+  old : ObjectMap
+  old = objects_of items made
+
+  free_number : slice_get (numbers_of rows made_at.maker) made_at.serial ≡ None
+  free_number = slice_get_past serials (length serials) (omega arith)
+
+  pub made_free : get (objects_of items made) made_at ≡ None
+  made_free = look made free items spare rows (Some record { maker = maker; fields = fields }) h made_at ∙ ap (λ o. object_found items (at_number made o)) free_number
+
+  module _ (rows2 : RowList) (written2 : (other : ℕ) → numbers_of rows2 other ≡ cond (nat_eq maker other) (serials ++ length made ∷ []) (numbers_of rows other)) where
+    own_row : (k : ℕ) → k ≡ maker → numbers_of rows2 k ≡ serials ++ length made ∷ []
+    own_row k e = written2 k ∙ ap (λ b. cond b (serials ++ length made ∷ []) (numbers_of rows k)) (eq-eqb maker k (sym e))
+
+    other_row : (k : ℕ) → nat_eq maker k ≡ false → numbers_of rows2 k ≡ numbers_of rows k
+    other_row k e = written2 k ∙ ap (λ b. cond b (serials ++ length made ∷ []) (numbers_of rows k)) e
+
+    order : (a b : ℕ) → (a < b) ⊎ ((a ≡ b) ⊎ (b < a))
+    order zero zero = inr (inl refl)
+    order zero (suc b) = inl (omega arith)
+    order (suc a) zero = inr (inr (omega arith))
+    order (suc a) (suc b) = elim (order a b) [ inl lt ↦ inl (omega arith) | inr rest ↦ elim rest [ inl e ↦ inr (inl (ap suc e)) | inr gt ↦ inr (inr (omega arith)) ] ]
+
+    -- what the rows name at an address that is not the new one
+    same_number : (q : Address) → (q ≡ made_at → ⊥) → slice_get (numbers_of rows2 q.maker) q.serial ≡ slice_get (numbers_of rows q.maker) q.serial
+    same_number q apart = elim (which (nat_eq maker q.maker)) [
+      | inl e ↦ let own = sym (eqb-true maker q.maker e) in
+          ap (λ l. slice_get l q.serial) (own_row q.maker own) ∙ elim (order q.serial (length serials)) [
+            | inl lt ↦ get_old serials (length made) q.serial lt
+            | inr rest ↦ elim rest [
+              | inl same ↦ absurd (apart (λ i. record { maker = own i; serial = same i }))
+              | inr gt ↦ get_far serials (length made) q.serial gt ∙ sym (slice_get_past serials q.serial (omega arith))
+            ]
+          ] ∙ ap (λ k. slice_get (numbers_of rows k) q.serial) (sym own)
+      | inr e ↦ ap (λ l. slice_get l q.serial) (other_row q.maker e)
+    ]
+
+    new_number : (q : Address) → q ≡ made_at → slice_get (numbers_of rows2 q.maker) q.serial ≡ Some (length made)
+    new_number q e = ap (λ (a : Address). slice_get (numbers_of rows2 a.maker) a.serial) e ∙ ap (λ l. slice_get l (length serials)) (own_row maker refl) ∙ get_new serials (length made) (length serials) refl
+
+    found2 : (a : Address) (i : ℕ) → slice_get (numbers_of rows2 a.maker) a.serial ≡ Some i → (e : Entry) × (slice_get made2 i ≡ Some e) × (e.address ≡ a)
+    found2 a i at = elim (which (eq_by_cmp address_cmp a made_at)) [
+      | inl e ↦ let own = tells_apart exact_addresses a made_at e in
+          (x, get_new made x i (sym (same_Some (length made) i (sym (new_number a own) ∙ at))), sym own)
+      | inr e ↦ let before = h.found a i (sym (same_number a (other_than a made_at e)) ∙ at) in
+          (before.0, get_old made x i (slice_get_within made i before.0 before.1) ∙ before.1, before.2)
+    ]
+
+    numbered2 : (i : ℕ) (e : Entry) → slice_get made2 i ≡ Some e → slice_get (numbers_of rows2 e.address.maker) e.address.serial ≡ Some i
+    numbered2 i e at = elim (order i (length made)) [
+      | inl lt ↦ let before = h.numbered i e (sym (get_old made x i lt) ∙ at) in
+          same_number e.address (λ own. none-some i (sym (ap (λ (a : Address). slice_get (numbers_of rows a.maker) a.serial) own ∙ free_number) ∙ before)) ∙ before
+      | inr rest ↦ elim rest [
+        | inl same ↦ let is = same_Some x e (sym (get_new made x i same) ∙ at) in new_number e.address (ap (λ (y : Entry). y.address) (sym is)) ∙ ap Some (sym same)
+        | inr gt ↦ absurd (none-some e (sym (get_far made x i gt) ∙ at))
+      ]
+    ]
+
+    same_entry : (q : Address) (o : Option ℕ) → slice_get (numbers_of rows q.maker) q.serial ≡ o → object_found values2 (at_number made2 o) ≡ object_found items (at_number made o)
+    same_entry q None e = refl
+    same_entry q (Some i) e =
+        let there = h.found q i e in let f = there.0 in let low = laid_within 0 made (length items) i f h.laid there.1 in
+        ap (object_found values2) (get_old made x i (slice_get_within made i f there.1) ∙ there.1)
+        ∙ ap (λ (fs : List (Option Value)). Some record { entity = f.entity; fields = fs }) (part_append f.first f.fields items (replicate fields None) low.1) ∙ ap (object_found items) (sym there.1)
+
+    new_one : object_of values2 x ≡ new_object entity fields
+    new_one = ap (λ (fs : List (Option Value)). record { entity = entity; fields = fs }) (part_new fields items (replicate fields None) (sym (length-replicate fields None)))
+
+    at_each2 : (q : Address) (b : Bool) → eq_by_cmp address_cmp q made_at ≡ b → object_found values2 (entry_found rows2 made2 q) ≡ cond b (Some (new_object entity fields)) (object_found items (entry_found rows made q))
+    at_each2 q true e = ap (λ o. object_found values2 (at_number made2 o)) (new_number q (tells_apart exact_addresses q made_at e)) ∙ ap (object_found values2) (get_new made x (length made) refl) ∙ ap Some new_one
+    at_each2 q false e = ap (λ o. object_found values2 (at_number made2 o)) (same_number q (other_than q made_at e)) ∙ same_entry q (slice_get (numbers_of rows q.maker) q.serial) refl
+
+    pub made_objects : objects_of values2 made2 ≡ insert (objects_of items made) made_at (new_object entity fields)
+    made_objects = same_map {R = address_cmp} addresses_total exact_addresses (objects_of values2 made2) (insert (objects_of items made) made_at (new_object entity fields)) (λ q.
+        found_is made2 rows2 found2 numbered2 values2 q ∙ at_each2 q (eq_by_cmp address_cmp q made_at) refl
+        ∙ ap (cond (eq_by_cmp address_cmp q made_at) (Some (new_object entity fields))) (sym (found_is made rows h.found h.numbered items q)) ∙ sym (get-insert addresses_total (objects_of items made) made_at (new_object entity fields) q))
+
+    counts : (k : ℕ) (b : Bool) → nat_eq maker k ≡ b → length (numbers_of rows k) + one_if (nat_eq maker k) ≡ length (numbers_of rows2 k)
+    counts k true e =
+        let own = sym (eqb-true maker k e) in let one = ap one_if e in let more = length-append serials (length made ∷ []) in
+        let new = ap length (own_row k own) in let before = ap (λ j. length (numbers_of rows j)) own in omega arith
+    counts k false e = let same = ap length (other_row k e) in let none = ap one_if e in omega arith
+
+    pub made_sound : (free2 spare2 : ℕ) → Sound made2 free2 values2 spare2 rows2 None
+    made_sound free2 spare2 =
+        let more = length-append made (x ∷ []) in let wide = length-append items (replicate fields None) in let none : Option Value = None in let size = length-replicate fields none in let ready = h.ready in
+        record {
+          found = found2;
+          numbered = numbered2;
+          laid = subst (Laid 0 made2) (sym (wide ∙ ap (λ k. length items + k) size)) (laid_more 0 made (length items) x h.laid refl);
+          counted = λ k. ap (λ (m : ObjectMap). made_by m k) made_objects ∙ made_more (objects_of items made) made_at (new_object entity fields) k made_free ∙ ap (λ c. c + one_if (nat_eq maker k)) (h.counted k) ∙ counts k (nat_eq maker k) refl;
+          count = let many = ap len made_objects ∙ len_more (objects_of items made) made_at (new_object entity fields) made_free in let before = h.count in omega arith;
+          few = let low = ready.3 in omega arith;
+          small = let low = ready.4 in let before = h.small in omega arith;
+          ready = tt;
+        }

@@ -1,39 +1,32 @@
 -- What holds inside a heap.
-use Rattle.std.specs.Prelude.{◌≡◌, ◌<◌, ◌≤◌, ℕ, Bool, false, Option, Some, None, length, replicate, IsSome, ⊤}
-use Rattle.std.specs.Ordering.{nat_cmp, eq_by_cmp}
-use Rattle.std.specs.FinMap.{FinMap, get, remove, len}
+use Rattle.std.specs.Prelude.{◌≡◌, ℕ, ◌*◌, ◌<◌, ◌≤◌, List, Option, Some, None, length, slice_get, ⊤}
+use Rattle.std.specs.FinMap.{len}
 use Rattle.pc_heap.specs.declared.value.Address.{Address}
-use Rattle.pc_heap.specs.declared.spare.Spare.{Spare}
-use Rattle.pc_heap.specs.Objects.{address_cmp, ObjectMap, made_by}
-use Rattle.pc_heap.specs.Heaps.{Room, object_limit}
+use Rattle.pc_heap.specs.declared.entry.Entry.{Entry}
+use Rattle.pc_heap.specs.Objects.{made_by}
+use Rattle.pc_heap.specs.Heaps.{Room, object_limit, field_limit}
+use Rattle.pc_heap.specs.declared.room.Room.{Room as RoomField}
+use Rattle.pc_heap.specs.Rows.{RowList, numbers_of, spare_of}
+use Rattle.pc_heap.specs.Entries.{Items, objects_of, Laid}
 
-abbrev pub or_zero : Option ℕ → ℕ
-or_zero None = 0
-or_zero (Some n) = n
-
--- What stands at the spare address is no object yet.
-abbrev pub shown : ObjectMap → Option Spare → ObjectMap
-shown objects None = objects
-shown objects (Some spare) = remove objects spare.address
-
--- whether the address is the spare one
-abbrev pub kept_at : Option Spare → Address → Bool
-kept_at None a = false
-kept_at (Some spare) a = eq_by_cmp address_cmp a spare.address
-
-abbrev pub room_of : Option Spare → Option Room
+abbrev pub room_of : Option RoomField → Option Room
 room_of None = None
-room_of (Some spare) = Some record { maker = spare.address.maker; fields = length spare.fields }
+room_of (Some room) = Some record { maker = room.maker; fields = room.fields }
 
--- The next object can be made without memory.
-abbrev pub Ready : ObjectMap → FinMap nat_cmp ℕ → ℕ → Option Spare → Type 0
-Ready objects serials made None = ⊤
-Ready objects serials made (Some spare) = IsSome (get objects spare.address) × (get serials spare.address.maker ≡ Some spare.address.serial) × (made < object_limit) × (spare.fields ≡ replicate (length spare.fields) None)
+-- The next object can be made without memory: there is a free place for its entry, as many places for its fields as it
+-- has, and a free place in its maker's row.
+abbrev pub Ready : ℕ → ℕ → ℕ → RowList → Option Room → Type 0
+Ready made free spare rows None = ⊤
+Ready made free spare rows (Some room) = (0 < free) × (room.fields ≤ spare) × (0 < spare_of rows room.maker) × (made < object_limit) × (room.fields ≤ field_limit)
 
--- The serials of a maker are those below the number of its objects, and the count is right.
-pub record Sound (objects : ObjectMap) (serials : FinMap nat_cmp ℕ) (made : ℕ) (spare : Option Spare) : Type 0 where
-  pub ready : Ready objects serials made spare
-  pub counted : (maker : ℕ) → made_by (shown objects spare) maker ≡ or_zero (get serials maker)
-  pub below : (a : Address) → IsSome (get (shown objects spare) a) → a.serial < or_zero (get serials a.maker)
-  pub count : made ≡ len (shown objects spare)
-  pub few : made ≤ object_limit
+-- The rows name each entry once, by its address; its fields lie in the arena behind those of the entries before it; and
+-- the counts are right. There are at most 2^22 entries with at most 2^9 fields each, so each place is below 2^31.
+pub record Sound (made : List Entry) (free : ℕ) (items : Items) (spare : ℕ) (rows : RowList) (room : Option Room) : Type 0 where
+  pub found : (a : Address) (i : ℕ) → slice_get (numbers_of rows a.maker) a.serial ≡ Some i → (e : Entry) × (slice_get made i ≡ Some e) × (e.address ≡ a)
+  pub numbered : (i : ℕ) (e : Entry) → slice_get made i ≡ Some e → slice_get (numbers_of rows e.address.maker) e.address.serial ≡ Some i
+  pub laid : Laid 0 made (length items)
+  pub counted : (maker : ℕ) → made_by (objects_of items made) maker ≡ length (numbers_of rows maker)
+  pub count : length made ≡ len (objects_of items made)
+  pub few : length made ≤ object_limit
+  pub small : length items ≤ length made * field_limit
+  pub ready : Ready (length made) free spare rows room

@@ -2,12 +2,10 @@
 //! `specs/Heaps.antt` says what a heap is seen as.
 #![tactic(auto)]
 
+mod entry;
 mod heap;
-mod objects;
-mod serials;
-mod spare;
-#[cfg(test)]
-mod tests;
+mod room;
+mod rows;
 mod value;
 
 pub use heap::Heap;

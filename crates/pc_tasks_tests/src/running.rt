@@ -48,11 +48,11 @@ fn counts_of(frame: &Frame) -> Counts {
 }
 
 // The object of Main, with so many fields.
-fn main_object(alloc: Global, heap: &mut Heap, fields: u32) -> Result<Value, AllocError> {
+fn main_object(heap: &mut Heap, fields: u32) -> Result<Value, AllocError> {
     if heap.count() >= 4_194_304 || fields > 512 {
         return Err(AllocError);
     }
-    heap.reserve(alloc, 1, fields)?;
+    heap.reserve(1, fields)?;
     Ok(Value::At(heap.make(1, 6, fields)))
 }
 
@@ -64,7 +64,7 @@ fn started(alloc: Global, core: Core, fields: u32) -> Result<Option<Running>, Al
         return Ok(None);
     };
     let mut heap = Heap::new(alloc);
-    let this = main_object(alloc, &mut heap, fields)?;
+    let this = main_object(&mut heap, fields)?;
     let mut frame = Frame {
         method: 1,
         slots: List::new(alloc),

@@ -1,39 +1,63 @@
-use Rattle.std.proofs.Common.{◌≡◌, None, Some, Option, List, length, ap, sym, ◌∙◌, subst, arith}
-use Rattle.std.specs.Prelude.{replicate}
+use Rattle.std.proofs.Common.{◌≡◌, ℕ, ◌-◌, cond, List, [], ◌∷◌, ◌++◌, length, Option, None, sym, ap, ◌∙◌, subst, arith}
 use Rattle.std.specs.FinMap as map
-use Rattle.std.proofs.lemmas.Option.{same_Some}
-use Rattle.pc_heap.specs.declared.spare.Spare.{Spare}
-use Rattle.pc_heap.specs.declared.value.Value.{Value}
-use Rattle.pc_heap.specs.Objects.{ObjectMap}
+use Rattle.std.specs.Prelude.{nat_eq}
+use Rattle.pc_heap.specs.declared.value.Address.{Address}
+use Rattle.pc_heap.specs.declared.entry.Entry.{Entry}
+use Rattle.pc_heap.specs.Objects.{new_object}
 use Rattle.pc_heap.specs.Heaps.{HeapData, Room}
-use Rattle.pc_heap.specs.Inside.{shown, room_of, Sound}
-use Rattle.pc_heap.specs.Maps.{addresses_total, exact_addresses, insert_remove}
-use Rattle.pc_heap.proofs.Sounds.{serial_small, make_sound}
+use Rattle.pc_heap.specs.Rows.{numbers_of}
+use Rattle.pc_heap.specs.Entries.{Items, objects_of}
+use Rattle.pc_heap.specs.Inside.{room_of, Sound}
+use Rattle.pc_heap.proofs.Sounds.{serial_small, made_at, made_free, made_objects, made_sound}
 use Rattle.pc_heap.proofs.heap.Heap.make.Goals as goal
 
-pub overflow_add-address : goal.overflow_add-address
-overflow_add-address c =
-    let is : c.self.inside.spare ≡ Some c.in-Some.spare = sym c.take.ensures.value ∙ c.in-Some.is in
-    let so = subst (λ (s : Option Spare). Sound c.self.inside.objects c.self.inside.serials c.self.inside.made s) is c.self.invariant in
-    omega (arith, serial_small c.self.inside.objects c.self.inside.serials c.self.inside.made c.in-Some.spare so)
+pub overflow_cast-address : goal.overflow_cast-address
+overflow_cast-address c =
+    let n = c.self.inside in let free = n.made.cap - n.made.len in let made = n.made.items in let items = n.values.items in
+    let room = ap (λ (v : HeapData). v.room) c.self.view_is ∙ c.requires in
+    let h = subst (λ (r : Option Room). Sound made free items n.values.spare n.rows r) room c.self.invariant in
+    let low = serial_small made free items n.values.spare n.rows (room_of n.room) c.self.invariant c.args.maker in let is = c.count.ensures in omega arith
 
 pub invariant_of-self : goal.invariant_of-self
 invariant_of-self c =
-    let is : c.self.inside.spare ≡ Some c.in-Some.spare = sym c.take.ensures.value ∙ c.in-Some.is in
-    let so = subst (λ (s : Option Spare). Sound c.self.inside.objects c.self.inside.serials c.self.inside.made s) is c.self.invariant in
-    rw (c.replace.ensures, c.replace-in-Some.ensures, c.take.ensures.after) (make_sound c.self.inside.objects c.self.inside.serials c.self.inside.made c.in-Some.spare so _)
+    let n = c.self.inside in let free = n.made.cap - n.made.len in let made = n.made.items in let items = n.values.items in
+    let room = ap (λ (v : HeapData). v.room) c.self.view_is ∙ c.requires in
+    let h = subst (λ (r : Option Room). Sound made free items n.values.spare n.rows r) room c.self.invariant in
+    let k = c.args.maker in let e = c.args.entity in let f = c.args.fields in
+    let a = made_at made free items n.values.spare n.rows k e f h in
+    let own : record { maker = k; serial = c.count.result } ≡ a = ap (λ m. record { maker = k; serial = m }) c.count.ensures in
+    let es : c.push-2.new.self.items ≡ made ++ record { address = a; entity = e; first = length items; fields = f } ∷ [] =
+    c.in-Ok.ensures.items ∙ ap (λ (p : ℕ × ℕ). made ++ record { address = record { maker = k; serial = p.0 }; entity = e; first = p.1; fields = f } ∷ []) (λ i. (c.count.ensures i, c.len-first.ensures i)) in
+    let number : c.len.result ≡ length made = c.len.ensures ∙ n.made.ok.0 in
+    let rows = λ (m : ℕ). c.push.ensures m ∙ ap (λ z. cond (nat_eq k m) (numbers_of n.rows k ++ z ∷ []) (numbers_of n.rows m)) number in
+    let free2 = c.push-2.new.self.cap - c.push-2.new.self.len in let spare2 = c.push_empty.new.values.spare in
+    subst (λ (es2 : List Entry). Sound es2 free2 c.push_empty.new.values.items spare2 c.push.new.self None) (sym es)
+    (subst (λ (l : Items). Sound (made ++ record { address = a; entity = e; first = length items; fields = f } ∷ []) free2 l spare2 c.push.new.self None) (sym c.push_empty.ensures.items)
+    (made_sound made free items n.values.spare n.rows k e f h c.push.new.self rows free2 spare2))
+
+pub returns-clause-free : goal.returns-clause-free
+returns-clause-free c =
+    let n = c.self.inside in let free = n.made.cap - n.made.len in let made = n.made.items in let items = n.values.items in
+    let room = ap (λ (v : HeapData). v.room) c.self.view_is ∙ c.requires in
+    let h = subst (λ (r : Option Room). Sound made free items n.values.spare n.rows r) room c.self.invariant in
+    let k = c.args.maker in let e = c.args.entity in let f = c.args.fields in
+    let a = made_at made free items n.values.spare n.rows k e f h in
+    let own : record { maker = k; serial = c.count.result } ≡ a = ap (λ m. record { maker = k; serial = m }) c.count.ensures in
+    ap (λ (v : HeapData). map.get v.objects (record { maker = k; serial = c.count.result })) (sym c.self.view_is) ∙ ap (map.get (objects_of items made)) own ∙ made_free made free items n.values.spare n.rows k e f h
 
 pub returns-clause-objects : goal.returns-clause-objects
 returns-clause-objects c =
-    let m = c.self.inside.objects in
-    let a = c.in-Some.spare.address in
-    let is : c.self.inside.spare ≡ Some c.in-Some.spare = sym c.take.ensures.value ∙ c.in-Some.is in
-    let so = subst (λ (s : Option Spare). Sound m c.self.inside.serials c.self.inside.made s) is c.self.invariant in
-    let seen : map.remove m a ≡ c.args.self.now.objects = ap (shown m) (sym is) ∙ ap (λ (h : HeapData). h.objects) c.self.view_is in
-    let room : Some record { maker = a.maker; fields = length c.in-Some.spare.fields } ≡ Some record { maker = c.args.maker; fields = c.args.fields } = ap room_of (sym is) ∙ ap (λ (h : HeapData). h.room) c.self.view_is ∙ c.requires in
-    let size : length c.in-Some.spare.fields ≡ c.args.fields = ap (λ (r : Room). r.fields) (same_Some _ _ room) in
-    let fields : c.in-Some.spare.fields ≡ replicate c.args.fields None = so.ready.3 ∙ ap (λ n. replicate n None) size in
-    ap (shown c.replace.new.self) c.take.ensures.after ∙ c.replace.ensures
-    ∙ sym (insert_remove addresses_total exact_addresses m a (record { entity = c.args.entity; fields = c.in-Some.spare.fields }))
-    ∙ ap (λ (n : ObjectMap). map.insert n a (record { entity = c.args.entity; fields = c.in-Some.spare.fields })) seen
-    ∙ ap (λ (fs : List (Option Value)). map.insert c.args.self.now.objects a (record { entity = c.args.entity; fields = fs })) fields
+    let n = c.self.inside in let free = n.made.cap - n.made.len in let made = n.made.items in let items = n.values.items in
+    let room = ap (λ (v : HeapData). v.room) c.self.view_is ∙ c.requires in
+    let h = subst (λ (r : Option Room). Sound made free items n.values.spare n.rows r) room c.self.invariant in
+    let k = c.args.maker in let e = c.args.entity in let f = c.args.fields in
+    let a = made_at made free items n.values.spare n.rows k e f h in
+    let own : record { maker = k; serial = c.count.result } ≡ a = ap (λ m. record { maker = k; serial = m }) c.count.ensures in
+    let es : c.push-2.new.self.items ≡ made ++ record { address = a; entity = e; first = length items; fields = f } ∷ [] =
+    c.in-Ok.ensures.items ∙ ap (λ (p : ℕ × ℕ). made ++ record { address = record { maker = k; serial = p.0 }; entity = e; first = p.1; fields = f } ∷ []) (λ i. (c.count.ensures i, c.len-first.ensures i)) in
+    let number : c.len.result ≡ length made = c.len.ensures ∙ n.made.ok.0 in
+    let rows = λ (m : ℕ). c.push.ensures m ∙ ap (λ z. cond (nat_eq k m) (numbers_of n.rows k ++ z ∷ []) (numbers_of n.rows m)) number in
+    ap (λ (es2 : List Entry). objects_of c.push_empty.new.values.items es2) es ∙ ap (λ (l : Items). objects_of l (made ++ record { address = a; entity = e; first = length items; fields = f } ∷ [])) c.push_empty.ensures.items
+    ∙ made_objects made free items n.values.spare n.rows k e f h c.push.new.self rows
+    ∙ ap (λ (q : Address). map.insert (objects_of items made) q (new_object e f)) (sym own)
+    ∙ ap (λ (v : HeapData). map.insert v.objects (record { maker = k; serial = c.count.result }) (new_object e f)) c.self.view_is
