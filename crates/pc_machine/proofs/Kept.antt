@@ -35,8 +35,8 @@ module _ (c : Configuration) (p : IsPeopled c) where
   set_kept : (m : ObjectMap) (j : ℕ) (b : Actor) → Peopled m (length c.actors) → Peopled m (length (slice_set c.actors j b))
   set_kept m j b q = same_number m (length c.actors) _ (length-set c.actors j b) q
 
-  delivery_kept : (d : Configuration) (j : ℕ) (m : Message) (o : Option Actor) → IsPeopled d → IsPeopled (delivered d j m o).1
-  delivery_kept d j m None q = q
+  delivery_kept : (d : Configuration) (j : ℕ) (m : Message) (o : Option Actor) → IsPeopled d → IsPeopled (delivered c d j m o).1
+  delivery_kept d j m None q = p
   delivery_kept d j m (Some b) q = same_number d.objects (length d.actors) _ (length-set d.actors j (record { mailbox = b.mailbox ++ m ∷ []; frames = b.frames })) q
 
   -- ---- the first message

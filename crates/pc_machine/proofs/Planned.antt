@@ -78,12 +78,12 @@ module _ (c : Configuration) (i : ℕ) (r : Running c.actors i) where
       ∙ sym (planned_is (Makes count entity fields g))
 
   -- a message goes to an actor
-  send_made : (j : ℕ) (m : Message) (fs : List Frame) → j < length c.actors → delivered (with_frames c i r.actor fs) j m (slice_get (with_frames c i r.actor fs).actors j) ≡ (Moved, amended c c.objects (changed (changed c.actors i (framed fs)) j (mailed m)))
+  send_made : (j : ℕ) (m : Message) (fs : List Frame) → j < length c.actors → delivered c (with_frames c i r.actor fs) j m (slice_get (with_frames c i r.actor fs).actors j) ≡ (Moved, amended c c.objects (changed (changed c.actors i (framed fs)) j (mailed m)))
   send_made j m fs l =
       let d : Configuration = with_frames c i r.actor fs in
       let there : j < length d.actors = omega (arith, l, length-set c.actors i (framed fs r.actor)) in
       let to = get_within d.actors j there in
-      ap (delivered d j m) to.1
+      ap (delivered c d j m) to.1
       ∙ ap (λ actors. let o : Outcome × Configuration = (Moved, amended c c.objects actors) in o) (sym (changed_set d.actors j to.0 (mailed m) to.1) ∙ ap (λ actors. changed actors j (mailed m)) (sym (goes_on fs)))
 
   pub send_planned : (count j : ℕ) (m : Message) → j < length c.actors →

@@ -103,7 +103,7 @@ module _ (c : Configuration) where
     mail_framed : (frames : List Frame) → mail_of (with_frames c i a frames).actors ≡ mail_of c.actors
     mail_framed frames = let set = mail_set c.actors i a (record { mailbox = a.mailbox; frames = frames }) here in omega (arith, set)
 
-    delivered_changes : (frames : List Frame) (j : ℕ) (m : Message) (o : Option Actor) → slice_get (with_frames c i a frames).actors j ≡ o → Changes c (delivered (with_frames c i a frames) j m o)
+    delivered_changes : (frames : List Frame) (j : ℕ) (m : Message) (o : Option Actor) → slice_get (with_frames c i a frames).actors j ≡ o → Changes c (delivered c (with_frames c i a frames) j m o)
     delivered_changes frames j m None e = tt
     delivered_changes frames j m (Some b) e =
         let d : Configuration = with_frames c i a frames in

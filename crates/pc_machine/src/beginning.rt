@@ -68,19 +68,13 @@ fn main_create(core: &Core) -> Option<(u32, u32)>
 }
 
 // An object of an entity, without field values, made by an actor.
-fn add_object(
-    alloc: Global,
-    core: &Core,
-    heap: &mut Heap,
-    maker: u32,
-    entity: u32,
-) -> Result<Address, AllocError>
+fn add_object(core: &Core, heap: &mut Heap, maker: u32, entity: u32) -> Result<Address, AllocError>
     requires { len heap.old.objects < object_limit }
     ensures address { IfOk result (λ a. a ≡ next_address heap.old.objects maker) }
     ensures objects { IfOk result (λ a. heap.new.objects ≡ insert heap.old.objects a (spec.blank_object core.now entity)) }
 {
     let fields = fields_of(core, entity);
-    heap.reserve(alloc, maker, fields)?;
+    heap.reserve(maker, fields)?;
     Ok(heap.make(maker, entity, fields))
 }
 
@@ -100,10 +94,10 @@ fn start_objects(alloc: Global, core: &Core, main: u32) -> Result<Heap, AllocErr
 {
     core.formed();
     let mut heap = Heap::new(alloc);
-    let stream = add_object(alloc, core, &mut heap, 0, STREAM)?;
-    let environment = add_object(alloc, core, &mut heap, 0, ENVIRONMENT)?;
+    let stream = add_object(core, &mut heap, 0, STREAM)?;
+    let environment = add_object(core, &mut heap, 0, ENVIRONMENT)?;
     set_out(&mut heap, environment, stream);
-    add_object(alloc, core, &mut heap, 1, main)?;
+    add_object(core, &mut heap, 1, main)?;
     Ok(heap)
 }
 

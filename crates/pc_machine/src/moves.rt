@@ -95,7 +95,7 @@ fn make(
         ≡ planned (configuration_of state.old) actor (Plan.Makes count entity fields frame)) }
     ensures err { OnErr result (configuration_of state.new ≡ configuration_of state.old) }
 {
-    state.heap.reserve(alloc, actor, fields)?;
+    state.heap.reserve(actor, fields)?;
     let mut callee = frame;
     let _ = callee
         .slots
@@ -130,7 +130,7 @@ fn spawn(
     ensures err { OnErr result (configuration_of state.new ≡ configuration_of state.old) }
 {
     let number = state.actors.len() as u32;
-    state.heap.reserve(alloc, number, fields)?;
+    state.heap.reserve(number, fields)?;
     state.actors.add(waiting_actor(alloc, message)?)?;
     let value = Value::At(state.heap.reserved());
     let change = Change::Gives { count, value };

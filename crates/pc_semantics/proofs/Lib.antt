@@ -2,3 +2,4 @@ mod Ends
 mod Maps
 mod Parts
 mod Computed
+mod Unmoved

@@ -79,13 +79,13 @@ text_of (Num n) = Some (decimal n)
 text_of (Truth b) = Some (truth_text b)
 text_of v = None
 
-abbrev pub is_text : List ℕ → Option (List ℕ) → Bool
-is_text wanted None = false
-is_text wanted (Some text) = bytes_eq text wanted
+abbrev pub is_named : List ℕ → Option (List ℕ) → Bool
+is_named wanted None = false
+is_named wanted (Some text) = bytes_eq text wanted
 
 -- `string`, without arguments.
 abbrev pub is_string : CoreData → ℕ → List Value → Bool
-is_string core name [] = is_text (codes "string") (slice_get core.names name)
+is_string core name [] = is_named (codes "string") (slice_get core.names name)
 is_string core name (v ∷ vs) = false
 
 abbrev pub push_text : Frame → Option (List ℕ) → Move

@@ -12,3 +12,4 @@ pub mod Text
 pub mod Safety
 pub mod Programs
 pub mod Examples
+pub mod Laws

@@ -28,13 +28,14 @@ with_spawned c o m = record {
   printed = c.printed;
 }
 
--- The message comes behind those that wait.
-abbrev pub delivered : Configuration → ℕ → Message → Option Actor → Outcome × Configuration
-delivered c j m None = (Lacks lack.Object, c)
-delivered c j m (Some a) = (Moved, with_actor c j (record { mailbox = a.mailbox ++ m ∷ []; frames = a.frames }))
+-- The message comes behind those that wait, in configuration d. Where there is no such actor, the step lacks it, and all stays
+-- as it was before the step, in c.
+abbrev pub delivered : Configuration → Configuration → ℕ → Message → Option Actor → Outcome × Configuration
+delivered c d j m None = (Lacks lack.Object, c)
+delivered c d j m (Some a) = (Moved, with_actor d j (record { mailbox = a.mailbox ++ m ∷ []; frames = a.frames }))
 
-abbrev pub deliver : Configuration → ℕ → Message → Outcome × Configuration
-deliver c j m = delivered c j m (slice_get c.actors j)
+abbrev pub deliver : Configuration → Configuration → ℕ → Message → Outcome × Configuration
+deliver c d j m = delivered c d j m (slice_get d.actors j)
 
 -- The value is left to the frame below.
 abbrev pub left : Option Value → List Frame → List Frame
@@ -50,7 +51,7 @@ made c i a fs (Writes at k v f) = (Moved, with_frames (with_objects c (with_valu
 made c i a fs (Makes at o g f) = (Moved, with_frames (with_objects c (insert c.objects at o)) i a (g ∷ f ∷ fs))
 made c i a fs (Spawns o m f) = (Moved, with_spawned (with_frames c i a (f ∷ fs)) o m)
 made c i a fs (Enters g f) = (Moved, with_frames c i a (g ∷ f ∷ fs))
-made c i a fs (Sends j m f) = deliver (with_frames c i a (f ∷ fs)) j m
+made c i a fs (Sends j m f) = deliver c (with_frames c i a (f ∷ fs)) j m
 made c i a fs (Leaves v) = (Moved, with_frames c i a (left v fs))
 
 -- ---- the first task

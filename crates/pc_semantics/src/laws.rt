@@ -1,6 +1,13 @@
-//! What the machine does with small programs. Each call does nothing, and its contract says what `specs/Examples.antt`
-//! says there of the programs in `specs/Programs.antt`.
+//! What is proved of every step, and what the machine does with small programs. Each call does nothing, and its contract is
+//! the law of `specs/Laws.antt`, or what `specs/Examples.antt` says of a program in `specs/Programs.antt`.
 ghost use Rattle.pc_semantics.specs.Examples as example;
+ghost use Rattle.pc_semantics.specs.Laws as law;
+
+/// A step that is skipped, that lacks something or that would make too long a text leaves the configuration as it was.
+#[tactic(auto, using(crate::proofs::Unmoved::only_moves_change))]
+pub fn only_moves_change()
+    ensures { law.OnlyMovesChange }
+{}
 
 /// `env.out.print("hi")`: eleven steps, the text and the counts.
 #[tactic(auto, using(crate::proofs::Computed::hello_runs))]

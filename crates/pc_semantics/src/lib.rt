@@ -19,7 +19,7 @@ pub use frames::{Frame, Task};
 pub use laws::{
     a_constructor_sets_its_fields, a_spawned_actor_has_its_message, a_text_may_be_too_long,
     a_while_takes_its_turns, each_lack_comes, hello_runs, messages_are_taken_in_order,
-    no_actor_no_step, numbers_wrap, one_branch_is_taken, races_are_seen,
+    no_actor_no_step, numbers_wrap, one_branch_is_taken, only_moves_change, races_are_seen,
     the_right_side_is_looked_at_when_needed,
 };
 pub use mailbox::{Mailbox, Message};

@@ -1,0 +1,10 @@
+-- What is proved of each step.
+use Rattle.std.specs.Prelude.{◌≡◌, ◌≢◌, ℕ}
+use Rattle.pc_core.specs.CoreData.{CoreData}
+use Rattle.pc_semantics.specs.declared.outcome.Outcome.TheVariants.{Moved}
+use Rattle.pc_semantics.specs.Configurations.{Configuration}
+use Rattle.pc_semantics.specs.Step.{step}
+
+-- A step that does not move leaves the configuration as it was: it is skipped, lacks something, or would make too long a text.
+abbrev pub OnlyMovesChange : Type 0
+OnlyMovesChange = (core : CoreData) (c : Configuration) (i : ℕ) → (step core c i).0 ≢ Moved → (step core c i).1 ≡ c
