@@ -11,10 +11,10 @@ use Rattle.pc_ann.specs.declared.annotation.Ann.{Ann}
 use Rattle.pc_ann.specs.MaskLaws.{first_bits}
 use Rattle.pc_semantics.specs.Around.{entity_of}
 use Rattle.pc_rules.specs.Parts.{fields_in, field_count, all_fields}
-use Rattle.pc_sound.specs.Types.{Finished}
-use Rattle.pc_sound.specs.Tasks.{Within}
-use Rattle.pc_sound.specs.Frames.{HasFields}
-use Rattle.pc_sound.specs.Typed.{ObjectsOk}
+use Rattle.pc_sound.proofs.Types.{Finished}
+use Rattle.pc_sound.proofs.Tasks.{Within}
+use Rattle.pc_sound.proofs.Frames.{HasFields}
+use Rattle.pc_sound.proofs.Typed.{ObjectsOk}
 use Rattle.pc_sound.proofs.Needs.{Needs}
 use Rattle.pc_sound.proofs.Growth.{class_is}
 

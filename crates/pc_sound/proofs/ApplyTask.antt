@@ -1,8 +1,8 @@
 -- The task Apply: operators, `not`, `is` and `isnt`.
-use Rattle.std.specs.Prelude.{◌≡◌, ◌⊎◌, ℕ, Bool, true, false, not, ◌&&◌, ◌||◌, cond, List, [], ◌∷◌, ◌++◌, length, Option, Some, None, nat_lt, refl}
+use Rattle.std.specs.Prelude.{◌≡◌, ℕ, Bool, true, false, not, ◌&&◌, ◌||◌, cond, List, [], ◌∷◌, ◌++◌, length, Option, Some, None, nat_lt, refl}
 use Rattle.std.proofs.Common.{inl, inr, ap, sym, subst, ◌∙◌}
 use Rattle.std.proofs.lemmas.Option.{same_Some, none-some}
-use Rattle.std.proofs.lemmas.Bool.{and_parts}
+use Rattle.std.proofs.lemmas.Bool.{and_parts, or_cases}
 use Rattle.pc_heap.specs.declared.value.Value.{Value}
 use Rattle.pc_heap.specs.declared.value.Value.TheVariants.{Num, Truth, Text, At}
 use Rattle.pc_caps.specs.declared.capability.Form.TheVariants as form
@@ -20,7 +20,7 @@ use Rattle.pc_ann.specs.declared.annotation.Rule.{Rule}
 use Rattle.pc_ann.specs.declared.annotation.Rule.TheVariants as rule
 use Rattle.pc_semantics.specs.declared.frames.Frame.{Frame}
 use Rattle.pc_semantics.specs.declared.frames.Task.TheVariants as task
-use Rattle.pc_semantics.specs.Around.{Around, Move, Overflows, Goes, with_stack, pushed, with_top}
+use Rattle.pc_semantics.specs.Around.{Around, Move, Overflows, Goes, with_stack, pushed}
 use Rattle.pc_semantics.specs.Operators.{text_limit, gives, of_numbers, of_truths, joined, of_texts, with_number, with_truth, with_text, binary, negated, same_truth, same_value, compared}
 use Rattle.pc_semantics.specs.Choices.{apply_task}
 use Rattle.pc_rules.specs.Parts.{Ty, Masks, reads_as, before, through, type_of, one_child, two_types}
@@ -28,15 +28,15 @@ use Rattle.pc_rules.specs.Fields.{is_this}
 use Rattle.pc_rules.specs.Operators.{is_arithmetic, is_comparison, is_equality, is_add, is_xor, both_read_as, comparable, value_says, not_says, identity_says}
 use Rattle.pc_rules.specs.Rules.{says, said_by}
 use Rattle.pc_rules.specs.Threads.{kept, false_true}
-use Rattle.pc_sound.specs.Types.{OfType, OfSome, StackOk}
-use Rattle.pc_sound.specs.Tasks.{applies, FinishOk, TasksOk}
-use Rattle.pc_sound.specs.Moves.{MoveOk, Runs}
+use Rattle.pc_sound.proofs.Types.{OfType, OfSome, StackOk}
+use Rattle.pc_sound.proofs.Tasks.{applies, FinishOk, TasksOk}
+use Rattle.pc_sound.proofs.Moves.{MoveOk, Runs}
 use Rattle.pc_sound.proofs.Needs.{Needs}
 use Rattle.pc_sound.proofs.Values.{is_number, is_truth, is_text}
 use Rattle.pc_sound.proofs.Steps.{Keeps}
 use Rattle.pc_sound.proofs.Begin.{only_one}
 use Rattle.pc_sound.proofs.Inverse.{TwoTypes, types_are, Says, says_is, read_is}
-use Rattle.pc_sound.proofs.Finish.{one_top, two_tops, done_ok, rule_is, at_this, read_at}
+use Rattle.pc_sound.proofs.Finish.{one_top, two_tops, done_ok, rule_is, at_this, read_at, at_top, at_tops}
 
 -- ---- what operators give
 
@@ -100,10 +100,6 @@ asked ann x t behind k a test is e =
     let p = and_parts a (test v.0) q.0 in
     record { vs = v.0; types = types_are ann x.children v.0 v.1; operator = p.0; reads = p.1; says = value_is ann x t behind k is q.1 }
 
-either : (a b : Bool) → (a || b) ≡ true → (a ≡ true) ⊎ (b ≡ true)
-either true b e = inl refl
-either false b e = inr e
-
 -- Not an object's address.
 abbrev pub no_object : Value → Bool
 no_object (At a) = false
@@ -119,13 +115,6 @@ module _ (core : CoreData) (ann : Ann) (needs : Needs core ann) (around : Around
     -- what holds where a text is too long, and where what the operands leave below them gets the result, which is no object's address
     (Holds : Move → Type 0) (long : Holds Overflows)
     (done : (us rest : List Value) (ty : Ty) (v : Value) → f.stack ≡ us ++ rest → length us ≡ length e.node.children → Says e.note (Some ty) e.behind → StackOk core around.objects r.held.this e.below rest → OfType core around.objects ty v → no_object v ≡ true → Holds (Goes (pushed (with_stack f rest) v))) where
-  -- The move goes by what is on top.
-  top_by : (v : Value) (rest : List Value) (next : Value → Frame → Move) → f.stack ≡ v ∷ rest → Holds (next v (with_stack f rest)) → Holds (with_top f f.stack next)
-  top_by v rest next is k = subst (λ (vs : List Value). Holds (with_top f vs next)) (sym is) k
-
-  tops_by : (v w : Value) (rest : List Value) (next : Value → Value → Frame → Move) → f.stack ≡ w ∷ v ∷ rest → Holds (next w v (with_stack f rest)) → Holds (with_top f f.stack (λ w g. with_top g g.stack (next w)))
-  tops_by v w rest next is k = subst (λ (vs : List Value). Holds (with_top f vs (λ w g. with_top g g.stack (next w)))) (sym is) k
-
   module _ (us rest : List Value) (at : f.stack ≡ us ++ rest) (all : length us ≡ length e.node.children) (ok : StackOk core around.objects r.held.this e.below rest) where
     number_ok : (k : ℕ) → Says e.note (Some (1, form.Val)) e.behind → Holds (Goes (pushed (with_stack f rest) (Num k)))
     number_ok k s = done us rest (1, form.Val) (Num k) at all s ok (record { entity = 1; is_entity = refl; below = inl refl; kind = tt; finished = λ h. tt }) refl
@@ -235,9 +224,9 @@ module _ (core : CoreData) (ann : Ann) (needs : Needs core ann) (around : Around
 
         equal_ok : is_equality o ≡ true → comparable vs ≡ true → Says e.note (Some (2, form.Val)) e.behind → Holds (binary (with_stack f rest) o v w)
         equal_ok a h s =
-            elim (either (both_read_as 1 vs) (both_read_as 2 vs || both_read_as 3 vs) h) [
+            elim (or_cases (both_read_as 1 vs) (both_read_as 2 vs || both_read_as 3 vs) h) [
               | inl one ↦ equal_numbers a one s
-              | inr more ↦ elim (either (both_read_as 2 vs) (both_read_as 3 vs) more) [
+              | inr more ↦ elim (or_cases (both_read_as 2 vs) (both_read_as 3 vs) more) [
                 | inl two ↦ equal_truths a two s
                 | inr three ↦ equal_texts a three s
               ]
@@ -251,7 +240,7 @@ module _ (core : CoreData) (ann : Ann) (needs : Needs core ann) (around : Around
       → Holds (apply_task f (nodes.Binary o))
   on_both o vs types k =
       let t = two_tops core ann needs around f fs r applies n e types.left types.right types.children in
-      tops_by t.first t.second t.rest (λ w v h. binary h o v w) t.is (k (t.second ∷ t.first ∷ []) t.first t.second t.rest t.is (sym (ap length types.children)) t.ok t.first_answers.0 t.second_answers.0)
+      at_tops Holds f t.second t.first t.rest (λ w v h. binary h o v w) t.is (k (t.second ∷ t.first ∷ []) t.first t.second t.rest t.is (sym (ap length types.children)) t.ok t.first_answers.0 t.second_answers.0)
 
   binary_rule : (u : Rule) (o : Op) → says core ann e.node (before e.note) u (nodes.Binary o) ≡ Some (said_by e.note) → Holds (apply_task f (nodes.Binary o))
   binary_rule rule.Arith o q =
@@ -276,7 +265,7 @@ module _ (core : CoreData) (ann : Ann) (needs : Needs core ann) (around : Around
       let v = bind_some (two_types ann e.node.children) _ (said_by e.note) q in
       let types = types_are ann e.node.children v.0 v.1 in
       let t = two_tops core ann needs around f fs r applies n e types.left types.right types.children in
-      tops_by t.first t.second t.rest (λ w v h. compared h b v w) t.is
+      at_tops Holds f t.second t.first t.rest (λ w v h. compared h b v w) t.is
       (truth_ok (t.second ∷ t.first ∷ []) t.rest t.is (sym (ap length types.children)) t.ok (same_truth b (same_value t.first t.second)) (value_is ann e.node e.note e.behind 2 e.is_behind v.2))
 
   same_rule : (u : Rule) (b : Bool) → says core ann e.node (before e.note) u (nodes.Same b) ≡ Some (said_by e.note) → Holds (apply_task f (nodes.Same b))
@@ -290,7 +279,7 @@ module _ (core : CoreData) (ann : Ann) (needs : Needs core ann) (around : Around
       let k = kept (reads_as 2 v.0) (value_says 2 ann e.node (before e.note)) (said_by e.note) v.2 in
       let t = one_top core ann needs around f fs r applies n e c.0 (only_one e.node.children c.0 c.1) in
       let b = is_truth core ann needs around.objects v.0.1 t.top (read_at core ann around c.0 v.0 2 t.top v.1 (read_is 2 v.0 k.0).0 t.answers.0) in
-      top_by t.top t.below (λ v g. negated g v) t.is
+      at_top Holds f t.top t.below (λ v g. negated g v) t.is
       (subst (λ (x : Value). Holds (negated (with_stack f t.below) x)) (sym b.1) (truth_ok (t.top ∷ []) t.below t.is (sym (ap length (only_one e.node.children c.0 c.1))) t.ok (not b.0) (value_is ann e.node e.note e.behind 2 e.is_behind k.1)))
 
   not_rule : (u : Rule) → says core ann e.node (before e.note) u nodes.Not ≡ Some (said_by e.note) → Holds (apply_task f nodes.Not)

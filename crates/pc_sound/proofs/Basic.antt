@@ -10,8 +10,8 @@ use Rattle.pc_semantics.specs.declared.frames.Task.{Task}
 use Rattle.pc_semantics.specs.declared.frames.Task.TheVariants as task
 use Rattle.pc_core.specs.declared.nodes.NodeKind.{NodeKind}
 use Rattle.pc_rules.specs.Parts.{Ty}
-use Rattle.pc_sound.specs.Types.{OfType, OfSome, LowerType, Lower, Want}
-use Rattle.pc_sound.specs.Tasks.{Within, EvalOk, BodyOk, FinishOk, TestOk, BranchOk, LoopOk, ReturnOk, TasksOk}
+use Rattle.pc_sound.proofs.Types.{OfType, OfSome, LowerType, Lower, Want}
+use Rattle.pc_sound.proofs.Tasks.{Within, EvalOk, BodyOk, FinishOk, TestOk, BranchOk, LoopOk, ReturnOk, TasksOk}
 use Rattle.pc_sound.proofs.Needs.{Needs}
 
 -- ---- masks

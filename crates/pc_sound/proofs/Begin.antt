@@ -24,9 +24,9 @@ use Rattle.pc_rules.specs.Control.{start_set, starts_method, result_ok, body_say
 use Rattle.pc_rules.specs.Rules.{says, said_by}
 use Rattle.pc_rules.specs.Threads.{kept}
 use Rattle.pc_rules.specs.OneRule.{body_rule}
-use Rattle.pc_sound.specs.Types.{OfType, ArgumentsOk, param_type}
-use Rattle.pc_sound.specs.Tasks.{BodyOk}
-use Rattle.pc_sound.specs.Frames.{ThisOk, SlotsOk, Held, FrameOk}
+use Rattle.pc_sound.proofs.Types.{OfType, ArgumentsOk, param_type}
+use Rattle.pc_sound.proofs.Tasks.{BodyOk}
+use Rattle.pc_sound.proofs.Frames.{ThisOk, SlotsOk, Held, FrameOk}
 use Rattle.pc_sound.proofs.Needs.{Needs}
 use Rattle.pc_sound.proofs.Notes.{note_at, same_within}
 

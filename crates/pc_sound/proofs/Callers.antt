@@ -32,10 +32,10 @@ use Rattle.pc_rules.specs.Parts.{Masks, constructs}
 use Rattle.pc_rules.specs.Control.{start_set}
 use Rattle.pc_rules.specs.Fields.{is_this}
 use Rattle.pc_rules.specs.Threads.{false_true}
-use Rattle.pc_sound.specs.Types.{Lower, ArgumentsOk, Want, wanted, StackOk}
-use Rattle.pc_sound.specs.Tasks.{Within, Follows, TasksOk}
-use Rattle.pc_sound.specs.Frames.{ThisOk, FrameOk, leaves, WaitOk}
-use Rattle.pc_sound.specs.Moves.{Runs}
+use Rattle.pc_sound.proofs.Types.{Lower, ArgumentsOk, Want, wanted, StackOk}
+use Rattle.pc_sound.proofs.Tasks.{Within, Follows, TasksOk}
+use Rattle.pc_sound.proofs.Frames.{ThisOk, FrameOk, leaves, WaitOk}
+use Rattle.pc_sound.proofs.Moves.{Runs}
 use Rattle.pc_sound.proofs.Needs.{Needs}
 use Rattle.pc_sound.proofs.Basic.{within_trans, trans_lower}
 use Rattle.pc_sound.proofs.Begin.{arguments_length}
@@ -84,9 +84,6 @@ actor_of_be m k e h n = go k (ap (λ (x : MethodKind). stands_in x k) (sym e) �
 
 pub class_no_trait : (k : EntityKind) → k ≡ kind.Class → k ≢ kind.Trait
 class_no_trait k c t = let bad : kind.Class ≡ kind.Trait = sym c ∙ t in cc
-
-pub actor_no_trait : (k : EntityKind) → k ≡ kind.Actor → k ≢ kind.Trait
-actor_no_trait k c t = let bad : kind.Actor ≡ kind.Trait = sym c ∙ t in cc
 
 -- The first method is a behaviour.
 pub not_print : (core : CoreData) (ann : Ann) (needs : Needs core ann) (m : ℕ) (f : Method) (k : MethodKind) → slice_get core.methods m ≡ Some f → f.kind ≡ k → k ≢ method.Be → m ≢ 0

@@ -19,10 +19,10 @@ use Rattle.pc_semantics.specs.Choices.{truth, right_side, test_and, test_or, tes
 use Rattle.pc_rules.specs.Parts.{Ty}
 use Rattle.pc_rules.specs.Fields.{is_this}
 use Rattle.pc_rules.specs.Threads.{false_true}
-use Rattle.pc_sound.specs.Types.{OfType, OfSome, Want, wanted, StackOk}
-use Rattle.pc_sound.specs.Tasks.{TruthOnTop, is_lazy, TestOk, BranchOk, LoopOk, DiscardOk, EvalOk, TasksOk}
-use Rattle.pc_sound.specs.Frames.{FramesOk}
-use Rattle.pc_sound.specs.Moves.{MoveOk, Runs}
+use Rattle.pc_sound.proofs.Types.{OfType, OfSome, Want, wanted, StackOk}
+use Rattle.pc_sound.proofs.Tasks.{TruthOnTop, is_lazy, TestOk, BranchOk, LoopOk, DiscardOk, EvalOk, TasksOk}
+use Rattle.pc_sound.proofs.Frames.{FramesOk}
+use Rattle.pc_sound.proofs.Moves.{MoveOk, Runs}
 use Rattle.pc_sound.proofs.Needs.{Needs}
 use Rattle.pc_sound.proofs.Steps.{Keeps}
 use Rattle.pc_sound.proofs.Values.{top_is, is_truth}

@@ -19,8 +19,8 @@ use Rattle.pc_semantics.specs.Evaluation.{evaluations, items}
 use Rattle.pc_rules.specs.Parts.{Ty, Masks, starts, before, after, through, type_of, last_child}
 use Rattle.pc_rules.specs.Control.{without_definition, without_item, without_items}
 use Rattle.pc_rules.specs.Threads.{kept, bind_is, starts_so}
-use Rattle.pc_sound.specs.Types.{Lower, Want}
-use Rattle.pc_sound.specs.Tasks.{Within, gives_this, want_of, stacked, EvalOk, TasksOk}
+use Rattle.pc_sound.proofs.Types.{Lower, Want}
+use Rattle.pc_sound.proofs.Tasks.{Within, gives_this, want_of, stacked, EvalOk, TasksOk}
 use Rattle.pc_sound.proofs.Needs.{IsChild}
 use Rattle.pc_sound.proofs.Basic.{within_same, within_trans, same_lower}
 

@@ -34,9 +34,9 @@ use Rattle.pc_rules.specs.Rules.{said_by}
 use Rattle.pc_rules.specs.Agreeing.{same_mask}
 use Rattle.pc_rules.specs.Homes.{home, home_method, home_body}
 use Rattle.pc_rules.specs.Threads.{false_true}
-use Rattle.pc_sound.specs.Types.{LowerType, Lower, Want, wanted}
-use Rattle.pc_sound.specs.Tasks.{Within, want_of, stacked, EvalOk, is_lazy, ReturnOk, TasksOk}
-use Rattle.pc_sound.specs.Moves.{MoveOk, Runs}
+use Rattle.pc_sound.proofs.Types.{LowerType, Lower, Want, wanted}
+use Rattle.pc_sound.proofs.Tasks.{Within, want_of, stacked, EvalOk, is_lazy, ReturnOk, TasksOk}
+use Rattle.pc_sound.proofs.Moves.{MoveOk, Runs}
 use Rattle.pc_sound.proofs.Needs.{Needs, IsChild}
 use Rattle.pc_sound.proofs.Basic.{within_trans, lower_same, trans_lower, eval_more, tasks_more}
 use Rattle.pc_sound.proofs.Tables.{below_sees, recovered_sees}

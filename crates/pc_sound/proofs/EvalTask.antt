@@ -1,11 +1,10 @@
 -- The task Eval, at each kind of node.
-use Rattle.std.specs.Prelude.{◌≡◌, ℕ, Bool, true, false, List, length, Option, Some, slice_get, refl}
+use Rattle.std.specs.Prelude.{◌≡◌, ℕ, Bool, true, false, List, Option, Some, slice_get, refl}
 use Rattle.std.proofs.Common.{inl, inr, ap, sym, subst, ◌∙◌}
 use Rattle.pc_core.specs.declared.nodes.Node.{Node}
 use Rattle.pc_core.specs.declared.nodes.NodeKind.{NodeKind}
 use Rattle.pc_core.specs.declared.nodes.NodeKind.TheVariants as nodes
 use Rattle.pc_core.specs.CoreData.{CoreData}
-use Rattle.pc_core.specs.Nodes.{HasArity}
 use Rattle.pc_ann.specs.declared.annotation.Ann.{Ann}
 use Rattle.pc_semantics.specs.declared.frames.Frame.{Frame}
 use Rattle.pc_semantics.specs.declared.frames.Task.TheVariants as task
@@ -14,12 +13,12 @@ use Rattle.pc_semantics.specs.Evaluation.{evaluate, evaluate_node}
 use Rattle.pc_rules.specs.Parts.{Masks, before, through}
 use Rattle.pc_rules.specs.Rules.{says, said_by}
 use Rattle.pc_rules.specs.OneRule.{body_rule}
-use Rattle.pc_rules.specs.Threads.{Threaded, is_branch, threads, false_true}
-use Rattle.pc_sound.specs.Tasks.{stacked, EvalOk, BodyOk, FinishOk, reads, writes, stores, makes, spawns, invokes, applies, is_lazy, TasksOk}
-use Rattle.pc_sound.specs.Moves.{MoveOk, Runs}
+use Rattle.pc_rules.specs.Threads.{Threaded, is_branch, false_true}
+use Rattle.pc_sound.proofs.Tasks.{stacked, EvalOk, BodyOk, FinishOk, reads, writes, stores, makes, spawns, invokes, applies, is_lazy, TasksOk}
+use Rattle.pc_sound.proofs.Moves.{MoveOk, Runs}
 use Rattle.pc_sound.proofs.Needs.{Needs}
 use Rattle.pc_sound.proofs.Basic.{within_same}
-use Rattle.pc_sound.proofs.Notes.{meets}
+use Rattle.pc_sound.proofs.Notes.{meets, children_threaded}
 use Rattle.pc_sound.proofs.Steps.{Keeps}
 use Rattle.pc_sound.proofs.Inverse.{number_rule, truth_rule, text_rule, prim_rule, this_rule, local_rule, consume_rule, and_rule, or_rule, if_rule, while_rule, seq_rule, recover_rule}
 use Rattle.pc_sound.proofs.EvalValue.{number_ok, truth_ok, text_ok, prim_ok, this_ok, local_ok, consume_ok}
@@ -29,9 +28,7 @@ module _ (core : CoreData) (ann : Ann) (needs : Needs core ann) (around : Around
   module _ (n : ℕ) (e : EvalOk core ann f.method r.held.live r.held.set r.held.wants n (λ l s g. TasksOk core ann f.method f.tasks l s g)) where
     -- The children of a node of this kind are evaluated one after the other.
     threaded_at : (k : NodeKind) → e.node.kind ≡ k → is_branch k ≡ false → says core ann e.node (before e.note) e.note.rule k ≡ Some (said_by e.note) → Threaded ann e.node.children (before e.note)
-    threaded_at k is other q =
-        threads core ann e.node (before e.note) (said_by e.note) e.note.rule k other
-        (subst (λ (j : NodeKind). HasArity j (length e.node.children)) is (needs.formed.nodes n e.node e.is_node).arity) q
+    threaded_at k is other q = children_threaded core ann needs n e.node e.note e.is_node k is other q
 
     -- What the task behind the children needs.
     finish_at : (does : NodeKind → Bool) (k : NodeKind) → e.node.kind ≡ k → does k ≡ true → (behind : Masks) → through ann e.node.children (before e.note) ≡ Some behind

@@ -15,7 +15,6 @@ use Rattle.pc_core.specs.declared.nodes.NodeKind.{NodeKind}
 use Rattle.pc_core.specs.declared.nodes.NodeKind.TheVariants as nodes
 use Rattle.pc_core.specs.declared.nodes.Slot.{Slot}
 use Rattle.pc_core.specs.CoreData.{CoreData}
-use Rattle.pc_core.specs.Nodes.{NamesFit}
 use Rattle.pc_ann.specs.declared.mask.Mask.{Mask}
 use Rattle.pc_ann.specs.declared.annotation.Ann.{Ann}
 use Rattle.pc_ann.specs.Masks.{without_number}
@@ -27,13 +26,13 @@ use Rattle.pc_rules.specs.Parts.{Ty, all_fields, full, constructs, reachable, be
 use Rattle.pc_rules.specs.Fields.{is_this}
 use Rattle.pc_rules.specs.Values.{this_form}
 use Rattle.pc_rules.specs.Threads.{false_true}
-use Rattle.pc_sound.specs.Types.{sees, Finished, OfType, OfSome, held_in}
-use Rattle.pc_sound.specs.Tasks.{Within, EvalOk, TasksOk}
-use Rattle.pc_sound.specs.Frames.{SlotsOk}
-use Rattle.pc_sound.specs.Moves.{MoveOk, Runs}
+use Rattle.pc_sound.proofs.Types.{sees, Finished, OfType, OfSome, held_in}
+use Rattle.pc_sound.proofs.Tasks.{Within, EvalOk, TasksOk}
+use Rattle.pc_sound.proofs.Frames.{SlotsOk}
+use Rattle.pc_sound.proofs.Moves.{MoveOk, Runs}
 use Rattle.pc_sound.proofs.Needs.{Needs}
 use Rattle.pc_sound.proofs.Basic.{within_trans, of_lower, some_lower}
-use Rattle.pc_sound.proofs.Notes.{slot_at}
+use Rattle.pc_sound.proofs.Notes.{slot_at, names_fit}
 use Rattle.pc_sound.proofs.AllFields.{all_set}
 use Rattle.pc_sound.proofs.Places.{taken_lower}
 use Rattle.pc_sound.proofs.Running.{go_ok, push_ok}
@@ -68,11 +67,8 @@ module _ (core : CoreData) (ann : Ann) (needs : Needs core ann) (around : Around
   pub text_ok : (x : List ℕ) → e.node.kind ≡ nodes.Text x → Says e.note (Some (3, form.Val)) (before e.note) → MoveOk core ann around fs (Goes (pushed f (Text x)))
   text_ok x is s = leaf_ok (3, form.Val) (Text x) s (record { entity = 3; is_entity = refl; below = inl refl; kind = tt; finished = λ h. tt }) (no_this (nodes.Text x) (Text x) is false_true)
 
-  names_at : (k : NodeKind) → e.node.kind ≡ k → NamesFit core e.node.method k
-  names_at k is = subst (NamesFit core e.node.method) is (needs.formed.nodes n e.node e.is_node).names
-
   pub prim_ok : (p : ℕ) → e.node.kind ≡ nodes.Prim p → Says e.note (Some (p, form.Val)) (before e.note) → MoveOk core ann around fs (Goes (pushed f (Prim p)))
-  prim_ok p is s = leaf_ok (p, form.Val) (Prim p) s (record { entity = p; is_entity = refl; below = inl refl; kind = names_at (nodes.Prim p) is; finished = λ h. tt }) (no_this (nodes.Prim p) (Prim p) is false_true)
+  prim_ok p is s = leaf_ok (p, form.Val) (Prim p) s (record { entity = p; is_entity = refl; below = inl refl; kind = names_fit core ann needs n e.node e.is_node (nodes.Prim p) is; finished = λ h. tt }) (no_this (nodes.Prim p) (Prim p) is false_true)
 
   -- ---- `this`
 
@@ -118,7 +114,7 @@ module _ (core : CoreData) (ann : Ann) (needs : Needs core ann) (around : Around
 
   pub local_ok : (s : ℕ) → e.node.kind ≡ nodes.Local s → LocalRule core ann e.node e.note s → MoveOk core ann around fs (push_slot f (slice_get f.slots s))
   local_ok s is q =
-      let y = slot_ok s q.place (names_at (nodes.Local s) is).0 q.used in
+      let y = slot_ok s q.place (names_fit core ann needs n e.node e.is_node (nodes.Local s) is).0 q.used in
       subst (λ (o : Option (Option Value)). MoveOk core ann around fs (push_slot f o)) (sym y.is_value)
       (leaf_ok (held_in q.place) y.value q.says y.typed (no_this (nodes.Local s) y.value is false_true))
 
@@ -131,7 +127,7 @@ module _ (core : CoreData) (ann : Ann) (needs : Needs core ann) (around : Around
 
   pub consume_ok : (s : ℕ) → e.node.kind ≡ nodes.Consume s → ConsumeRule core ann e.node e.note s → MoveOk core ann around fs (take_slot f s (slice_get f.slots s))
   consume_ok s is q =
-      let low = (names_at (nodes.Consume s) is).0 in
+      let low = (names_fit core ann needs n e.node e.is_node (nodes.Consume s) is).0 in
       let y = slot_ok s q.place low q.used in
       let o = e.follows in
       let typed : OfType core around.objects (q.place.0, unalias q.place.1) y.value = of_lower core ann needs around.objects (held_in q.place) (q.place.0, unalias q.place.1) y.value (taken_lower core q.place) y.typed in

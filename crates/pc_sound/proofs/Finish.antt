@@ -5,7 +5,6 @@ use Rattle.pc_heap.specs.declared.value.Value.{Value}
 use Rattle.pc_core.specs.declared.nodes.Node.{Node}
 use Rattle.pc_core.specs.declared.nodes.NodeKind.{NodeKind}
 use Rattle.pc_core.specs.CoreData.{CoreData}
-use Rattle.pc_core.specs.Nodes.{NamesFit}
 use Rattle.pc_ann.specs.declared.mask.Mask.{Mask}
 use Rattle.pc_ann.specs.declared.annotation.Ann.{Ann}
 use Rattle.pc_semantics.specs.declared.frames.Frame.{Frame}
@@ -14,9 +13,9 @@ use Rattle.pc_semantics.specs.Tasks.{at_node}
 use Rattle.pc_rules.specs.Parts.{Ty, before, type_of}
 use Rattle.pc_rules.specs.Fields.{is_this}
 use Rattle.pc_rules.specs.Rules.{says, said_by}
-use Rattle.pc_sound.specs.Types.{OfType, OfSome, Want, Answers, StackOk}
-use Rattle.pc_sound.specs.Tasks.{Within, want_of, stacked, FinishOk, TasksOk}
-use Rattle.pc_sound.specs.Moves.{MoveOk, Runs}
+use Rattle.pc_sound.proofs.Types.{OfType, OfSome, Want, Answers, StackOk}
+use Rattle.pc_sound.proofs.Tasks.{Within, want_of, stacked, FinishOk, TasksOk}
+use Rattle.pc_sound.proofs.Moves.{MoveOk, Runs}
 use Rattle.pc_sound.proofs.Needs.{Needs}
 use Rattle.pc_sound.proofs.Notes.{meets}
 use Rattle.pc_sound.proofs.Values.{TopIs, top_is}
@@ -33,6 +32,14 @@ pub record TwoTops (core : CoreData) (around : Around) (this : Value) (a b : Wan
   pub second_answers : Answers core around.objects this b second
   pub ok : StackOk core around.objects this below rest
 
+-- A property of the move goes by what is on top.
+pub at_top : (Holds : Move → Type 0) (f : Frame) (v : Value) (rest : List Value) (next : Value → Frame → Move) → f.stack ≡ v ∷ rest → Holds (next v (with_stack f rest)) → Holds (with_top f f.stack next)
+at_top Holds f v rest next is k = subst (λ (vs : List Value). Holds (with_top f vs next)) (sym is) k
+
+pub at_tops : (Holds : Move → Type 0) (f : Frame) (v w : Value) (rest : List Value) (next : Value → Value → Frame → Move) → f.stack ≡ v ∷ w ∷ rest → Holds (next v w (with_stack f rest))
+    → Holds (with_top f f.stack (λ v g. with_top g g.stack (next v)))
+at_tops Holds f v w rest next is k = subst (λ (vs : List Value). Holds (with_top f vs (λ v g. with_top g g.stack (next v)))) (sym is) k
+
 module _ (core : CoreData) (ann : Ann) (needs : Needs core ann) (around : Around) (f : Frame) (fs : List Frame) (r : Runs core ann around f fs) (does : NodeKind → Bool) (n : ℕ) (e : FinishOk core ann f.method r.held.live r.held.set r.held.wants does n (λ l s g. TasksOk core ann f.method f.tasks l s g)) where
   stack_of : (cs : List ℕ) → e.node.children ≡ cs → StackOk core around.objects r.held.this (stacked core ann cs e.below) f.stack
   stack_of cs is = subst (λ (g : List Want). StackOk core around.objects r.held.this g f.stack) (e.stack ∙ ap (λ (ds : List ℕ). stacked core ann ds e.below) is) r.held.stack_ok
@@ -48,13 +55,6 @@ module _ (core : CoreData) (ann : Ann) (needs : Needs core ann) (around : Around
       let u = top_is core around.objects r.held.this (want_of core ann a) e.below t.below t.ok in
       record { first = u.top; second = t.top; rest = u.below; is = t.is ∙ ap (λ (vs : List Value). t.top ∷ vs) u.is; first_answers = u.answers; second_answers = t.answers; ok = u.ok }
 
-  -- The move goes by what is on top.
-  pub by_top : (v : Value) (rest : List Value) (next : Value → Frame → Move) → f.stack ≡ v ∷ rest → MoveOk core ann around fs (next v (with_stack f rest)) → MoveOk core ann around fs (with_top f f.stack next)
-  by_top v rest next is k = subst (λ (vs : List Value). MoveOk core ann around fs (with_top f vs next)) (sym is) k
-
-  pub by_tops : (v w : Value) (rest : List Value) (next : Value → Value → Frame → Move) → f.stack ≡ w ∷ v ∷ rest → MoveOk core ann around fs (next w v (with_stack f rest)) → MoveOk core ann around fs (with_top f f.stack (λ w g. with_top g g.stack (next w)))
-  by_tops v w rest next is k = subst (λ (vs : List Value). MoveOk core ann around fs (with_top f vs (λ w g. with_top g g.stack (next w)))) (sym is) k
-
   -- The value of a node that leaves slots and fields as its children do.
   pub done_ok : (ty : Option Ty) (v : Value) (rest : List Value) → Says e.note ty e.behind → StackOk core around.objects r.held.this e.below rest → OfSome core around.objects ty v → (is_this e.node.kind ≡ true → ⊥) → MoveOk core ann around fs (Goes (pushed (with_stack f rest) v))
   done_ok ty v rest s ok typed other =
@@ -65,9 +65,6 @@ module _ (core : CoreData) (ann : Ann) (needs : Needs core ann) (around : Around
   -- The method of the node is that of the frame.
   pub own_is : slice_get core.methods e.node.method ≡ Some r.held.own
   own_is = ap (slice_get core.methods) e.own ∙ r.held.is_own
-
-  pub names_is : (k : NodeKind) → e.node.kind ≡ k → NamesFit core e.node.method k
-  names_is k is = subst (NamesFit core e.node.method) is (needs.formed.nodes n e.node e.is_node).names
 
   -- The note meets the rule of its kind.
   pub rule_is : says core ann e.node (before e.note) e.note.rule e.node.kind ≡ Some (said_by e.note)

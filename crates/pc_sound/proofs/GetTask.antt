@@ -23,18 +23,18 @@ use Rattle.pc_ann.specs.declared.annotation.Rule.TheVariants as rule
 use Rattle.pc_ann.specs.Masks.{has}
 use Rattle.pc_semantics.specs.declared.frames.Frame.{Frame}
 use Rattle.pc_semantics.specs.declared.frames.Task.TheVariants as task
-use Rattle.pc_semantics.specs.Around.{Around, Goes, with_stack, pushed}
+use Rattle.pc_semantics.specs.Around.{Around, Move, Goes, with_stack, pushed}
 use Rattle.pc_semantics.specs.Fields.{get_value, get_field, get_of, get_from, get_task}
 use Rattle.pc_rules.specs.Parts.{Ty, Masks, says_of, before, through, type_of, one_child, last_child, constructs}
 use Rattle.pc_rules.specs.Fields.{is_this, field_of, own_field, field_type, incomplete, read_says, own_read_says}
 use Rattle.pc_rules.specs.Alike.{own_seen}
 use Rattle.pc_rules.specs.Rules.{says, said_by}
 use Rattle.pc_rules.specs.Threads.{kept, kept_otherwise, false_true}
-use Rattle.pc_sound.specs.Types.{OfType, Answers, StackOk}
-use Rattle.pc_sound.specs.Tasks.{want_of, reads, FinishOk, TasksOk}
-use Rattle.pc_sound.specs.Frames.{HasFields}
-use Rattle.pc_sound.specs.Typed as typed
-use Rattle.pc_sound.specs.Moves.{MoveOk, Runs}
+use Rattle.pc_sound.proofs.Types.{OfType, Answers, StackOk}
+use Rattle.pc_sound.proofs.Tasks.{want_of, reads, FinishOk, TasksOk}
+use Rattle.pc_sound.proofs.Frames.{HasFields}
+use Rattle.pc_sound.proofs.Typed as typed
+use Rattle.pc_sound.proofs.Moves.{MoveOk, Runs}
 use Rattle.pc_sound.proofs.Needs.{Needs}
 use Rattle.pc_sound.proofs.Basic.{of_lower}
 use Rattle.pc_sound.proofs.Tables.{view_sees, view_plain}
@@ -42,7 +42,7 @@ use Rattle.pc_sound.proofs.Begin.{only_one}
 use Rattle.pc_sound.proofs.Steps.{Keeps}
 use Rattle.pc_sound.proofs.Inverse.{Says, said_type}
 use Rattle.pc_sound.proofs.Origins.{FieldAt, field_at, Origin, origin_of, origin_at, value_there, set_value, OwnOrigin, own_origin}
-use Rattle.pc_sound.proofs.Finish.{one_top, by_top, done_ok, own_is, rule_is, at_this, typed_at}
+use Rattle.pc_sound.proofs.Finish.{one_top, done_ok, own_is, rule_is, at_this, typed_at, at_top}
 
 -- ---- what the rules say
 
@@ -125,63 +125,73 @@ only_last (a ∷ b ∷ cs) c one e = absurd (omega (arith, one))
 
 -- ---- the task
 
-module _ (core : CoreData) (ann : Ann) (needs : Needs core ann) (around : Around) (f : Frame) (fs : List Frame) (r : Runs core ann around f fs) (n : ℕ) (e : FinishOk core ann f.method r.held.live r.held.set r.held.wants reads n (λ l s g. TasksOk core ann f.method f.tasks l s g)) where
-  -- What is done where the field has a value.
-  reads_ok : (g : Frame) (d name i : ℕ) (x : FieldInfo) (v w : Value) (o : Origin core around.objects d name i x v) → slice_get o.object.fields i ≡ Some (Some w) → MoveOk core ann around fs (Goes (pushed g w)) → MoveOk core ann around fs (get_from core around name v g)
-  reads_ok g d name i x v w o is k =
-      subst (λ (u : Value). MoveOk core ann around fs (get_from core around name u g)) (sym o.is)
-      (subst (λ (p : Option Object). MoveOk core ann around fs (get_of core g name p)) (sym o.stands)
-      (subst (λ (p : Option ℕ). MoveOk core ann around fs (get_field g o.object p)) (sym o.named)
-      (subst (λ (p : Option (Option Value)). MoveOk core ann around fs (get_value g p)) (sym is) k)))
+module _ (core : CoreData) (ann : Ann) (needs : Needs core ann) (around : Around) (f : Frame) (fs : List Frame) (r : Runs core ann around f fs) (n : ℕ) (e : FinishOk core ann f.method r.held.live r.held.set r.held.wants reads n (λ l s g. TasksOk core ann f.method f.tasks l s g))
+    -- over any property of moves that holds of these ends
+    (Holds : Move → Type 0)
+    (plain : (name : ℕ) → e.node.kind ≡ nodes.Field name → (q : GetRule core ann e.node e.note e.behind name) (v z : Value) (rest : List Value) (o : Origin core around.objects q.origin.0 name q.index q.field v) → f.stack ≡ v ∷ rest → StackOk core around.objects r.held.this e.below rest
+    → slice_get o.object.fields q.index ≡ Some (Some z) → OfType core around.objects (q.field.entity, q.seen) z → Holds (Goes (pushed (with_stack f rest) z)))
+    (own : (name : ℕ) → e.node.kind ≡ nodes.Field name → (q : OwnGetRule core ann e.node e.note e.behind name) (v z : Value) (rest : List Value) (o : Origin core around.objects r.held.own.entity name q.index q.field v) → v ≡ r.held.this → f.stack ≡ v ∷ rest → StackOk core around.objects r.held.this e.below rest
+    → slice_get o.object.fields q.index ≡ Some (Some z) → OfType core around.objects (q.field.entity, q.seen) z → Holds (Goes (pushed (with_stack f rest) z)))
+  where
+    -- What is done where the field has a value.
+    reads_ok : (g : Frame) (d name i : ℕ) (x : FieldInfo) (v w : Value) (o : Origin core around.objects d name i x v) → slice_get o.object.fields i ≡ Some (Some w) → Holds (Goes (pushed g w)) → Holds (get_from core around name v g)
+    reads_ok g d name i x v w o is k =
+        subst (λ (u : Value). Holds (get_from core around name u g)) (sym o.is)
+        (subst (λ (p : Option Object). Holds (get_of core g name p)) (sym o.stands)
+        (subst (λ (p : Option ℕ). Holds (get_field g o.object p)) (sym o.named)
+        (subst (λ (p : Option (Option Value)). Holds (get_value g p)) (sym is) k)))
 
-  -- The value is of the type that is seen.
-  seen_ok : (d name i : ℕ) (x : FieldInfo) (v w : Value) (o : Origin core around.objects d name i x v) → slice_get o.object.fields i ≡ Some (Some w) → (from seen : Form) → view from x.cap ≡ Some seen → OfType core around.objects (x.entity, seen) w
-  seen_ok d name i x v w o is from seen sees_it = of_lower core ann needs around.objects (typed.field_type x) (x.entity, seen) w (inl refl, view_plain from x.cap seen sees_it) (o.fits.fields i x w o.is_field is)
+    -- The value is of the type that is seen.
+    seen_ok : (d name i : ℕ) (x : FieldInfo) (v w : Value) (o : Origin core around.objects d name i x v) → slice_get o.object.fields i ≡ Some (Some w) → (from seen : Form) → view from x.cap ≡ Some seen → OfType core around.objects (x.entity, seen) w
+    seen_ok d name i x v w o is from seen sees_it = of_lower core ann needs around.objects (typed.field_type x) (x.entity, seen) w (inl refl, view_plain from x.cap seen sees_it) (o.fits.fields i x w o.is_field is)
 
-  get_ok : (name : ℕ) → e.node.kind ≡ nodes.Field name → (q : GetRule core ann e.node e.note e.behind name) (v : Value) (rest : List Value) → Answers core around.objects r.held.this (want_of core ann q.child) v → StackOk core around.objects r.held.this e.below rest → MoveOk core ann around fs (get_from core around name v (with_stack f rest))
-  get_ok name is q v rest has ok =
-      let t : OfType core around.objects q.origin v = typed_at core ann around q.child q.origin v q.is_origin has.0 in
-      let o = origin_at core ann needs around.objects around.actors r.objects q.origin name q.index q.field v (field_at core q.origin.0 name q.index q.field q.is_field) t in
-      let w = value_there core ann needs around.objects around.actors r.objects q.origin.0 name q.index q.field v o (t.finished (view_sees q.origin.1 q.field.cap q.seen q.is_seen)) in
-      reads_ok (with_stack f rest) q.origin.0 name q.index q.field v w.0 o w.1
-      (done_ok core ann needs around f fs r reads n e (Some (q.field.entity, q.seen)) w.0 rest q.says ok (seen_ok q.origin.0 name q.index q.field v w.0 o w.1 q.origin.1 q.seen q.is_seen) (λ h. false_true (ap is_this (sym is) ∙ h)))
+    get_ok : (name : ℕ) → e.node.kind ≡ nodes.Field name → (q : GetRule core ann e.node e.note e.behind name) (v : Value) (rest : List Value) → f.stack ≡ v ∷ rest → Answers core around.objects r.held.this (want_of core ann q.child) v → StackOk core around.objects r.held.this e.below rest → Holds (get_from core around name v (with_stack f rest))
+    get_ok name is q v rest at_stack has ok =
+        let t : OfType core around.objects q.origin v = typed_at core ann around q.child q.origin v q.is_origin has.0 in
+        let o = origin_at core ann needs around.objects around.actors r.objects q.origin name q.index q.field v (field_at core q.origin.0 name q.index q.field q.is_field) t in
+        let w = value_there core ann needs around.objects around.actors r.objects q.origin.0 name q.index q.field v o (t.finished (view_sees q.origin.1 q.field.cap q.seen q.is_seen)) in
+        reads_ok (with_stack f rest) q.origin.0 name q.index q.field v w.0 o w.1
+        (plain name is q v w.0 rest o at_stack ok w.1 (seen_ok q.origin.0 name q.index q.field v w.0 o w.1 q.origin.1 q.seen q.is_seen))
 
-  own_get_ok : (name : ℕ) → e.node.kind ≡ nodes.Field name → (q : OwnGetRule core ann e.node e.note e.behind name) (v : Value) (rest : List Value) → v ≡ r.held.this → StackOk core around.objects r.held.this e.below rest → MoveOk core ann around fs (get_from core around name v (with_stack f rest))
-  own_get_ok name is q v rest this ok =
-      let own : q.own ≡ r.held.own = same_Some q.own r.held.own (sym q.is_own ∙ own_is core ann needs around f fs r reads n e) in
-      let at : FieldAt core r.held.own.entity name q.index q.field = field_at core r.held.own.entity name q.index q.field (ap (λ (m : Method). field_of core m.entity name) (sym own) ∙ q.is_field) in
-      let o : Origin core around.objects r.held.own.entity name q.index q.field v = subst (λ (u : Value). Origin core around.objects r.held.own.entity name q.index q.field u) (sym this) (origin_of core ann needs around.objects around.actors r.objects r.held.own.entity name q.index q.field r.held.this at r.held.this_ok.kind r.held.this_ok.is_entity) in
-      let new : constructs r.held.own.kind ≡ true = ap (λ (m : Method). constructs m.kind) (sym own) ∙ q.origin.constructs in
-      let w = set_value core around.objects r.held.own.entity name q.index q.field v r.held.set o (subst (λ (u : Value). HasFields around.objects r.held.set u) (sym this) (r.held.this_ok.fields new)) (e.set q.index q.set) in
-      reads_ok (with_stack f rest) r.held.own.entity name q.index q.field v w.0 o w.1
-      (done_ok core ann needs around f fs r reads n e (Some (q.field.entity, q.seen)) w.0 rest q.says ok (seen_ok r.held.own.entity name q.index q.field v w.0 o w.1 form.Ref q.seen q.is_seen) (λ h. false_true (ap is_this (sym is) ∙ h)))
+    own_get_ok : (name : ℕ) → e.node.kind ≡ nodes.Field name → (q : OwnGetRule core ann e.node e.note e.behind name) (v : Value) (rest : List Value) → f.stack ≡ v ∷ rest → v ≡ r.held.this → StackOk core around.objects r.held.this e.below rest → Holds (get_from core around name v (with_stack f rest))
+    own_get_ok name is q v rest at_stack this ok =
+        let same : q.own ≡ r.held.own = same_Some q.own r.held.own (sym q.is_own ∙ own_is core ann needs around f fs r reads n e) in
+        let at : FieldAt core r.held.own.entity name q.index q.field = field_at core r.held.own.entity name q.index q.field (ap (λ (m : Method). field_of core m.entity name) (sym same) ∙ q.is_field) in
+        let o : Origin core around.objects r.held.own.entity name q.index q.field v = subst (λ (u : Value). Origin core around.objects r.held.own.entity name q.index q.field u) (sym this) (origin_of core ann needs around.objects around.actors r.objects r.held.own.entity name q.index q.field r.held.this at r.held.this_ok.kind r.held.this_ok.is_entity) in
+        let new : constructs r.held.own.kind ≡ true = ap (λ (m : Method). constructs m.kind) (sym same) ∙ q.origin.constructs in
+        let w = set_value core around.objects r.held.own.entity name q.index q.field v r.held.set o (subst (λ (u : Value). HasFields around.objects r.held.set u) (sym this) (r.held.this_ok.fields new)) (e.set q.index q.set) in
+        reads_ok (with_stack f rest) r.held.own.entity name q.index q.field v w.0 o w.1
+        (own name is q v w.0 rest o this at_stack ok w.1 (seen_ok r.held.own.entity name q.index q.field v w.0 o w.1 form.Ref q.seen q.is_seen))
 
-  -- ---- by the rule
+    -- ---- by the rule
 
-  get_rule : (name : ℕ) → e.node.kind ≡ nodes.Field name → GetRule core ann e.node e.note e.behind name → MoveOk core ann around fs (get_task core around f (nodes.Field name))
-  get_rule name is q =
-      let t = one_top core ann needs around f fs r reads n e q.child q.children in
-      by_top core ann needs around f fs r reads n e t.top t.below (get_from core around name) t.is (get_ok name is q t.top t.below t.answers t.ok)
+    get_rule : (name : ℕ) → e.node.kind ≡ nodes.Field name → GetRule core ann e.node e.note e.behind name → Holds (get_task core around f (nodes.Field name))
+    get_rule name is q =
+        let t = one_top core ann needs around f fs r reads n e q.child q.children in
+        at_top Holds f t.top t.below (get_from core around name) t.is (get_ok name is q t.top t.below t.is t.answers t.ok)
 
-  own_get_rule : (name : ℕ) → e.node.kind ≡ nodes.Field name → OwnGetRule core ann e.node e.note e.behind name → MoveOk core ann around fs (get_task core around f (nodes.Field name))
-  own_get_rule name is q =
-      let one : length e.node.children ≡ 1 = subst (λ (k : NodeKind). HasArity k (length e.node.children)) is (needs.formed.nodes n e.node e.is_node).arity in
-      let t = one_top core ann needs around f fs r reads n e q.origin.last (only_last e.node.children q.origin.last one q.origin.is_last) in
-      by_top core ann needs around f fs r reads n e t.top t.below (get_from core around name) t.is (own_get_ok name is q t.top t.below (t.answers.1 q.origin.this) t.ok)
+    own_get_rule : (name : ℕ) → e.node.kind ≡ nodes.Field name → OwnGetRule core ann e.node e.note e.behind name → Holds (get_task core around f (nodes.Field name))
+    own_get_rule name is q =
+        let one : length e.node.children ≡ 1 = subst (λ (k : NodeKind). HasArity k (length e.node.children)) is (needs.formed.nodes n e.node e.is_node).arity in
+        let t = one_top core ann needs around f fs r reads n e q.origin.last (only_last e.node.children q.origin.last one q.origin.is_last) in
+        at_top Holds f t.top t.below (get_from core around name) t.is (own_get_ok name is q t.top t.below t.is (t.answers.1 q.origin.this) t.ok)
 
-  field_rule : (u : Rule) (name : ℕ) → e.node.kind ≡ nodes.Field name → says core ann e.node (before e.note) u (nodes.Field name) ≡ Some (said_by e.note) → MoveOk core ann around fs (get_task core around f (nodes.Field name))
-  field_rule rule.Get name is q =
-      get_rule name is (read_is core ann e.node e.note e.behind e.is_behind name (kept_otherwise (incomplete core ann e.node) (read_says core ann e.node name (before e.note)) (said_by e.note) q).1)
-  field_rule rule.GetOwn name is q =
-      let k = kept (incomplete core ann e.node) (own_read_says core ann e.node name (before e.note)) (said_by e.note) q in
-      own_get_rule name is (own_read_is core ann e.node e.note e.behind e.is_behind name k.0 k.1)
-  field_rule u name is q = absurd (none-some (said_by e.note) q)
+    field_rule : (u : Rule) (name : ℕ) → e.node.kind ≡ nodes.Field name → says core ann e.node (before e.note) u (nodes.Field name) ≡ Some (said_by e.note) → Holds (get_task core around f (nodes.Field name))
+    field_rule rule.Get name is q =
+        get_rule name is (read_is core ann e.node e.note e.behind e.is_behind name (kept_otherwise (incomplete core ann e.node) (read_says core ann e.node name (before e.note)) (said_by e.note) q).1)
+    field_rule rule.GetOwn name is q =
+        let k = kept (incomplete core ann e.node) (own_read_says core ann e.node name (before e.note)) (said_by e.note) q in
+        own_get_rule name is (own_read_is core ann e.node e.note e.behind e.is_behind name k.0 k.1)
+    field_rule u name is q = absurd (none-some (said_by e.note) q)
 
-  get_kind : (k : NodeKind) → e.node.kind ≡ k → reads k ≡ true → says core ann e.node (before e.note) e.note.rule k ≡ Some (said_by e.note) → MoveOk core ann around fs (get_task core around f k)
-  get_kind (nodes.Field name) is h q = field_rule e.note.rule name is q
-  get_kind k is h q = absurd (false_true h)
+    pub get_kind : (k : NodeKind) → e.node.kind ≡ k → reads k ≡ true → says core ann e.node (before e.note) e.note.rule k ≡ Some (said_by e.note) → Holds (get_task core around f k)
+    get_kind (nodes.Field name) is h q = field_rule e.note.rule name is q
+    get_kind k is h q = absurd (false_true h)
 
 pub keeps_get : (n : ℕ) → Keeps (task.Get n)
 keeps_get n core ann needs around f fs r e =
     at_this core ann needs around f fs r reads n e (λ x. get_task core around f x.kind)
-    (get_kind core ann needs around f fs r n e e.node.kind refl e.kind (rule_is core ann needs around f fs r reads n e))
+    (get_kind core ann needs around f fs r n e (MoveOk core ann around fs)
+    (λ name is q v z rest o at ok there typed. done_ok core ann needs around f fs r reads n e (Some (q.field.entity, q.seen)) z rest q.says ok typed (λ h. false_true (ap is_this (sym is) ∙ h)))
+    (λ name is q v z rest o this at ok there typed. done_ok core ann needs around f fs r reads n e (Some (q.field.entity, q.seen)) z rest q.says ok typed (λ h. false_true (ap is_this (sym is) ∙ h)))
+    e.node.kind refl e.kind (rule_is core ann needs around f fs r reads n e))

@@ -21,9 +21,9 @@ use Rattle.pc_semantics.specs.declared.mailbox.Message.{Message}
 use Rattle.pc_semantics.specs.Configurations.{own_address}
 use Rattle.pc_semantics.specs.Around.{entity_of}
 use Rattle.pc_rules.specs.Parts.{Ty}
-use Rattle.pc_sound.specs.Types.{Finished, OfType, OfSome, ArgumentsOk, param_type, held_in, Want, wanted, StackOk}
-use Rattle.pc_sound.specs.Frames.{HasFields, ThisOk, SlotsOk, Held, FrameOk, LastOk, WaitOk, FramesOk}
-use Rattle.pc_sound.specs.Typed.{field_type, ObjectOk, MessageOk, MailOk, FirstMailOk, ActorOk}
+use Rattle.pc_sound.proofs.Types.{Finished, OfType, OfSome, ArgumentsOk, param_type, held_in, Want, wanted, StackOk}
+use Rattle.pc_sound.proofs.Frames.{HasFields, ThisOk, SlotsOk, Held, FrameOk, LastOk, WaitOk, FramesOk}
+use Rattle.pc_sound.proofs.Typed.{field_type, ObjectOk, MessageOk, MailOk, FirstMailOk, ActorOk}
 
 -- The object has kept its entity, and what was set is set.
 pub record Grown (o p : Object) : Type 0 where

@@ -38,6 +38,14 @@ put_or_before h a o q x e =
       | inr n ↦ inr (sym (ap (λ b. cond b (Some o) (get h q)) n) ∙ sym (get_after h a o q) ∙ e)
     ]
 
+-- Where something stood, something stands.
+pub put_stays : (h : ObjectMap) (a : Address) (o : Object) (q : Address) → (x : Object) × (get h q ≡ Some x) → (x : Object) × (get (insert h a o) q ≡ Some x)
+put_stays h a o q x =
+    elim (address_cases q a) [
+      | inl p ↦ (o, get_after h a o q ∙ ap (λ b. cond b (Some o) (get h q)) p.1)
+      | inr n ↦ (x.0, get_after h a o q ∙ ap (λ b. cond b (Some o) (get h q)) n ∙ x.1)
+    ]
+
 -- What stood there stands, and has grown, where what is put has grown from what stood there.
 pub put_extends : (h : ObjectMap) (a : Address) (o : Object) → ((x : Object) → get h a ≡ Some x → Grown x o) → Extends h (insert h a o)
 put_extends h a o grown = record {

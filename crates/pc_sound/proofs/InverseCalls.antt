@@ -24,7 +24,7 @@ use Rattle.pc_rules.specs.Parts.{Ty, Masks, says_of, before, through, type_of, o
 use Rattle.pc_rules.specs.Calls.{arguments, arguments_go, arguments_sendable, called, is_function, is_behaviour, is_isolated, is_lent, lends, calls, recovers, sends, recovered_result, same_text, has_text, has_string, new_says, spawn_says, call_says, callrecover_says, send_says, builtin_says}
 use Rattle.pc_rules.specs.Rules.{says, said_by, Meets}
 use Rattle.pc_rules.specs.Threads.{kept, false_true}
-use Rattle.pc_sound.specs.Types.{sees, Lower}
+use Rattle.pc_sound.proofs.Types.{sees, Lower}
 use Rattle.pc_sound.proofs.Basic.{lower_same}
 use Rattle.pc_sound.proofs.Begin.{only_one}
 use Rattle.pc_sound.proofs.Inverse.{says_is}

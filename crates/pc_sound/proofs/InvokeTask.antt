@@ -30,11 +30,11 @@ use Rattle.pc_rules.specs.Calls.{arguments}
 use Rattle.pc_rules.specs.Control.{start_set}
 use Rattle.pc_rules.specs.Fields.{is_this}
 use Rattle.pc_rules.specs.Threads.{false_true}
-use Rattle.pc_sound.specs.Types.{OfKind, OfType, OfSome, ArgumentsOk, LowerType, Want, StackOk}
-use Rattle.pc_sound.specs.Tasks.{want_of, stacked, FinishOk, invokes, TasksOk}
-use Rattle.pc_sound.specs.Frames.{ThisOk, leaves}
-use Rattle.pc_sound.specs.Typed.{ObjectsOk}
-use Rattle.pc_sound.specs.Moves.{MoveOk, Runs}
+use Rattle.pc_sound.proofs.Types.{OfKind, OfType, OfSome, ArgumentsOk, LowerType, Want, StackOk}
+use Rattle.pc_sound.proofs.Tasks.{want_of, stacked, FinishOk, invokes, TasksOk}
+use Rattle.pc_sound.proofs.Frames.{ThisOk, leaves}
+use Rattle.pc_sound.proofs.Typed.{ObjectsOk}
+use Rattle.pc_sound.proofs.Moves.{MoveOk, Runs}
 use Rattle.pc_sound.proofs.Needs.{Declared, Needs}
 use Rattle.pc_sound.proofs.Basic.{trans_lower}
 use Rattle.pc_sound.proofs.Notes.{meets}

@@ -1,3 +1,17 @@
+pub mod Types
+pub mod Tasks
+pub mod Frames
+pub mod Typed
+pub mod Moves
+pub mod RegionWorld
+pub mod RegionTasks
+pub mod RegionFrames
+pub mod RegionMoves
+pub mod RegionPlaces
+pub mod RegionClimbed
+pub mod RegionSettled
+pub mod RegionTaken
+pub mod RegionContextLaws
 pub mod Needs
 pub mod Basic
 pub mod Growth
@@ -44,11 +58,9 @@ mod RegionSteps
 mod RegionAccess
 mod RegionQuiet
 mod RegionStart
-mod RegionAll
 mod RegionStands
 mod RegionShifts
 mod RegionRise
-mod RegionLevels
 mod RegionChildren
 mod RegionControl
 mod RegionSlot
@@ -59,26 +71,44 @@ mod RegionEval
 mod RegionChoices
 mod RegionApply
 mod RegionGet
+mod RegionGetTask
+mod RegionWritten
+mod RegionGiven
+mod RegionApart
+mod RegionEnters
+mod RegionDrawn
+mod RegionPut
+mod RegionPutTask
 mod RegionKeeps
 mod RegionMerge
 mod RegionRules
 mod RegionArguments
 mod RegionBegins
 mod RegionPasses
-mod RegionLower
 mod RegionCallers
 mod RegionEnter
 mod RegionCall
 mod RegionSent
 mod RegionInvoke
 mod RegionSettle
+mod RegionTake
 mod RegionRenewed
 mod RegionContexts
 mod RegionEnds
 mod RegionTakes
 mod RegionReturn
 mod RegionStored
+mod RegionDefined
 mod RegionStore
 mod RegionStoreTask
-mod RegionStores
-mod RegionCalled
+mod LiveTrees
+mod LiveRules
+mod LiveStarts
+mod LiveScope
+mod RegionAddress
+mod RegionGrows
+mod RegionGrown
+mod RegionPlaced
+mod RegionBorn
+mod RegionMake
+mod RegionSpawn

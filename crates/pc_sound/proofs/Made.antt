@@ -28,10 +28,10 @@ use Rattle.pc_semantics.specs.declared.outcome.Outcome.TheVariants.{Lacks}
 use Rattle.pc_semantics.specs.Configurations.{Configuration, with_objects, with_actor, with_frames, own_address, blank_object, fields_in}
 use Rattle.pc_semantics.specs.Around.{Move, Stuck, Overflows, Goes, Writes, Makes, Spawns, Enters, Sends, Leaves}
 use Rattle.pc_semantics.specs.Step.{delivered, left, made, around}
-use Rattle.pc_sound.specs.Types.{OfType}
-use Rattle.pc_sound.specs.Frames.{FramesOk}
-use Rattle.pc_sound.specs.Typed.{field_type, ObjectOk, PlaceOk, ObjectsOk, MessageOk, MailOk, FirstMailOk, ActorOk, WellTyped}
-use Rattle.pc_sound.specs.Moves.{SpawnOk, MoveOk}
+use Rattle.pc_sound.proofs.Types.{OfType}
+use Rattle.pc_sound.proofs.Frames.{FramesOk}
+use Rattle.pc_sound.proofs.Typed.{field_type, ObjectOk, PlaceOk, ObjectsOk, MessageOk, MailOk, FirstMailOk, ActorOk, WellTyped}
+use Rattle.pc_sound.proofs.Moves.{SpawnOk, MoveOk}
 use Rattle.pc_sound.proofs.Growth.{Extends, class_kept, of_kept, object_kept, mail_kept, actor_kept}
 use Rattle.pc_sound.proofs.Heaps.{put_or_before, fresh_extends, written, write_extends, made_grows, made_here, fresh}
 
@@ -192,9 +192,9 @@ module _ (core : CoreData) (ann : Ann) where
   pushed_ok h j b m (inl k) ok = inl (k.0, first_push h j b.mailbox m k.1 ok)
   pushed_ok h j b m (inr k) ok = inr (k.0, mail_push h j b.mailbox m k.1 ok)
 
-  delivered_ok : (c : Configuration) (j : ℕ) (m : Message) (o : Option Actor) → slice_get c.actors j ≡ o → j < length c.actors → WellTyped core ann c → MessageOk core c.objects j method.Be m → StepOk core ann (delivered c j m o)
-  delivered_ok c j m None e l w ok = let b = get_within c.actors j l in absurd (none-some b.0 (sym e ∙ b.1))
-  delivered_ok c j m (Some b) e l w ok = (actor_typed c j (record { mailbox = b.mailbox ++ m ∷ []; frames = b.frames }) w (pushed_ok c.objects j b m (w.actors j b e) ok), λ k bad. cc)
+  delivered_ok : (before c : Configuration) (j : ℕ) (m : Message) (o : Option Actor) → slice_get c.actors j ≡ o → j < length c.actors → WellTyped core ann c → MessageOk core c.objects j method.Be m → StepOk core ann (delivered before c j m o)
+  delivered_ok before c j m None e l w ok = let b = get_within c.actors j l in absurd (none-some b.0 (sym e ∙ b.1))
+  delivered_ok before c j m (Some b) e l w ok = (actor_typed c j (record { mailbox = b.mailbox ++ m ∷ []; frames = b.frames }) w (pushed_ok c.objects j b m (w.actors j b e) ok), λ k bad. cc)
 
   -- ---- a new actor
 
@@ -250,5 +250,5 @@ module _ (core : CoreData) (ann : Ann) where
   made_ok formed c i a fs (Sends j m f) w here mail ok =
       let d : Configuration = with_frames c i a (f ∷ fs) in
       let there : j < length d.actors = subst (λ (n : ℕ). j < n) (sym (length-set c.actors i (record { mailbox = a.mailbox; frames = f ∷ fs }))) ok.0 in
-      delivered_ok d j m (slice_get d.actors j) refl there (frames_typed c i a (f ∷ fs) w mail ok.2) ok.1
+      delivered_ok c d j m (slice_get d.actors j) refl there (frames_typed c i a (f ∷ fs) w mail ok.2) ok.1
   made_ok formed c i a fs (Leaves v) w here mail ok = (frames_typed c i a (left v fs) w mail ok, λ l e. cc)

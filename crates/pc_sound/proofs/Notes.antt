@@ -1,5 +1,5 @@
 -- The note of a node meets its rule, and what was read of a node or a method is what stands there.
-use Rattle.std.specs.Prelude.{◌≡◌, ℕ, ◌+◌, true, Some, nat_eq, slice_get}
+use Rattle.std.specs.Prelude.{◌≡◌, ℕ, ◌+◌, true, Some, nat_eq, slice_get, false, length}
 use Rattle.std.specs.Int.{bit_at}
 use Rattle.std.proofs.Common.{ap, sym, subst, ◌∙◌}
 use Rattle.std.proofs.lemmas.Option.{same_Some}
@@ -15,10 +15,13 @@ use Rattle.pc_ann.specs.declared.mask.Mask.{Mask}
 use Rattle.pc_ann.specs.declared.annotation.Note.{Note}
 use Rattle.pc_ann.specs.declared.annotation.Ann.{Ann}
 use Rattle.pc_ann.specs.Masks.{same}
-use Rattle.pc_rules.specs.Parts.{slot_of}
-use Rattle.pc_rules.specs.Rules.{Meets}
-use Rattle.pc_sound.specs.Tasks.{Within}
+use Rattle.pc_rules.specs.Parts.{slot_of, before}
+use Rattle.pc_rules.specs.Rules.{Meets, says, said_by}
+use Rattle.pc_sound.proofs.Tasks.{Within}
 use Rattle.pc_sound.proofs.Needs.{Needs}
+use Rattle.pc_core.specs.Nodes.{NamesFit, HasArity}
+use Rattle.pc_rules.specs.Threads.{is_branch, Threaded, threads}
+use Rattle.pc_core.specs.declared.nodes.NodeKind.{NodeKind}
 
 module _ (core : CoreData) (ann : Ann) (needs : Needs core ann) where
   -- A node has a note, which meets its rule.
@@ -33,6 +36,18 @@ module _ (core : CoreData) (ann : Ann) (needs : Needs core ann) where
       let r = note_at n x e in
       let is : r.0 ≡ t = same_Some r.0 t (sym r.1 ∙ g) in
       subst (λ (u : Note). Meets core ann x u) is r.2
+
+-- What a node names is there, and it has as many children as its kind asks for.
+pub names_fit : (core : CoreData) (ann : Ann) → Needs core ann → (n : ℕ) (x : Node) → slice_get core.nodes n ≡ Some x → (k : NodeKind) → x.kind ≡ k → NamesFit core x.method k
+names_fit core ann needs n x at k is = subst (NamesFit core x.method) is (needs.formed.nodes n x at).names
+
+pub arity_fits : (core : CoreData) (ann : Ann) → Needs core ann → (n : ℕ) (x : Node) → slice_get core.nodes n ≡ Some x → (k : NodeKind) → x.kind ≡ k → HasArity k (length x.children)
+arity_fits core ann needs n x at k is = subst (λ (j : NodeKind). HasArity j (length x.children)) is (needs.formed.nodes n x at).arity
+
+-- The children of a node of this kind are evaluated one after the other.
+pub children_threaded : (core : CoreData) (ann : Ann) → Needs core ann → (n : ℕ) (x : Node) (t : Note) → slice_get core.nodes n ≡ Some x → (k : NodeKind) → x.kind ≡ k → is_branch k ≡ false
+    → says core ann x (before t) t.rule k ≡ Some (said_by t) → Threaded ann x.children (before t)
+children_threaded core ann needs n x t at k is other q = threads core ann x (before t) (said_by t) t.rule k other (arity_fits core ann needs n x at k is) q
 
 -- The type of a slot.
 pub slot_at : (core : CoreData) (ann : Ann) (m s : ℕ) (f : Method) (i : Slot × (ℕ × Cap)) → slice_get core.methods m ≡ Some f → slot_of core ann m s ≡ Some i → slice_get ann.slots (f.first_slot + s) ≡ Some i.1

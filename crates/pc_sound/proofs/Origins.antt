@@ -2,7 +2,7 @@
 use Rattle.std.specs.Prelude.{◌≡◌, ℕ, ◌<◌, true, ◌&&◌, List, [], length, Option, Some, None, nat_eq, slice_get, refl}
 use Rattle.std.proofs.Common.{inl, inr, ap, sym, subst, ◌∙◌, arith}
 use Rattle.std.proofs.lemmas.Option.{same_Some, none-some}
-use Rattle.std.proofs.lemmas.Bool.{and_parts}
+use Rattle.std.proofs.lemmas.Bool.{and_parts, eqb-true}
 use Rattle.std.specs.FinMap.{get}
 use Rattle.pc_heap.specs.Objects.{ObjectMap}
 use Rattle.pc_heap.specs.declared.value.Address.{Address}
@@ -25,10 +25,10 @@ use Rattle.pc_semantics.specs.Around.{entity_of}
 use Rattle.pc_rules.specs.Parts.{Ty, constructs, last_child}
 use Rattle.pc_rules.specs.Fields.{field_of, is_this, own_set, lacks_fields, incomplete_in, incomplete}
 use Rattle.pc_rules.specs.Threads.{kept, false_true}
-use Rattle.pc_sound.specs.Types.{Finished, OfKind, OfType}
-use Rattle.pc_sound.specs.Tasks.{gives_this}
-use Rattle.pc_sound.specs.Frames.{HasFields}
-use Rattle.pc_sound.specs.Typed.{ObjectOk, ObjectsOk}
+use Rattle.pc_sound.proofs.Types.{Finished, OfKind, OfType}
+use Rattle.pc_sound.proofs.Tasks.{gives_this}
+use Rattle.pc_sound.proofs.Frames.{HasFields}
+use Rattle.pc_sound.proofs.Typed.{ObjectOk, ObjectsOk}
 use Rattle.pc_sound.proofs.Needs.{Needs}
 use Rattle.pc_sound.proofs.Growth.{object_of}
 use Rattle.pc_sound.proofs.Values.{fields_no_trait, is_address}
@@ -133,6 +133,7 @@ set_value core objects d name i g v set o has_them b =
 -- The last child is `this`, in a constructor.
 pub record OwnOrigin (core : CoreData) (x : Node) (own : Method) : Type 0 where
   pub constructs : constructs own.kind ≡ true
+  pub depth : x.depth ≡ 0
   pub last : ℕ
   pub is_last : last_child x.children ≡ Some last
   pub this : gives_this (slice_get core.nodes last) ≡ true
@@ -152,4 +153,4 @@ own_origin core ann x own is e =
     let p = and_parts (constructs own.kind) (nat_eq x.depth 0 && lacks_fields core own.entity (own_set core ann x.children)) h in
     let q = and_parts (nat_eq x.depth 0) (lacks_fields core own.entity (own_set core ann x.children)) p.1 in
     let l = own_last core ann x.children own.entity (own_set core ann x.children) refl q.1 in
-    record { constructs = p.0; last = l.0; is_last = l.1; this = l.2 }
+    record { constructs = p.0; depth = eqb-true x.depth 0 q.0; last = l.0; is_last = l.1; this = l.2 }

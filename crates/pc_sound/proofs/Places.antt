@@ -9,7 +9,7 @@ use Rattle.pc_core.specs.Formed.{Formed}
 use Rattle.pc_sub.specs.Sub.{is_sub}
 use Rattle.pc_sub.specs.Above.{is_sub_iff}
 use Rattle.pc_rules.specs.Parts.{Ty, goes_to}
-use Rattle.pc_sound.specs.Types.{LowerType, held_in}
+use Rattle.pc_sound.proofs.Types.{LowerType, held_in}
 use Rattle.pc_sound.proofs.Tables.{unalias_sees, fits_sees}
 
 -- A type that goes to a place is below what the place holds.

@@ -15,8 +15,8 @@ use Rattle.pc_sub.specs.Declarations.{ParamFits}
 use Rattle.pc_rules.specs.Parts.{Ty, type_of, last_child}
 use Rattle.pc_rules.specs.Calls.{argument_goes, arguments, arguments_go}
 use Rattle.pc_rules.specs.Threads.{false_true}
-use Rattle.pc_sound.specs.Types.{OfSome, LowerType, param_type, ArgumentsOk, Want, StackOk}
-use Rattle.pc_sound.specs.Tasks.{want_of, stacked}
+use Rattle.pc_sound.proofs.Types.{OfSome, LowerType, param_type, ArgumentsOk, Want, StackOk}
+use Rattle.pc_sound.proofs.Tasks.{want_of, stacked}
 use Rattle.pc_sound.proofs.Places.{goes_lower}
 use Rattle.pc_sound.proofs.Needs.{Needs}
 use Rattle.pc_sound.proofs.Basic.{of_lower}
@@ -55,7 +55,7 @@ stacked_last core ann [] r below = refl
 stacked_last core ann (c ∷ cs) r below = stacked_last core ann cs r (want_of core ann c ∷ below)
 
 -- One more value is popped.
-popped_more : (k : ℕ) (vs more a b : List Value) (v : Value) → popped k vs more ≡ Some (a, v ∷ b) → popped (suc k) vs more ≡ Some (v ∷ a, b)
+pub popped_more : (k : ℕ) (vs more a b : List Value) (v : Value) → popped k vs more ≡ Some (a, v ∷ b) → popped (suc k) vs more ≡ Some (v ∷ a, b)
 popped_more zero vs more a b v e = let p = some_pair_parts more a vs (v ∷ b) e in rw (p.1, p.0)
 popped_more (suc k) [] more a b v e = absurd (none-some (a, v ∷ b) e)
 popped_more (suc k) (x ∷ vs) more a b v e = popped_more k vs (x ∷ more) a b v e

@@ -31,13 +31,13 @@ use Rattle.pc_rules.specs.Parts.{Ty, before, type_of, last_child, constructs}
 use Rattle.pc_rules.specs.Fields.{incomplete, read_says, own_read_says, write_says, own_write_says}
 use Rattle.pc_rules.specs.Rules.{says, said_by}
 use Rattle.pc_rules.specs.Threads.{kept, kept_otherwise, false_true}
-use Rattle.pc_sound.specs.Types.{Want, StackOk}
-use Rattle.pc_sound.specs.Tasks.{want_of, stacked, reads, writes, TasksOk}
-use Rattle.pc_sound.specs.Moves.{Runs}
-use Rattle.pc_sound.specs.RegionWorld.{Place, InSlot, OnStack, World, Frozen, Belongs, stack, child, FitsIn, Fits, FitsSome, AliasIn, Alias, AliasSome, WorldOk}
-use Rattle.pc_sound.specs.RegionTasks.{Entry, piled, uses_top}
-use Rattle.pc_sound.specs.RegionFrames.{StackFits, TopAlias}
-use Rattle.pc_sound.specs.RegionMoves.{Situated}
+use Rattle.pc_sound.proofs.Types.{Want, StackOk}
+use Rattle.pc_sound.proofs.Tasks.{want_of, stacked, reads, writes, TasksOk}
+use Rattle.pc_sound.proofs.Moves.{Runs}
+use Rattle.pc_sound.proofs.RegionWorld.{InSlot, OnStack, World, Frozen, Belongs, stack, child, FitsIn, Fits, FitsSome, AliasIn, Alias, AliasSome, WorldOk}
+use Rattle.pc_sound.proofs.RegionTasks.{Entry, piled, uses_top}
+use Rattle.pc_sound.proofs.RegionFrames.{StackFits, TopAlias}
+use Rattle.pc_sound.proofs.RegionMoves.{Situated}
 use Rattle.pc_sound.proofs.Needs.{Needs}
 use Rattle.pc_sound.proofs.Notes.{meets}
 use Rattle.pc_sound.proofs.GetTask.{GetRule, OwnGetRule, read_is, own_read_is, only_last}
@@ -47,9 +47,6 @@ use Rattle.pc_sound.proofs.RegionSafe.{context_belongs, over_is_of, seen_belongs
 -- ---- origins
 
 module _ (w : World) (objects : ObjectMap) (count : ℕ) (ok : WorldOk w objects count) (i : ℕ) (here : i < count) (h d b : ℕ) (q : ℕ) where
-  place : Place
-  place = OnStack i h d (w.top i)
-
   own_context : Belongs w i (w.context i (w.top i))
   own_context = context_belongs w objects count ok i here (w.top i) (omega arith)
 
@@ -82,7 +79,7 @@ module _ (core : CoreData) (ann : Ann) (needs : Needs core ann) (around : Around
   place_at d l is t v k = subst (λ (n : ℕ). FitsSome w (OnStack around.actor (length fs) d n) t v) is k
 
   -- The value on top fits, and is an alias that may be used.
-  top_fits : (c : ℕ) (below : List Entry) → s.active.holds.entries ≡ record { ty = type_of ann c; depth = s.active.depth } ∷ below → (v : Value) (rest : List Value) → f.stack ≡ v ∷ rest → (t : Ty) → type_of ann c ≡ Some t
+  pub top_fits : (c : ℕ) (below : List Entry) → s.active.holds.entries ≡ record { ty = type_of ann c; depth = s.active.depth } ∷ below → (v : Value) (rest : List Value) → f.stack ≡ v ∷ rest → (t : Ty) → type_of ann c ≡ Some t
       → Fits w (OnStack around.actor (length fs) (length rest) (w.top around.actor)) t.1 v × Alias w around.actor s.active.holds.base (w.top around.actor) t.1 v
   top_fits c below is v rest at t typed =
       let e : Entry = record { ty = type_of ann c; depth = s.active.depth } in
@@ -102,7 +99,7 @@ module _ (core : CoreData) (ann : Ann) (needs : Needs core ann) (around : Around
       subst (Belongs w around.actor) (sym fit) (context_belongs w around.objects around.actors s.world around.actor s.here s.active.holds.base (omega (arith, last)))
 
   -- A constructor's receiver is `ref`.
-  constructor_ref : (x : Method) (k : MethodKind) → ResultFits k x → constructs k ≡ true → x.receiver ≡ cap.Ref
+  pub constructor_ref : (x : Method) (k : MethodKind) → ResultFits k x → constructs k ≡ true → x.receiver ≡ cap.Ref
   constructor_ref x method.New p c = p.0
   constructor_ref x method.Spawn p c = p.0
   constructor_ref x method.Fun p c = absurd (false_true c)

@@ -18,14 +18,14 @@ use Rattle.pc_semantics.specs.Tasks.{at_node}
 use Rattle.pc_semantics.specs.Choices.{apply_task}
 use Rattle.pc_rules.specs.Parts.{Ty, Masks, before, through, type_of}
 use Rattle.pc_rules.specs.Threads.{false_true}
-use Rattle.pc_sound.specs.Types.{OfType}
-use Rattle.pc_sound.specs.Tasks.{applies, FinishOk, TasksOk}
-use Rattle.pc_sound.specs.Moves.{Runs}
-use Rattle.pc_sound.specs.RegionWorld.{World, Place, Fits, Alias}
-use Rattle.pc_sound.specs.RegionTasks.{Entry, Shallow, Rises, entry_of, piled, FinishRises, TasksRise}
-use Rattle.pc_sound.specs.RegionFrames.{StackFits}
-use Rattle.pc_sound.specs.RegionMoves.{RegionMoveOk, Situated}
-use Rattle.pc_sound.specs.RegionClimb.{ClimbLaw}
+use Rattle.pc_sound.proofs.Types.{OfType}
+use Rattle.pc_sound.proofs.Tasks.{applies, FinishOk, TasksOk}
+use Rattle.pc_sound.proofs.Moves.{Runs}
+use Rattle.pc_sound.proofs.RegionWorld.{World, Place, Fits, Alias}
+use Rattle.pc_sound.proofs.RegionTasks.{Entry, Rises, entry_of, piled, FinishRises, TasksRise}
+use Rattle.pc_sound.proofs.RegionFrames.{StackFits}
+use Rattle.pc_sound.proofs.RegionMoves.{RegionMoveOk, Situated}
+use Rattle.pc_sound.proofs.RegionClimbed.{ClimbLaw}
 use Rattle.pc_sound.proofs.Needs.{Needs}
 use Rattle.pc_sound.proofs.Inverse.{Says}
 use Rattle.pc_sound.proofs.Finish.{rule_is}
@@ -71,10 +71,6 @@ fits_behind w i h base [] [] below rest e k = k
 fits_behind w i h base [] (u ∷ us) below rest e k = absurd (omega (arith, e))
 fits_behind w i h base (x ∷ es) [] below rest e k = absurd (omega (arith, e))
 fits_behind w i h base (x ∷ es) (u ∷ us) below rest e k = fits_behind w i h base es us below rest (omega (arith, e)) k.1
-
-shallow_behind : (es below : List Entry) (d : ℕ) → Shallow (es ++ below) d → Shallow below d
-shallow_behind [] below d k = k
-shallow_behind (e ∷ es) below d k = shallow_behind es below d k.1
 
 module _ (core : CoreData) (ann : Ann) (needs : Needs core ann) (climb : ClimbLaw core) (around : Around) (f : Frame) (fs : List Frame) (r : Runs core ann around f fs) (w : World) (n : ℕ) (s : Situated core ann w around f (task.Apply n ∷ f.tasks) fs)
     (e : FinishOk core ann f.method r.held.live r.held.set r.held.wants applies n (λ l z g. TasksOk core ann f.method f.tasks l z g)) (x : FinishRises core ann f.method s.active.depth s.active.holds.live s.active.holds.entries applies n (λ d l g. TasksRise core ann f.method f.tasks d l g)) where

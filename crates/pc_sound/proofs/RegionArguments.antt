@@ -1,14 +1,13 @@
 -- The arguments of a call on a stack that fits by regions: where each stands, and of which form it is.
-use Rattle.std.specs.Prelude.{◌≡◌, ◌⊎◌, ℕ, zero, suc, ◌+◌, Bool, true, false, ◌&&◌, ◌||◌, List, [], ◌∷◌, ◌++◌, length, Option, Some, None, slice_get, refl}
-use Rattle.std.proofs.Common.{inl, inr, ap, sym, subst, ◌∙◌, arith}
-use Rattle.std.proofs.lemmas.Option.{same_Some, none-some, some_pair_parts}
-use Rattle.std.proofs.lemmas.Bool.{and_parts}
+use Rattle.std.specs.Prelude.{◌≡◌, ◌⊎◌, ℕ, suc, ◌+◌, true, ◌||◌, List, [], ◌∷◌, ◌++◌, length, Option, Some, None, slice_get, refl}
+use Rattle.std.proofs.Common.{ap, sym, subst, ◌∙◌, arith}
+use Rattle.std.proofs.lemmas.Option.{same_Some, some_pair_parts}
+use Rattle.std.proofs.lemmas.Bool.{and_parts, or_cases}
 use Rattle.std.proofs.lemmas.List.{append-nil}
 use Rattle.pc_heap.specs.declared.value.Value.{Value}
 use Rattle.pc_caps.specs.Order.{is_below}
 use Rattle.pc_caps.specs.Closure.{below_iff}
 use Rattle.pc_caps.specs.Tables.{unalias, fits, sendable, sendable_form}
-use Rattle.pc_caps.specs.declared.capability.Form.{Form}
 use Rattle.pc_core.specs.declared.declarations.ParamInfo.{ParamInfo}
 use Rattle.pc_core.specs.CoreData.{CoreData}
 use Rattle.pc_core.specs.Words.{Each}
@@ -19,9 +18,11 @@ use Rattle.pc_sub.specs.Declarations.{ParamFits}
 use Rattle.pc_rules.specs.Parts.{Ty, type_of}
 use Rattle.pc_rules.specs.Calls.{argument_goes, arguments_go, argument_sendable, arguments_sendable}
 use Rattle.pc_rules.specs.Threads.{false_true}
-use Rattle.pc_sound.specs.RegionWorld.{World, OnStack, FitsSome}
-use Rattle.pc_sound.specs.RegionTasks.{Entry, piled}
-use Rattle.pc_sound.specs.RegionFrames.{StackFits}
+use Rattle.pc_sound.proofs.RegionWorld.{World, OnStack, FitsSome}
+use Rattle.pc_sound.proofs.RegionTasks.{Entry, piled}
+use Rattle.pc_sound.proofs.RegionFrames.{StackFits}
+use Rattle.pc_sound.proofs.Popped.{popped_more}
+use Rattle.pc_sound.proofs.RegionControl.{below_same}
 
 -- ---- the top of a stack
 
@@ -52,12 +53,6 @@ pub record Pulled (ann : Ann) (w : World) (i h base d : ℕ) (cs : List ℕ) (be
   pub stand : ArgumentsStand ann w i h (base + d) (length rest) cs values
   pub fits : StackFits w i h base below rest
   pub total : length vs ≡ length rest + length values
-
--- One more value is popped.
-popped_more : (k : ℕ) (vs more a b : List Value) (v : Value) → popped k vs more ≡ Some (a, v ∷ b) → popped (suc k) vs more ≡ Some (v ∷ a, b)
-popped_more zero vs more a b v e = let p = some_pair_parts more a vs (v ∷ b) e in rw (p.1, p.0)
-popped_more (suc k) [] more a b v e = absurd (none-some (a, v ∷ b) e)
-popped_more (suc k) (x ∷ vs) more a b v e = popped_more k vs (x ∷ more) a b v e
 
 none_more : (n : ℕ) → n ≡ n + 0
 none_more n = omega arith
@@ -107,13 +102,9 @@ first_goes core ann c cs p ps e =
     let a = and_parts (argument_goes core p (type_of ann c)) (arguments_go core ann cs ps) e in
     (goes_in core ann c p (type_of ann c) refl a.0, a.1)
 
-either : (a b : Bool) → (a || b) ≡ true → (a ≡ true) ⊎ (b ≡ true)
-either true b e = inl refl
-either false b e = inr e
-
 one_sendable : (ann : Ann) (c : ℕ) (p : ParamInfo) (g : GoesIn ann c p) (o : Option Ty) → type_of ann c ≡ o → argument_sendable p o ≡ true → (sendable_form g.ty.1 ≡ true) ⊎ (sendable p.cap ≡ true)
 one_sendable ann c p g None is e = absurd (false_true e)
-one_sendable ann c p g (Some v) is e = either (sendable_form g.ty.1) (sendable p.cap) (subst (λ (t : Ty). (sendable_form t.1 || sendable p.cap) ≡ true) (same_Some v g.ty (sym is ∙ g.is_ty)) e)
+one_sendable ann c p g (Some v) is e = or_cases (sendable_form g.ty.1) (sendable p.cap) (subst (λ (t : Ty). (sendable_form t.1 || sendable p.cap) ≡ true) (same_Some v g.ty (sym is ∙ g.is_ty)) e)
 
 pub first_sendable : (ann : Ann) (c : ℕ) (cs : List ℕ) (p : ParamInfo) (ps : List ParamInfo) (g : GoesIn ann c p) → arguments_sendable ann (c ∷ cs) (p ∷ ps) ≡ true → ((sendable_form g.ty.1 ≡ true) ⊎ (sendable p.cap ≡ true)) × (arguments_sendable ann cs ps ≡ true)
 first_sendable ann c cs p ps g e =
@@ -123,3 +114,23 @@ first_sendable ann c cs p ps g e =
 -- What goes to the parameter of one method goes to that of one that may stand for it.
 pub stands_below : (core : CoreData) (p q : ParamInfo) → ParamFits core p q → is_below (unalias p.cap) (unalias q.cap) ≡ true
 stands_below core p q f = (below_iff (unalias p.cap) (unalias q.cap)).1 f.1
+
+-- ---- the arguments of a constructor are all that the node's children left
+
+-- Each of these values stands at its place, and below them the rest.
+pub record ChildrenStand (ann : Ann) (w : World) (i h base d : ℕ) (cs : List ℕ) (below : List Entry) (values rest : List Value) : Type 0 where
+  pub stand : ArgumentsStand ann w i h (base + d) (length rest) cs values
+  pub fits : StackFits w i h base below rest
+
+pub children_stand : (ann : Ann) (w : World) (i h base d : ℕ) (cs : List ℕ) (below : List Entry) (vs : List Value) → Pulled ann w i h base d cs below vs → (values rest : List Value) → popped (length cs) vs [] ≡ Some (values, rest)
+    → ChildrenStand ann w i h base d cs below values rest
+children_stand ann w i h base d cs below vs p values rest is =
+    let q = pulled_is ann w i h base d cs below vs p values rest is in
+    record {
+      stand = subst (λ (us : List Value). ArgumentsStand ann w i h (base + d) (length us) cs values) q.1 (subst (λ (us : List Value). ArgumentsStand ann w i h (base + d) (length p.rest) cs us) q.0 p.stand);
+      fits = subst (λ (us : List Value). StackFits w i h base below us) q.1 p.fits;
+    }
+
+-- The method by which the node was read is the one that begins.
+pub same_params : (core : CoreData) (ps : List ParamInfo) → Each (λ k p. (q : ParamInfo) → slice_get ps k ≡ Some q → is_below (unalias p.cap) (unalias q.cap) ≡ true) ps
+same_params core ps k p at q is = subst (λ (x : ParamInfo). is_below (unalias p.cap) (unalias x.cap) ≡ true) (same_Some p q (sym at ∙ is)) (below_same core (0, unalias p.cap)).1

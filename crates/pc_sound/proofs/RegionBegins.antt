@@ -1,6 +1,6 @@
 -- The frame of a method that begins fits by regions, where `this` and the arguments do; and a message fits where its arguments do.
-use Rattle.std.specs.Prelude.{◌≡◌, ◌≢◌, ℕ, zero, suc, ◌+◌, ◌-◌, ◌<◌, ◌≤◌, true, List, [], ◌∷◌, ◌++◌, map, length, replicate, Option, Some, None, slice_get, refl}
-use Rattle.std.proofs.Common.{inr, ap, sym, subst, ◌∙◌, arith}
+use Rattle.std.specs.Prelude.{◌≡◌, ◌≢◌, ℕ, zero, suc, ◌+◌, ◌-◌, ◌<◌, List, [], ◌∷◌, ◌++◌, map, length, replicate, Option, Some, None, slice_get, refl}
+use Rattle.std.proofs.Common.{ap, sym, subst, ◌∙◌, arith}
 use Rattle.std.proofs.lemmas.Option.{same_Some, none-some}
 use Rattle.pc_heap.specs.declared.value.Value.{Value}
 use Rattle.pc_caps.specs.Tables.{unalias}
@@ -13,15 +13,13 @@ use Rattle.pc_core.specs.CoreData.{CoreData}
 use Rattle.pc_core.specs.Members.{bind_some}
 use Rattle.pc_core.specs.Methods.{this_slot, param_slot}
 use Rattle.pc_ann.specs.declared.annotation.Ann.{Ann}
-use Rattle.pc_ann.specs.Masks.{IsIn, first}
+use Rattle.pc_ann.specs.Masks.{first}
 use Rattle.pc_ann.specs.MaskLaws.{first_bits}
-use Rattle.pc_semantics.specs.declared.frames.Task.TheVariants as task
-use Rattle.pc_semantics.specs.declared.mailbox.Message.{Message}
 use Rattle.pc_semantics.specs.Around.{first_slots}
 use Rattle.pc_rules.specs.Parts.{slot_of}
-use Rattle.pc_sound.specs.RegionWorld.{World, Place, InSlot, InMail, Fits}
-use Rattle.pc_sound.specs.RegionTasks.{BodyRises, SlotsShallow}
-use Rattle.pc_sound.specs.RegionFrames.{ThisFits, SlotsFit, Holds, Active, OpenedTo, MessageFits}
+use Rattle.pc_sound.proofs.RegionWorld.{World, Place, InSlot, InMail, Fits}
+use Rattle.pc_sound.proofs.RegionTasks.{BodyRises, SlotsShallow}
+use Rattle.pc_sound.proofs.RegionFrames.{ThisFits, SlotsFit, Holds, Active, OpenedTo, MessageFits}
 use Rattle.pc_sound.proofs.Needs.{Needs}
 use Rattle.pc_sound.proofs.Needed.{first_own, param_own}
 use Rattle.pc_sound.proofs.Notes.{slot_at}

@@ -1,7 +1,7 @@
 -- A call of a function, by regions: the receiver and the arguments settle in the slots of the frame that begins.
-use Rattle.std.specs.Prelude.{◌≡◌, ◌≢◌, ◌⊎◌, ℕ, suc, ◌+◌, ◌-◌, ◌<◌, ◌≤◌, Bool, true, false, ◌&&◌, ◌||◌, cond, List, [], ◌∷◌, ◌++◌, length, Option, Some, None, nat_eq, nat_lt, slice_get, refl}
+use Rattle.std.specs.Prelude.{◌≡◌, ◌≢◌, ℕ, suc, ◌+◌, ◌-◌, ◌<◌, ◌≤◌, Bool, true, false, ◌&&◌, ◌||◌, cond, List, [], ◌∷◌, ◌++◌, length, Option, Some, None, nat_eq, nat_lt, refl}
 use Rattle.std.proofs.Common.{inl, inr, ap, sym, subst, ◌∙◌, arith}
-use Rattle.std.proofs.lemmas.Bool.{eq-eqb, ne_eqb, le-ltb}
+use Rattle.std.proofs.lemmas.Bool.{eq-eqb, ne_eqb, le-ltb, or_from, and_right}
 use Rattle.pc_heap.specs.Objects.{ObjectMap}
 use Rattle.pc_heap.specs.declared.value.Address.{Address}
 use Rattle.pc_heap.specs.declared.value.Value.{Value}
@@ -16,7 +16,6 @@ use Rattle.pc_caps.specs.declared.capability.Form.TheVariants as form
 use Rattle.pc_core.specs.declared.declarations.Method.{Method}
 use Rattle.pc_core.specs.declared.declarations.MethodKind.{MethodKind}
 use Rattle.pc_core.specs.declared.declarations.MethodKind.TheVariants as method
-use Rattle.pc_core.specs.declared.declarations.ParamInfo.{ParamInfo}
 use Rattle.pc_core.specs.declared.nodes.NodeKind.{NodeKind}
 use Rattle.pc_core.specs.declared.nodes.NodeKind.TheVariants as nodes
 use Rattle.pc_core.specs.CoreData.{CoreData}
@@ -30,29 +29,30 @@ use Rattle.pc_semantics.specs.Calls.{invoke_task}
 use Rattle.pc_rules.specs.Parts.{Ty, type_of}
 use Rattle.pc_rules.specs.Calls.{arguments, is_isolated, is_lent, recovered_result}
 use Rattle.pc_rules.specs.Threads.{false_true}
-use Rattle.pc_sound.specs.Types.{OfKind}
-use Rattle.pc_sound.specs.Tasks.{FinishOk, invokes, TasksOk}
-use Rattle.pc_sound.specs.Moves.{Runs}
-use Rattle.pc_sound.specs.RegionWorld.{Place, InSlot, OnStack, InField, InMail, Child, World, home, Seen, same, Over, over_part, FitsIn, Fits, FitsSome, Alias, AliasIn, AliasSome, WorldOk}
-use Rattle.pc_sound.specs.RegionTasks.{Entry, Shallow, FinishRises, TasksRise, Below, piled}
-use Rattle.pc_sound.specs.RegionFrames.{StackFits, Entered, OpenedTo, GoesTo, SendableSome, TopAlias, FieldsFit}
-use Rattle.pc_sound.specs.RegionMoves.{elsewhere, Others, Turned, Situated, RegionMoveOk}
-use Rattle.pc_sound.specs.RegionPlaces.{lent, Shifts}
-use Rattle.pc_sound.specs.RegionSettle.{SettleLaw}
-use Rattle.pc_sound.specs.RegionContexts.{higher, LentLaw}
+use Rattle.pc_sound.proofs.Types.{OfKind}
+use Rattle.pc_sound.proofs.Tasks.{FinishOk, invokes, TasksOk}
+use Rattle.pc_sound.proofs.Moves.{Runs}
+use Rattle.pc_sound.proofs.RegionWorld.{Place, InSlot, OnStack, World, home, same, Over, over_part, FitsIn, Fits, FitsSome, Alias, AliasIn, AliasSome, WorldOk}
+use Rattle.pc_sound.proofs.RegionTasks.{Entry, Shallow, FinishRises, TasksRise, Below, piled}
+use Rattle.pc_sound.proofs.RegionFrames.{StackFits, Entered, OpenedTo, GoesTo, SendableSome, TopAlias, FieldsFit}
+use Rattle.pc_sound.proofs.RegionMoves.{Others, Turned, Situated, RegionMoveOk}
+use Rattle.pc_sound.proofs.RegionPlaces.{lent, Shifts}
+use Rattle.pc_sound.proofs.RegionSettled.{SettleLaw}
+use Rattle.pc_sound.proofs.RegionContextLaws.{higher, LentLaw}
 use Rattle.pc_sound.proofs.Needs.{Needs}
 use Rattle.pc_sound.proofs.Values.{own_no_trait}
 use Rattle.pc_sound.proofs.InverseCalls.{CalledRule}
-use Rattle.pc_sound.proofs.Popped.{Popped, popped_is, receiver_last, arguments_count}
+use Rattle.pc_sound.proofs.Popped.{popped_is, receiver_last, arguments_count}
 use Rattle.pc_sound.proofs.Callers.{counts, not_print}
 use Rattle.pc_sound.proofs.InvokeTask.{no_behaviour, Received, received}
-use Rattle.pc_sound.proofs.RegionShifts.{shifts_both}
+use Rattle.pc_sound.proofs.RegionShifts.{shifts_both, lower_shift}
 use Rattle.pc_sound.proofs.RegionRules.{CallRule, LendRule}
 use Rattle.pc_sound.proofs.RegionArguments.{ArgumentsStand, Pulled, pull, pulled_is, piled_last, stands_below}
 use Rattle.pc_sound.proofs.RegionBegins.{ArgumentsAt}
-use Rattle.pc_sound.proofs.RegionPasses.{lower_still, near_home, the_place, from_place, one_later, wider, Calm, calm_wider, calm_both, calm_same, PassedOne, pass_near, Passed, pass_all, stand_under}
-use Rattle.pc_sound.proofs.RegionCallers.{and_none, not_here, from_elsewhere, from_lower, from_under, Rests, LeftAbove, live_left, follows_at, fields_on, others_on, rests_on, fields_low, others_low, rests_low}
+use Rattle.pc_sound.proofs.RegionPasses.{lower_still, near_home, the_place, from_place, one_later, calm_wider, calm_both, calm_same, PassedOne, pass_near, pass_all, stand_under}
+use Rattle.pc_sound.proofs.RegionCallers.{from_elsewhere, from_lower, from_under, Rests, LeftAbove, live_left, follows_at, fields_on, others_on, rests_on, fields_low, others_low, rests_low}
 use Rattle.pc_sound.proofs.RegionEnter.{finish_at, enters_frames}
+use Rattle.pc_sound.proofs.RegionRise.{higher_elsewhere}
 
 -- ---- what was on the stack
 
@@ -133,31 +133,17 @@ lent_context : (w : World) (i q level : ℕ) → w.top i ≡ level → (lent w i
 lent_context w i q level e = ap (λ (b : Bool). cond (b && nat_eq (suc (w.top i)) (suc level)) q (w.context i (suc level))) (eq-eqb i i refl) ∙ ap (λ (b : Bool). cond b q (w.context i (suc level))) (eq-eqb (suc (w.top i)) (suc level) (ap suc e))
 
 lent_before : (w : World) (i q j : ℕ) → j ≤ w.top i → (lent w i q).context i j ≡ w.context i j
-lent_before w i q j low = ap (λ (b : Bool). cond b q (w.context i j)) (and_none (nat_eq i i) (nat_eq (suc (w.top i)) j) (ne_eqb (suc (w.top i)) j (λ e. absurd (omega (arith, e, low)))))
+lent_before w i q j low = ap (λ (b : Bool). cond b q (w.context i j)) (and_right (nat_eq i i) (nat_eq (suc (w.top i)) j) (ne_eqb (suc (w.top i)) j (λ e. absurd (omega (arith, e, low)))))
 
-not_higher : (i k l : ℕ) → l ≤ k → (nat_eq i i && nat_lt k l) ≡ false
-not_higher i k l low = and_none (nat_eq i i) (nat_lt k l) (le-ltb k l low)
+pub not_higher : (i k l : ℕ) → l ≤ k → (nat_eq i i && nat_lt k l) ≡ false
+not_higher i k l low = and_right (nat_eq i i) (nat_lt k l) (le-ltb k l low)
 
 -- What is on the pile is no deeper than what is on it with more.
-piled_shallow : (ann : Ann) (d : ℕ) (cs : List ℕ) (below : List Entry) → Shallow (piled ann d cs below) d → Shallow below d
+pub piled_shallow : (ann : Ann) (d : ℕ) (cs : List ℕ) (below : List Entry) → Shallow (piled ann d cs below) d → Shallow below d
 piled_shallow ann d [] below k = k
 piled_shallow ann d (c ∷ cs) below k = (piled_shallow ann d cs (record { ty = type_of ann c; depth = d } ∷ below) k).1
 
-pub lower_shift : (w w' : World) (objects : ObjectMap) (count i b c : ℕ) (gone : Place → Bool) → c ≤ b → Shifts w w' objects count i b gone → Shifts w w' objects count i c gone
-lower_shift w w' objects count i b c gone low x = record {
-  world = x.world;
-  fits = x.fits;
-  sent = x.sent;
-  top = x.top;
-  context = λ l k. x.context l (omega (arith, k, low));
-  contexts = x.contexts;
-  opened = λ j l n e. x.opened j l (elim n [ inl a ↦ inl a | inr k ↦ inr (omega (arith, k, low)) ]) e;
-  alias = x.alias;
-  over = x.over;
-  low = λ m l k j o. x.low m l (omega (arith, k, low)) (omega (arith, j, low)) o;
-}
-
-stand_kept : (ann : Ann) (w w' : World) (i h l : ℕ) → ((d : ℕ) (f : Form) (v : Value) → Fits w (OnStack i h d l) f v → Fits w' (OnStack i h d l) f v) → (m : ℕ) (cs : List ℕ) (vs : List Value) → ArgumentsStand ann w i h l m cs vs → ArgumentsStand ann w' i h l m cs vs
+pub stand_kept : (ann : Ann) (w w' : World) (i h l : ℕ) → ((d : ℕ) (f : Form) (v : Value) → Fits w (OnStack i h d l) f v → Fits w' (OnStack i h d l) f v) → (m : ℕ) (cs : List ℕ) (vs : List Value) → ArgumentsStand ann w i h l m cs vs → ArgumentsStand ann w' i h l m cs vs
 stand_kept ann w w' i h l on m [] [] k = k
 stand_kept ann w w' i h l on m [] (v ∷ vs) k = k
 stand_kept ann w w' i h l on m (c ∷ cs) [] k = k
@@ -179,27 +165,17 @@ plain_fits w p g (Truth b) e = tt
 plain_fits w p g (Text t) e = tt
 plain_fits w p g (Prim n) e = tt
 
-or_false : (a b : Bool) → a ≡ false → b ≡ false → (a || b) ≡ false
-or_false true b e k = e
-or_false false b e k = k
-
-higher_far : (i k : ℕ) (p : Place) → elsewhere i p ≡ true → higher i k p ≡ false
-higher_far i k (InSlot j h t l) e = not_here (nat_eq i j) (nat_lt k l) e
-higher_far i k (OnStack j h d l) e = not_here (nat_eq i j) (nat_lt k l) e
-higher_far i k (InField a n) e = refl
-higher_far i k (InMail j t n) e = refl
-
-left_lent : (core : CoreData) (ann : Ann) (around : Around) (f : Frame) (fs : List Frame) (ts : List Task) (w : World) (s : Situated core ann w around f ts fs) (does : NodeKind → Bool) (n : ℕ) (go : ℕ → Mask → List Entry → Type 0)
+pub left_lent : (core : CoreData) (ann : Ann) (around : Around) (f : Frame) (fs : List Frame) (ts : List Task) (w : World) (s : Situated core ann w around f ts fs) (does : NodeKind → Bool) (n : ℕ) (go : ℕ → Mask → List Entry → Type 0)
     (e : FinishRises core ann f.method s.active.depth s.active.holds.live s.active.holds.entries does n go) (m : ℕ) → LeftAbove core ann around f fs ts w s does n go e m (λ p. higher around.actor (w.top around.actor) p || from_place around.actor (length fs) m p)
 left_lent core ann around f fs ts w s does n go e m =
     let i : ℕ = around.actor in
     let k : ℕ = w.top i in
     record {
-      far = λ p z. or_false (higher i k p) (from_place i (length fs) m p) (higher_far i k p z) (from_elsewhere i (length fs) m p z);
+      far = λ p z. or_from (higher i k p) (from_place i (length fs) m p) (higher_elsewhere i k p z) (from_elsewhere i (length fs) m p z);
       fieldless = λ a z. refl;
-      slots = λ h t l low. or_false (nat_eq i i && nat_lt k l) false (not_higher i k l low) refl;
-      lower = λ h d l under low. or_false (nat_eq i i && nat_lt k l) (from_place i (length fs) m (OnStack i h d l)) (not_higher i k l low) (from_lower i (length fs) m h d l under);
-      under = λ d l below low. or_false (nat_eq i i && nat_lt k l) (from_place i (length fs) m (OnStack i (length fs) d l)) (not_higher i k l low) (from_under i (length fs) m d l below);
+      slots = λ h t l low. or_from (nat_eq i i && nat_lt k l) false (not_higher i k l low) refl;
+      lower = λ h d l under low. or_from (nat_eq i i && nat_lt k l) (from_place i (length fs) m (OnStack i h d l)) (not_higher i k l low) (from_lower i (length fs) m h d l under);
+      under = λ d l below low. or_from (nat_eq i i && nat_lt k l) (from_place i (length fs) m (OnStack i (length fs) d l)) (not_higher i k l low) (from_under i (length fs) m d l below);
     }
 
 -- ---- a call

@@ -1,9 +1,8 @@
 -- A frame whose node takes what its children left on the stack: what is kept of it, of the frames below, of fields and of the other
 -- actors while that settles elsewhere.
-use Rattle.std.specs.Prelude.{◌≡◌, ◌⊎◌, ℕ, suc, ◌+◌, ◌<◌, ◌≤◌, Bool, true, false, not, ◌&&◌, List, [], ◌∷◌, length, Option, Some, None, nat_eq, nat_lt, slice_get, refl}
-use Rattle.std.proofs.Common.{inl, inr, ap, sym, subst, ◌∙◌, arith}
-use Rattle.std.proofs.lemmas.Bool.{ne_eqb, le-ltb}
-use Rattle.pc_heap.specs.Objects.{ObjectMap}
+use Rattle.std.specs.Prelude.{◌≡◌, ℕ, suc, ◌+◌, ◌<◌, ◌≤◌, Bool, true, false, ◌&&◌, List, [], ◌∷◌, length, Option, Some, None, nat_eq, nat_lt, refl}
+use Rattle.std.proofs.Common.{inr, ap, sym, subst, ◌∙◌, arith}
+use Rattle.std.proofs.lemmas.Bool.{ne_eqb, le-ltb, and_right}
 use Rattle.pc_heap.specs.declared.value.Address.{Address}
 use Rattle.pc_heap.specs.declared.value.Value.{Value}
 use Rattle.pc_caps.specs.Tables.{unalias}
@@ -14,31 +13,23 @@ use Rattle.pc_ann.specs.declared.mask.Mask.{Mask}
 use Rattle.pc_ann.specs.declared.annotation.Ann.{Ann}
 use Rattle.pc_semantics.specs.declared.frames.Frame.{Frame}
 use Rattle.pc_semantics.specs.declared.frames.Task.{Task}
-use Rattle.pc_semantics.specs.Around.{Around, with_stack}
+use Rattle.pc_semantics.specs.Around.{Around}
 use Rattle.pc_rules.specs.Parts.{Ty, Masks, before, through}
-use Rattle.pc_sound.specs.Tasks.{Within}
-use Rattle.pc_sound.specs.RegionWorld.{Opened, Place, InSlot, OnStack, InField, InMail, World, Fits, FitsSome, Over, WorldOk}
-use Rattle.pc_sound.specs.RegionTasks.{Entry, Shallow, TasksRise, FinishRises, Rises, entry_of, piled}
-use Rattle.pc_sound.specs.RegionFrames.{ThisFits, SlotsFit, StackFits, Entered, OpenedTo, GoesTo, Awaits, WaitFits, FieldsFit}
-use Rattle.pc_sound.specs.RegionMoves.{elsewhere, Others, Situated}
-use Rattle.pc_sound.specs.RegionPlaces.{Shifts}
-use Rattle.pc_sound.proofs.Basic.{within_same, within_trans}
+use Rattle.pc_sound.proofs.Tasks.{Within}
+use Rattle.pc_sound.proofs.RegionWorld.{Place, InSlot, OnStack, InField, InMail, World, FitsSome}
+use Rattle.pc_sound.proofs.RegionTasks.{Entry, Shallow, TasksRise, FinishRises, Rises}
+use Rattle.pc_sound.proofs.RegionFrames.{ThisFits, SlotsFit, StackFits, Entered, OpenedTo, GoesTo, Awaits, WaitFits, FieldsFit}
+use Rattle.pc_sound.proofs.RegionMoves.{elsewhere, Others, Situated}
+use Rattle.pc_sound.proofs.RegionPlaces.{Shifts}
+use Rattle.pc_sound.proofs.Basic.{within_same}
 use Rattle.pc_sound.proofs.Callers.{left_within}
-use Rattle.pc_sound.proofs.RegionShifts.{others_kept, fields_kept, below_kept}
-use Rattle.pc_sound.proofs.RegionLower.{this_low, slots_low, stack_low, below_low}
+use Rattle.pc_sound.proofs.RegionShifts.{others_kept, fields_kept, below_kept, below_under}
 use Rattle.pc_sound.proofs.RegionArguments.{Pulled, pull}
 use Rattle.pc_sound.proofs.RegionPasses.{from_place}
-use Rattle.pc_sound.proofs.RegionRise.{Pushes}
+use Rattle.pc_sound.proofs.RegionRise.{Pushes, not_here}
+use Rattle.pc_sound.proofs.RegionBelow.{this_low, slots_low, stack_low}
 
 -- ---- places from a depth of the stack on
-
-pub and_none : (a b : Bool) → b ≡ false → (a && b) ≡ false
-and_none true b e = e
-and_none false b e = refl
-
-pub not_here : (a b : Bool) → not a ≡ true → (a && b) ≡ false
-not_here true b e = let bad : false ≡ true = e in cc
-not_here false b e = refl
 
 pub from_elsewhere : (i h n : ℕ) (p : Place) → elsewhere i p ≡ true → from_place i h n p ≡ false
 from_elsewhere i h n (InSlot j g s l) e = refl
@@ -47,10 +38,10 @@ from_elsewhere i h n (InField a f) e = refl
 from_elsewhere i h n (InMail j t f) e = refl
 
 pub from_lower : (i h n g d l : ℕ) → g < h → from_place i h n (OnStack i g d l) ≡ false
-from_lower i h n g d l low = and_none (nat_eq i i) (nat_eq h g && nat_lt n (suc d)) (ap (λ (c : Bool). c && nat_lt n (suc d)) (ne_eqb h g (λ e. absurd (omega (arith, e, low)))))
+from_lower i h n g d l low = and_right (nat_eq i i) (nat_eq h g && nat_lt n (suc d)) (ap (λ (c : Bool). c && nat_lt n (suc d)) (ne_eqb h g (λ e. absurd (omega (arith, e, low)))))
 
 pub from_under : (i h n d l : ℕ) → d < n → from_place i h n (OnStack i h d l) ≡ false
-from_under i h n d l under = and_none (nat_eq i i) (nat_eq h h && nat_lt n (suc d)) (and_none (nat_eq h h) (nat_lt n (suc d)) (le-ltb n (suc d) (omega (arith, under))))
+from_under i h n d l under = and_right (nat_eq i i) (nat_eq h h && nat_lt n (suc d)) (and_right (nat_eq h h) (nat_lt n (suc d)) (le-ltb n (suc d) (omega (arith, under))))
 
 -- ---- the frame
 
@@ -158,7 +149,7 @@ module _ (core : CoreData) (ann : Ann) (around : Around) (f : Frame) (fs : List 
           (λ d l g v under low k. x.fits (OnStack around.actor (length fs) d l) g v (left.under d l under low) k) core ann f.method s.active.holds.base s.active.depth s.active.holds.live f.slots low_all s.active.not_deeper s.active.holds.slots_fit;
       stack_fit = stack_low w w' around.actor (length fs) (w.top around.actor) (λ t l g v low k. x.fits (InSlot around.actor (length fs) t l) g v (left.slots (length fs) t l low) k) m
           (λ d l g v under low k. x.fits (OnStack around.actor (length fs) d l) g v (left.under d l under low) k) s.active.holds.base s.active.depth e.below rest low_all few flat fit;
-      wait = below_low w w' around.objects around.actors around.actor s.active.holds.base gone x core ann (length fs) (λ h t l under low. left.slots h t l (low_than l low)) (λ h d l under low. left.lower h d l under (low_than l low)) f.method fs refl s.wait;
+      wait = below_under w w' around.objects around.actors around.actor s.active.holds.base gone x core ann (length fs) (λ h t l under low. left.slots h t l (low_than l low)) (λ h d l under low. left.lower h d l under (low_than l low)) s.active.holds.base f.method fs (omega arith) (omega arith) s.wait;
     }
 
 -- A frame that waits, where a value might be pushed.

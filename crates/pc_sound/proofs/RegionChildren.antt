@@ -13,9 +13,8 @@ use Rattle.pc_semantics.specs.declared.frames.Task.{Task}
 use Rattle.pc_semantics.specs.declared.frames.Task.TheVariants as task
 use Rattle.pc_semantics.specs.Evaluation.{evaluations, items}
 use Rattle.pc_rules.specs.Parts.{Ty, Masks, after, through, type_of, last_child}
-use Rattle.pc_sound.specs.Tasks.{Within}
-use Rattle.pc_sound.specs.RegionTasks.{Entry, Shallow, Ascent, Climbs, top_of, SlotsShallow, entry_of, piled, uses_top, EvalRises, TasksRise}
-use Rattle.pc_sound.specs.RegionScope.{LiveShallow}
+use Rattle.pc_sound.proofs.Tasks.{Within}
+use Rattle.pc_sound.proofs.RegionTasks.{Entry, Shallow, Ascent, Climbs, top_of, SlotsShallow, entry_of, piled, uses_top, EvalRises, TasksRise, LiveShallow}
 use Rattle.pc_sound.proofs.Basic.{within_same, within_trans}
 use Rattle.pc_sound.proofs.EvalChildren.{within_is, first_of_them, type_is, last_next}
 
@@ -33,9 +32,6 @@ calm_items x [] ts = refl
 calm_items x (c ∷ cs) ts = refl
 
 module _ (core : CoreData) (ann : Ann) (flat : LiveShallow core ann) (m d : ℕ) where
-  entry_is : (c : ℕ) (y : Node) (t : Note) → y.depth ≡ d → slice_get ann.notes c ≡ Some t → entry_of y t ≡ at_depth d (type_of ann c)
-  entry_is c y t deep at = ap (λ (k : ℕ). at_depth k t.ty) deep ∙ ap (at_depth d) (sym (type_is ann c t at))
-
   -- A child from these live slots, whose value goes this way.
   pub child_rises : (c : ℕ) (t : Note) (l : Mask) (g : List Entry) (go : ℕ → Mask → List Entry → Type 0) → IsAt core m d c → slice_get ann.notes c ≡ Some t → Within t.live_before l
       → (live : Mask) (way : List Ascent) → Within live t.live_after → Climbs core way (at_depth d t.ty) → Shallow g (top_of way (at_depth d t.ty)).depth → SlotsShallow core m live (top_of way (at_depth d t.ty)).depth

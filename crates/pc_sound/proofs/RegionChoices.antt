@@ -19,14 +19,14 @@ use Rattle.pc_semantics.specs.Tasks.{at_node}
 use Rattle.pc_semantics.specs.Choices.{truth, right_side, test_and, test_or, test_task, branch, branch_task, turn, loop_task}
 use Rattle.pc_rules.specs.Parts.{Ty}
 use Rattle.pc_rules.specs.Threads.{false_true}
-use Rattle.pc_sound.specs.Types.{OfType, Want, StackOk}
-use Rattle.pc_sound.specs.Tasks.{Within, is_lazy}
-use Rattle.pc_sound.specs.Moves.{Runs}
-use Rattle.pc_sound.specs.RegionWorld.{World, OnStack, Fits, Alias}
-use Rattle.pc_sound.specs.RegionTasks.{Entry, Shallow, Rises, entry_of, uses_top, TestRises, BranchRises, LoopRises, DiscardRises, TasksRise}
-use Rattle.pc_sound.specs.RegionFrames.{StackFits}
-use Rattle.pc_sound.specs.RegionMoves.{RegionMoveOk, Situated}
-use Rattle.pc_sound.specs.RegionClimb.{ClimbLaw}
+use Rattle.pc_sound.proofs.Types.{OfType, Want, StackOk}
+use Rattle.pc_sound.proofs.Tasks.{Within, is_lazy}
+use Rattle.pc_sound.proofs.Moves.{Runs}
+use Rattle.pc_sound.proofs.RegionWorld.{World, OnStack, Fits, Alias}
+use Rattle.pc_sound.proofs.RegionTasks.{Entry, Shallow, Rises, entry_of, uses_top, TestRises, BranchRises, LoopRises, DiscardRises, TasksRise}
+use Rattle.pc_sound.proofs.RegionFrames.{StackFits}
+use Rattle.pc_sound.proofs.RegionMoves.{RegionMoveOk, Situated}
+use Rattle.pc_sound.proofs.RegionClimbed.{ClimbLaw}
 use Rattle.pc_sound.proofs.Needs.{Needs}
 use Rattle.pc_sound.proofs.Values.{top_is}
 use Rattle.pc_sound.proofs.Choose.{top_truth}

@@ -2,7 +2,7 @@
 use Rattle.std.specs.Prelude.{◌≡◌, ℕ, suc, ◌+◌, ◌-◌, ◌<◌, ◌≤◌, Bool, true, false, ◌&&◌, ◌||◌, cond, [], ◌∷◌, Option, Some, None, nat_eq, nat_lt, refl}
 use Rattle.std.specs.FinMap.{get}
 use Rattle.std.proofs.Common.{inl, ap, sym, subst, ◌∙◌, arith}
-use Rattle.std.proofs.lemmas.Bool.{eq-eqb, ltb-false, le-ltb}
+use Rattle.std.proofs.lemmas.Bool.{eq-eqb, ltb-false, le-ltb, or_from}
 use Rattle.std.proofs.lemmas.Option.{same_Some}
 use Rattle.pc_heap.specs.Objects.{ObjectMap}
 use Rattle.pc_heap.specs.declared.value.Address.{Address}
@@ -19,25 +19,23 @@ use Rattle.pc_ann.specs.declared.annotation.Ann.{Ann}
 use Rattle.pc_rules.specs.Parts.{Ty}
 use Rattle.pc_rules.specs.Control.{recovered}
 use Rattle.pc_rules.specs.Threads.{kept}
-use Rattle.pc_sound.specs.Types.{OfType, OfSome}
-use Rattle.pc_sound.specs.RegionWorld.{Place, InSlot, OnStack, InField, InMail, Opened, Froze, Held, Child, Standing, World, Frozen, ice, under_ice, Seen, same, under, frozen, Fits, FitsSome, Alias, AliasIn, AliasSome, WorldOk}
-use Rattle.pc_sound.specs.RegionTasks.{Entry, Below, Ascent, Joins, Decides, Recovers, recovered_type, ascend, MayAscend, top_of}
-use Rattle.pc_sound.specs.RegionFrames.{OpenedTo}
-use Rattle.pc_sound.specs.RegionPlaces.{standing, lowered, without_last, Shifts}
-use Rattle.pc_sound.specs.RegionSettle.{NearFrom, Near, SettleLaw}
-use Rattle.pc_sound.specs.RegionContexts.{EndLaw}
-use Rattle.pc_sound.specs.RegionClimb.{passed, Stands, Climbed, ClimbLaw}
+use Rattle.pc_sound.proofs.Types.{OfType, OfSome}
+use Rattle.pc_sound.proofs.RegionWorld.{Place, InSlot, OnStack, InField, InMail, Unused, Opened, Froze, Held, Child, Standing, World, Frozen, ice, under_ice, Seen, same, under, frozen, Fits, FitsSome, Alias, AliasIn, AliasSome, WorldOk}
+use Rattle.pc_sound.proofs.RegionTasks.{Entry, Below, Ascent, Joins, Decides, Recovers, recovered_type, ascend, MayAscend, top_of}
+use Rattle.pc_sound.proofs.RegionFrames.{OpenedTo}
+use Rattle.pc_sound.proofs.RegionPlaces.{standing, lowered, without_last, Shifts}
+use Rattle.pc_sound.proofs.RegionSettled.{NearFrom, Near, SettleLaw}
+use Rattle.pc_sound.proofs.RegionContextLaws.{EndLaw}
+use Rattle.pc_sound.proofs.RegionClimbed.{passed, Stands, Climbed, ClimbLaw}
 use Rattle.pc_sound.proofs.Needs.{Needs}
 use Rattle.pc_sound.proofs.Basic.{of_lower}
 use Rattle.pc_sound.proofs.Tables.{below_sees, recovered_sees}
 use Rattle.pc_sound.proofs.Values.{is_truth}
-use Rattle.pc_sound.proofs.RegionShifts.{shifts_both}
-use Rattle.pc_sound.proofs.RegionStands.{stand_here}
-use Rattle.pc_sound.proofs.RegionSettle.{shifts_none, shifts_less}
-use Rattle.pc_sound.proofs.RegionLevels.{top_lower}
+use Rattle.pc_sound.proofs.RegionShifts.{shifts_both, shifts_none, shifts_less}
+use Rattle.pc_sound.proofs.RegionStands.{stand_here, held_used, froze_used}
 use Rattle.pc_sound.proofs.RegionClose.{fits_closed, opened_closed, closed_shifts}
-use Rattle.pc_sound.proofs.RegionRise.{or_none}
 use Rattle.pc_sound.proofs.RegionValue.{tag_fits, no_alias, val_moved}
+use Rattle.pc_sound.proofs.RegionBelow.{top_down}
 
 -- ---- what is passed
 
@@ -65,19 +63,16 @@ passed_less i h n k m low (OnStack j g d l) e = less_passed (nat_eq i j) (nat_eq
 passed_less i h n k m low (InField a f) e = refl
 passed_less i h n k m low (InMail j t f) e = refl
 
-none_of : (a b : Bool) → a ≡ false → b ≡ false → (a || b) ≡ false
-none_of a b e g = or_none a b e g
-
 -- Two steps, the second to a level that is no higher.
 pub both_passed : (w v u : World) (objects : ObjectMap) (count i b h n k m : ℕ) → m ≤ k → Shifts w v objects count i b (passed i h n k) → Shifts v u objects count i b (passed i h n m) → Shifts w u objects count i b (passed i h n m)
 both_passed w v u objects count i b h n k m low x y =
-    shifts_less w u objects count i b b (λ p. passed i h n k p || passed i h n m p) (passed i h n m) (omega arith) (λ p e. none_of (passed i h n k p) (passed i h n m p) (passed_less i h n k m low p e) e)
+    shifts_less w u objects count i b b (λ p. passed i h n k p || passed i h n m p) (passed i h n m) (omega arith) (λ p e. or_from (passed i h n k p) (passed i h n m p) (passed_less i h n k m low p e) e)
     (shifts_both w v u objects count i b (passed i h n k) (passed i h n m) x y)
 
 -- A step that leaves no place.
 then_all : (w v u : World) (objects : ObjectMap) (count i b h n k : ℕ) → Shifts w v objects count i b (passed i h n k) → Shifts v u objects count i b (λ p. false) → Shifts w u objects count i b (passed i h n k)
 then_all w v u objects count i b h n k x y =
-    shifts_less w u objects count i b b (λ p. passed i h n k p || false) (passed i h n k) (omega arith) (λ p e. none_of (passed i h n k p) false e refl)
+    shifts_less w u objects count i b b (λ p. passed i h n k p || false) (passed i h n k) (omega arith) (λ p e. or_from (passed i h n k p) false e refl)
     (shifts_both w v u objects count i b (passed i h n k) (λ p. false) x y)
 
 -- ---- forms
@@ -269,15 +264,15 @@ module _ (core : CoreData) (ann : Ann) (needs : Needs core ann) (settle : Settle
         b_lifted f fit = record { shifts = b_shifts; top = b_top; opened = b_opened; fits = off.fits to (lift f) v refl fit }
 
         -- The recover's region is closed.
-        module _ (c : Standing) (parent : (z : ℕ) (at : Option Place) → c ≡ Child z at → z < b.next) (holder : (z : Address) (k : ℕ) → c ≡ Held (InField z k) → (o : Object) × (get objects z ≡ Some o)) where
+        module _ (c : Standing) (parent : (z : ℕ) (at : Option Place) → c ≡ Child z at → z < b.next) (holder : (z : Address) (k : ℕ) → c ≡ Held (InField z k) → (o : Object) × (get objects z ≡ Some o)) (alive : c ≡ Unused → ⊥) where
           abbrev closed : World
           closed = standing b u c
 
           c_shifts : Shifts w closed objects count i base gone
-          c_shifts = then_all w b closed objects count i base h n low b_shifts (closed_shifts b objects count off.world i s.here u c u_opened u_bare parent holder base (λ p. false) (omega (arith, b_top)))
+          c_shifts = then_all w b closed objects count i base h n low b_shifts (closed_shifts b objects count off.world i s.here u c u_opened u_bare parent holder alive base (λ p. false) (omega (arith, b_top)))
 
           c_opened : OpenedTo closed i base (e.depth - 1)
-          c_opened j above_it within = opened_closed b objects count off.world i s.here u c u_opened u_bare parent holder i j s.here (omega (arith, within, b_top)) (b_opened j above_it within)
+          c_opened j above_it within = opened_closed b objects count off.world i s.here u c u_opened u_bare parent holder alive i j s.here (omega (arith, within, b_top)) (b_opened j above_it within)
 
           c_lifted : (f : Form) → Fits closed to (lift f) v → Lifted closed f
           c_lifted f fit = record { shifts = c_shifts; top = b_top; opened = c_opened; fits = fit }
@@ -289,8 +284,8 @@ module _ (core : CoreData) (ann : Ann) (needs : Needs core ann) (settle : Settle
         no_holder : (z : Address) (k : ℕ) → Held to ≡ Held (InField z k) → (o : Object) × (get objects z ≡ Some o)
         no_holder z k is = absurd (cc)
 
-        held_fits : (z : Value) → Fits a place form.Ref z → Fits (closed (Held to) no_parent no_holder) to form.IsoE z
-        held_fits (At q) is = ap (closed (Held to) no_parent no_holder).stands (is ∙ ap (a.context i) (sym last)) ∙ stand_here b.stands u (Held to)
+        held_fits : (z : Value) → Fits a place form.Ref z → Fits (closed (Held to) no_parent no_holder (held_used to)) to form.IsoE z
+        held_fits (At q) is = ap (closed (Held to) no_parent no_holder (held_used to)).stands (is ∙ ap (a.context i) (sym last)) ∙ stand_here b.stands u (Held to)
         held_fits (Num m) is = tt
         held_fits (Truth t) is = tt
         held_fits (Text t) is = tt
@@ -304,7 +299,7 @@ module _ (core : CoreData) (ann : Ann) (needs : Needs core ann) (settle : Settle
         ice_holder z k is = absurd (cc)
 
         abbrev cold : World
-        cold = closed Froze ice_parent ice_holder
+        cold = closed Froze ice_parent ice_holder froze_used
 
         cold_fits : (z : Value) → Fits cold place form.Box z → Fits cold to form.Val z
         cold_fits (At q) k =
@@ -316,7 +311,7 @@ module _ (core : CoreData) (ann : Ann) (needs : Needs core ann) (settle : Settle
         cold_fits (Prim m) k = tt
 
         box_out : Fits a place form.Box v → Fits cold to form.Val v
-        box_out fit = cold_fits v (fits_closed b objects count off.world i s.here u Froze u_opened u_bare ice_parent ice_holder place form.Box v (off.fits place form.Box v refl fit))
+        box_out fit = cold_fits v (fits_closed b objects count off.world i s.here u Froze u_opened u_bare ice_parent ice_holder froze_used place form.Box v (off.fits place form.Box v refl fit))
 
       trn_box : (z : Value) → Fits w place form.Trn z → Fits w place form.Box z
       trn_box (At q) k = k
@@ -335,15 +330,15 @@ module _ (core : CoreData) (ann : Ann) (needs : Needs core ann) (settle : Settle
       frozenly : (f : Form) → lift f ≡ form.Val → Fits w place form.Box v → (x : World) × Lifted x f
       frozenly f is fit = (
         cold w same_shifts s.top s.opened,
-        c_lifted w same_shifts s.top s.opened Froze (ice_parent w same_shifts s.top s.opened) (ice_holder w same_shifts s.top s.opened) f
+        c_lifted w same_shifts s.top s.opened Froze (ice_parent w same_shifts s.top s.opened) (ice_holder w same_shifts s.top s.opened) froze_used f
             (subst (λ (g : Form). Fits (cold w same_shifts s.top s.opened) to g v) (sym is) (box_out w same_shifts s.top s.opened fit)),
       )
 
       heldly : (f : Form) → lift f ≡ form.IsoE → (a : World) (x : Shifts w a objects count i base gone) (last : a.top i ≡ base + e.depth) (ajar : OpenedTo a i base e.depth) → Fits a place form.Ref v → (x : World) × Lifted x f
       heldly f is a x last ajar fit = (
-        closed a x last ajar (Held to) (no_parent a x last ajar) (no_holder a x last ajar),
-        c_lifted a x last ajar (Held to) (no_parent a x last ajar) (no_holder a x last ajar) f
-            (subst (λ (g : Form). Fits (closed a x last ajar (Held to) (no_parent a x last ajar) (no_holder a x last ajar)) to g v) (sym is) (held_fits a x last ajar v fit)),
+        closed a x last ajar (Held to) (no_parent a x last ajar) (no_holder a x last ajar) (held_used to),
+        c_lifted a x last ajar (Held to) (no_parent a x last ajar) (no_holder a x last ajar) (held_used to) f
+            (subst (λ (g : Form). Fits (closed a x last ajar (Held to) (no_parent a x last ajar) (no_holder a x last ajar) (held_used to)) to g v) (sym is) (held_fits a x last ajar v fit)),
       )
 
       lifted : (f : Form) → Fits w place f v → (x : World) × Lifted x f
@@ -436,5 +431,5 @@ module _ (core : CoreData) (ann : Ann) (needs : Needs core ann) (settle : Settle
   climb w objects count i h n base (a ∷ way) e v climbs s =
       let one = step w objects count i h n base e v s a climbs.0 in
       let rest = climb one.0 objects count i h n base way (ascend a e) v climbs.1 one.1.stands in
-      let low = top_lower way (ascend a e) in
+      let low = top_down way (ascend a e) in
       (rest.0, record { stands = rest.1.stands; shifts = both_passed w one.0 rest.0 objects count i base h n (base + (ascend a e).depth) (base + (top_of way (ascend a e)).depth) (omega (arith, low)) one.1.shifts rest.1.shifts })

@@ -12,9 +12,9 @@ use Rattle.pc_heap.specs.declared.value.Value.{Value}
 use Rattle.pc_heap.specs.declared.value.Value.TheVariants.{Num, Truth, Text, Prim, At}
 use Rattle.pc_caps.specs.declared.capability.Form.{Form}
 use Rattle.pc_caps.specs.declared.capability.Form.TheVariants as form
-use Rattle.pc_sound.specs.RegionWorld.{Place, InSlot, OnStack, InField, InMail, Standing, Loose, Opened, Held, Child, World, home, Frozen, ice, in_ice, under_ice, Seen, same, under, frozen, Over, over_loose, over_slot, over_own, over_field, over_part, over_child, FitsIn, Fits, AliasIn, Alias, WorldOk}
-use Rattle.pc_sound.specs.RegionPlaces.{standing, Shifts}
-use Rattle.pc_sound.proofs.RegionStands.{stand_here, stand_other}
+use Rattle.pc_sound.proofs.RegionWorld.{Place, InSlot, InField, Standing, Unused, Loose, Opened, Held, Child, World, home, Frozen, ice, in_ice, under_ice, Seen, same, under, frozen, Over, over_loose, over_slot, over_own, over_field, over_part, over_child, FitsIn, Fits, AliasIn, Alias, WorldOk}
+use Rattle.pc_sound.proofs.RegionPlaces.{standing, Shifts}
+use Rattle.pc_sound.proofs.RegionStands.{stand_here, stand_other, home_standing}
 
 module _
     (w : World) (objects : ObjectMap) (count : ℕ) (ok : WorldOk w objects count) (i : ℕ) (here : i < count) (u : ℕ) (s : Standing)
@@ -22,6 +22,8 @@ module _
     (ajar : w.stands u ≡ Opened i) (bare : w.role u ≡ None)
     -- its new parent or holder is there
     (parent : (v : ℕ) (at : Option Place) → s ≡ Child v at → v < w.next) (holder : (a : Address) (k : ℕ) → s ≡ Held (InField a k) → (o : Object) × (get objects a ≡ Some o))
+    -- it is in use still
+    (alive : s ≡ Unused → ⊥)
   where
     other : (x : ℕ) → (u ≡ x → ⊥) → (standing w u s).stands x ≡ w.stands x
     other x n = stand_other w.stands u s x n
@@ -60,20 +62,14 @@ module _
 
     -- ---- places
 
-    home_same : (p : Place) → home (standing w u s) p ≡ home w p
-    home_same (InSlot j h t l) = refl
-    home_same (OnStack j h d l) = refl
-    home_same (InField a k) = refl
-    home_same (InMail j t k) = refl
-
     fits_in : (p : Place) (f : Form) (q : ℕ) → FitsIn w p f q → FitsIn (standing w u s) p f q
     fits_in p form.IsoE q e = other q (held_other q p e) ∙ e
-    fits_in p form.TrnE q e = other q (child_other q (home w p) (Some p) e) ∙ e ∙ ap (λ (c : ℕ). Child c (Some p)) (sym (home_same p))
+    fits_in p form.TrnE q e = other q (child_other q (home w p) (Some p) e) ∙ e ∙ ap (λ (c : ℕ). Child c (Some p)) (sym (home_standing w u s p))
     fits_in p form.Iso q e = tt
-    fits_in p form.Trn q e = subst (λ (c : ℕ). Seen (standing w u s) c q) (sym (home_same p)) (seen_closed e)
-    fits_in p form.Ref q e = e ∙ sym (home_same p)
+    fits_in p form.Trn q e = subst (λ (c : ℕ). Seen (standing w u s) c q) (sym (home_standing w u s p)) (seen_closed e)
+    fits_in p form.Ref q e = e ∙ sym (home_standing w u s p)
     fits_in p form.Val q e = frozen_closed e
-    fits_in p form.Box q e = subst (λ (c : ℕ). Seen (standing w u s) c q) (sym (home_same p)) (seen_closed e)
+    fits_in p form.Box q e = subst (λ (c : ℕ). Seen (standing w u s) c q) (sym (home_standing w u s p)) (seen_closed e)
     fits_in p form.Tag q e = tt
 
     pub fits_closed : (p : Place) (f : Form) (v : Value) → Fits w p f v → Fits (standing w u s) p f v
@@ -125,6 +121,16 @@ module _
         same_actor : Opened i ≡ Opened j → i ≡ j
         same_actor is = cc
 
+    used_closed : (x : ℕ) → (w.stands x ≡ Unused → ⊥) → (standing w u s).stands x ≡ Unused → ⊥
+    used_closed x used e =
+        elim (cases_eq u x) [
+          | inl is ↦ alive (sym (stand_here w.stands u s) ∙ ap (standing w u s).stands is ∙ e)
+          | inr n ↦ used (sym (other x n) ∙ e)
+        ]
+
+    not_empty : (x : ℕ) → w.stands x ≡ Unused → u ≡ x → ⊥
+    not_empty x e is = let bad : Unused ≡ Opened i = sym e ∙ ap w.stands (sym is) ∙ ajar in cc
+
     world_closed : WorldOk (standing w u s) objects count
     world_closed = record {
       zero = ok.zero;
@@ -149,6 +155,9 @@ module _
             | inl is ↦ holder a k (sym (stand_here w.stands u s) ∙ ap (standing w u s).stands is ∙ e)
             | inr n ↦ ok.holders q a k (sym (other q n) ∙ e)
           ];
+      absent = λ a e. other (w.region a) (not_empty (w.region a) (ok.absent a e)) ∙ ok.absent a e;
+      present = λ a o e x. used_closed (w.region a) (ok.present a o e) x;
+      homes = λ j l there x. used_closed (w.context j l) (ok.homes j l there) x;
     }
 
     pub closed_shifts : (b : ℕ) (gone : Place → Bool) → b ≤ w.top i → Shifts w (standing w u s) objects count i b gone

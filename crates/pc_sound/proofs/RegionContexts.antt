@@ -1,18 +1,16 @@
 -- A context comes: a new region is opened, or one is lent, as the next context of an actor.
-use Rattle.std.specs.Prelude.{◌≡◌, ◌≢◌, ◌⊎◌, ℕ, suc, ◌<◌, ◌≤◌, Bool, true, false, ◌&&◌, cond, Option, Some, None, nat_eq, nat_lt, refl}
-use Rattle.std.specs.FinMap.{get}
+use Rattle.std.specs.Prelude.{◌≡◌, ◌≢◌, ◌⊎◌, ℕ, suc, ◌<◌, ◌≤◌, Bool, true, false, ◌&&◌, Option, Some, None, nat_eq, nat_lt, refl}
 use Rattle.std.proofs.Common.{inl, inr, ap, sym, subst, ◌∙◌, arith}
-use Rattle.std.proofs.lemmas.Bool.{eq-eqb, lt-ltb, cases_eq, cases_lt, and_from, cases_Bool}
+use Rattle.std.proofs.lemmas.Bool.{eq-eqb, lt-ltb, cases_eq, cases_lt, and_from}
 use Rattle.std.proofs.lemmas.Option.{same_Some, none-some}
 use Rattle.pc_heap.specs.Objects.{ObjectMap}
 use Rattle.pc_heap.specs.declared.value.Address.{Address}
-use Rattle.pc_heap.specs.declared.value.Object.{Object}
 use Rattle.pc_heap.specs.declared.value.Value.{Value}
 use Rattle.pc_caps.specs.declared.capability.Form.{Form}
 use Rattle.pc_rules.specs.Threads.{false_true}
-use Rattle.pc_sound.specs.RegionWorld.{Place, InSlot, OnStack, InField, InMail, Standing, Unused, Froze, Opened, Loose, Held, Child, World, home, Belongs, child, steady, Alias, Over, over_loose, over_slot, over_own, over_field, over_part, over_child, WorldOk}
-use Rattle.pc_sound.specs.RegionPlaces.{stand, with_context, with_number, with_role, with_open, lent, Shifts}
-use Rattle.pc_sound.specs.RegionContexts.{higher, Opens, OpenLaw, LentLaw}
+use Rattle.pc_sound.proofs.RegionWorld.{Place, InSlot, OnStack, InField, InMail, Standing, Unused, Froze, Opened, Loose, Held, Child, World, home, Belongs, child, steady, Alias, Over, over_loose, over_slot, over_own, over_field, over_part, over_child, WorldOk}
+use Rattle.pc_sound.proofs.RegionPlaces.{with_context, with_number, with_role, with_open, lent, Shifts}
+use Rattle.pc_sound.proofs.RegionContextLaws.{higher, OpenLaw, LentLaw}
 use Rattle.pc_sound.proofs.RegionSafe.{one_actor, context_belongs, over_is_of}
 use Rattle.pc_sound.proofs.RegionStands.{stand_here, stand_other, one_level}
 use Rattle.pc_sound.proofs.RegionRenewed as renewed
@@ -142,6 +140,25 @@ module _ (w : World) (objects : ObjectMap) (count : ℕ) (ok : WorldOk w objects
         | inr low ↦ subst (λ (c : ℕ). ((with_open w i).stands c ≡ Opened j) ⊎ ((m : ℕ) × (m < l) × Over (with_open w i) j c m)) (sym (old_context w objects count ok i here w.next fresh.1 j l low)) (contexts_on j l (ok.contexts j l in_count low))
       ]
 
+  used_on : (x : ℕ) → (w.stands x ≡ Unused → ⊥) → (with_open w i).stands x ≡ Unused → ⊥
+  used_on x used e = used (before x Unused e (λ f. cc))
+
+  homes_on : (j l : ℕ) → j < count → (with_open w i).stands ((with_open w i).context j l) ≡ Unused → ⊥
+  homes_on j l in_count e =
+      elim (cases_eq i j) [
+        | inl is ↦ elim (cases_eq (suc (w.top i)) l) [
+          | inl at ↦ opened_not (sym there ∙ ap (with_open w i).stands (sym (context_here w.context i (suc (w.top i)) w.next j l is at)) ∙ e)
+          | inr n ↦ used_on (w.context j l) (ok.homes j l in_count) (ap (with_open w i).stands (sym (context_other w.context i (suc (w.top i)) w.next j l (λ same at. n at))) ∙ e)
+        ]
+        | inr n ↦ used_on (w.context j l) (ok.homes j l in_count) (ap (with_open w i).stands (sym (context_other w.context i (suc (w.top i)) w.next j l (λ same at. n same))) ∙ e)
+      ]
+    where
+      opened_not : Opened i ≡ Unused → ⊥
+      opened_not f = cc
+
+  absent_on : (a : Address) → w.stands (w.region a) ≡ Unused → (with_open w i).stands (w.region a) ≡ Unused
+  absent_on a e = stand_other w.stands w.next (Opened i) (w.region a) (λ is. let low = ok.regions a in omega (arith, low, is)) ∙ e
+
   world_on : WorldOk (with_open w i) objects count
   world_on = record {
     zero = role_kept w objects count ok i here w.next fresh.1 0 0 0 ok.zero;
@@ -157,6 +174,9 @@ module _ (w : World) (objects : ObjectMap) (count : ℕ) (ok : WorldOk w objects
     regions = λ a. let l = ok.regions a in omega (arith, l);
     parents = λ x u at e. let l = ok.parents x u at (before x (Child u at) e (λ f. cc)) in omega (arith, l);
     holders = λ x a k e. ok.holders x a k (before x (Held (InField a k)) e (λ f. cc));
+    absent = λ a e. absent_on a (ok.absent a e);
+    present = λ a o e u. used_on (w.region a) (ok.present a o e) u;
+    homes = homes_on;
   }
     where
       later : {x n : ℕ} → suc n ≤ x → n ≡ x → ⊥
@@ -293,6 +313,16 @@ module _
           | inr low ↦ subst (λ (c : ℕ). (w.stands c ≡ Opened j) ⊎ ((m : ℕ) × (m < l) × Over (lent w i q) j c m)) (sym (old_context w objects count ok i here q plain j l low)) (old_on j l there low (ok.contexts j l there low))
         ]
 
+    lent_used : (j l : ℕ) → j < count → w.stands ((lent w i q).context j l) ≡ Unused → ⊥
+    lent_used j l in_count e =
+        elim (cases_eq i j) [
+          | inl is ↦ elim (cases_eq (suc (w.top i)) l) [
+            | inl at ↦ over_used w i q n held (ap w.stands (sym (context_here w.context i (suc (w.top i)) q j l is at)) ∙ e)
+            | inr differ ↦ ok.homes j l in_count (ap w.stands (sym (context_other w.context i (suc (w.top i)) q j l (λ same at. differ at))) ∙ e)
+          ]
+          | inr differ ↦ ok.homes j l in_count (ap w.stands (sym (context_other w.context i (suc (w.top i)) q j l (λ same at. differ same))) ∙ e)
+        ]
+
     lent_ok : WorldOk (lent w i q) objects count
     lent_ok = record {
       zero = role_kept w objects count ok i here q plain 0 0 0 ok.zero;
@@ -305,6 +335,9 @@ module _
       regions = ok.regions;
       parents = ok.parents;
       holders = ok.holders;
+      absent = ok.absent;
+      present = ok.present;
+      homes = lent_used;
     }
 
     lent_alias : (j c : ℕ) → j < count → i ≢ j → (f : Form) (v : Value) → Alias w j c (w.top j) f v → Alias (lent w i q) j c (w.top j) f v

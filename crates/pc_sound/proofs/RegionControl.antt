@@ -32,11 +32,10 @@ use Rattle.pc_rules.specs.Parts.{Ty, Masks, lower, before, after, through, type_
 use Rattle.pc_rules.specs.Control.{joined, gives, result_ok}
 use Rattle.pc_rules.specs.Homes.{home, home_body, home_method, children_before}
 use Rattle.pc_rules.specs.Threads.{false_true}
-use Rattle.pc_sound.specs.Tasks.{Within, is_lazy}
-use Rattle.pc_sound.specs.RegionWorld.{World}
-use Rattle.pc_sound.specs.RegionTasks.{Entry, Shallow, Below, Ascent, Joins, Decides, ascend, MayAscend, top_of, Climbs, SlotsShallow, entry_of, piled, uses_top, EvalRises, BodyRises, FinishRises, TasksRise}
-use Rattle.pc_sound.specs.RegionMoves.{RegionMoveOk, Situated}
-use Rattle.pc_sound.specs.RegionScope.{LiveShallow}
+use Rattle.pc_sound.proofs.Tasks.{Within, is_lazy}
+use Rattle.pc_sound.proofs.RegionWorld.{World}
+use Rattle.pc_sound.proofs.RegionTasks.{Entry, Shallow, Below, Ascent, Joins, Decides, ascend, MayAscend, top_of, Climbs, SlotsShallow, entry_of, piled, uses_top, EvalRises, BodyRises, FinishRises, TasksRise, LiveShallow}
+use Rattle.pc_sound.proofs.RegionMoves.{RegionMoveOk, Situated}
 use Rattle.pc_sound.proofs.Needs.{Needs}
 use Rattle.pc_sound.proofs.Basic.{within_same, within_trans}
 use Rattle.pc_sound.proofs.Begin.{BodyRule}
@@ -47,7 +46,7 @@ use Rattle.pc_sound.proofs.RegionChildren.{IsAt, at_depth, child_rises, whole_ri
 
 -- ---- types
 
-same_below : (f : Form) → is_below f f ≡ true
+pub same_below : (f : Form) → is_below f f ≡ true
 same_below form.IsoE = refl
 same_below form.TrnE = refl
 same_below form.Iso = refl

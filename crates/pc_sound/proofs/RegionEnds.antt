@@ -1,20 +1,18 @@
 -- A context goes: the last one of an actor is one no more, and what the places of its level held is loose.
 use Rattle.std.specs.Prelude.{◌≡◌, ◌≢◌, ◌⊎◌, ℕ, suc, ◌-◌, ◌<◌, ◌≤◌, Bool, true, false, ◌&&◌, cond, Option, Some, None, nat_eq, nat_lt, refl}
-use Rattle.std.specs.FinMap.{get}
 use Rattle.std.proofs.Common.{inl, inr, ap, sym, subst, ◌∙◌, arith}
-use Rattle.std.proofs.lemmas.Bool.{ne_eqb, le-ltb, lt-ltb, eq-eqb, cases_eq, cases_lt, cases_Bool, and_left, and_right, cond-true, cond-false}
+use Rattle.std.proofs.lemmas.Bool.{ne_eqb, le-ltb, cases_eq, cases_lt, cases_Bool, and_left, and_right, cond-true, cond-false}
 use Rattle.std.proofs.lemmas.Option.{same_Some, none-some}
 use Rattle.pc_heap.specs.Objects.{ObjectMap}
 use Rattle.pc_heap.specs.declared.value.Address.{Address}
-use Rattle.pc_heap.specs.declared.value.Object.{Object}
 use Rattle.pc_heap.specs.declared.value.Value.{Value}
 use Rattle.pc_heap.specs.declared.value.Value.TheVariants.{Num, Truth, Text, Prim, At}
 use Rattle.pc_caps.specs.declared.capability.Form.{Form}
 use Rattle.pc_caps.specs.declared.capability.Form.TheVariants as form
 use Rattle.pc_rules.specs.Threads.{false_true}
-use Rattle.pc_sound.specs.RegionWorld.{Place, InSlot, OnStack, InField, InMail, Standing, Unused, Froze, Opened, Loose, Held, Child, World, home, steady, AliasIn, Alias, Over, over_loose, over_slot, over_own, over_field, over_part, over_child, WorldOk}
-use Rattle.pc_sound.specs.RegionPlaces.{with_number, with_role, let_go, left_by, lowered, without_last, Shifts}
-use Rattle.pc_sound.specs.RegionContexts.{higher, Ends, EndLaw, ended, FallLaw}
+use Rattle.pc_sound.proofs.RegionWorld.{Place, InSlot, OnStack, InField, InMail, Standing, Unused, Froze, Opened, Loose, Held, Child, World, home, steady, AliasIn, Alias, Over, over_loose, over_slot, over_own, over_field, over_part, over_child, WorldOk}
+use Rattle.pc_sound.proofs.RegionPlaces.{with_number, let_go, left_by, lowered, without_last, Shifts}
+use Rattle.pc_sound.proofs.RegionContextLaws.{higher, Ends, EndLaw, ended, FallLaw}
 use Rattle.pc_sound.proofs.RegionContexts.{high_slot}
 use Rattle.pc_sound.proofs.RegionRenewed as renewed
 use Rattle.pc_sound.proofs.RegionRenewed.{number_here, number_other, role_here, role_other}
@@ -36,6 +34,14 @@ lowered_held i m p Froze e = e
 lowered_held i m p (Opened j) e = e
 lowered_held i m p (Loose j l) e = absurd (cc)
 lowered_held i m p (Held o) e = e
+
+lowered_unused : (i m : ℕ) (s : Standing) → lowered i m s ≡ Unused → s ≡ Unused
+lowered_unused i m (Child v to) e = e
+lowered_unused i m Unused e = e
+lowered_unused i m Froze e = e
+lowered_unused i m (Opened j) e = e
+lowered_unused i m (Loose j l) e = absurd (cc)
+lowered_unused i m (Held p) e = e
 
 module _ (w : World) (objects : ObjectMap) (count : ℕ) (ok : WorldOk w objects count) (i : ℕ) (here : i < count) (k : ℕ) (last : w.top i ≡ suc k) where
   firm : (x : ℕ) (s : Standing) → w.stands x ≡ s → lowered i (w.top i - 1) s ≡ s → (without_last w i).stands x ≡ s
@@ -139,6 +145,9 @@ module _ (w : World) (objects : ObjectMap) (count : ℕ) (ok : WorldOk w objects
     regions = ok.regions;
     parents = λ x u at e. ok.parents x u at (lowered_child i (w.top i - 1) u at (w.stands x) e);
     holders = λ x a n e. ok.holders x a n (lowered_held i (w.top i - 1) (InField a n) (w.stands x) e);
+    absent = λ a e. firm (w.region a) Unused (ok.absent a e) refl;
+    present = λ a o e u. ok.present a o e (lowered_unused i (w.top i - 1) (w.stands (w.region a)) u);
+    homes = λ j l there u. ok.homes j l there (lowered_unused i (w.top i - 1) (w.stands (w.context j l)) u);
   }
 
   ends_so : (gone : Place → Bool) → Ends w (without_last w i) objects count i k gone
@@ -221,6 +230,25 @@ was_held are i l o (Held p) e =
     loose_is : Loose i l ≡ Held o → ⊥
     loose_is f = cc
 
+was_empty : (are : Place → Bool) (i l : ℕ) (s : Standing) → let_go are i l s ≡ Unused → s ≡ Unused
+was_empty are i l (Child v None) e = absurd (cc)
+was_empty are i l (Child v (Some p)) e = absurd (cc)
+was_empty are i l Unused e = e
+was_empty are i l Froze e = e
+was_empty are i l (Opened j) e = e
+was_empty are i l (Loose j m) e = e
+was_empty are i l (Held p) e =
+    elim (cases_Bool (are p)) [
+      | inl t ↦ absurd (loose_is (sym (cond-true (are p) (Loose i l) (Held p) t) ∙ e))
+      | inr f ↦ absurd (held_is (sym (cond-false (are p) (Loose i l) (Held p) f) ∙ e))
+    ]
+  where
+    loose_is : Loose i l ≡ Unused → ⊥
+    loose_is f = cc
+
+    held_is : Held p ≡ Unused → ⊥
+    held_is f = cc
+
 module _ (w : World) (objects : ObjectMap) (count : ℕ) (ok : WorldOk w objects count) (i : ℕ) (here : i < count) (k : ℕ) (last : w.top i ≡ suc k) where
   abbrev quit : World
   quit = left_by w (higher i k) i k
@@ -280,6 +308,9 @@ module _ (w : World) (objects : ObjectMap) (count : ℕ) (ok : WorldOk w objects
     regions = ok.regions;
     parents = λ x u at e. let y = was_part (higher i k) i k u at (w.stands x) e in ok.parents x u y.0 y.1;
     holders = λ x a n e. ok.holders x a n (was_held (higher i k) i k (InField a n) (w.stands x) e);
+    absent = λ a e. quits (w.region a) Unused (ok.absent a e) refl;
+    present = λ a o e u. ok.present a o e (was_empty (higher i k) i k (w.stands (w.region a)) u);
+    homes = λ j l there u. ok.homes j l there (was_empty (higher i k) i k (w.stands (w.context j l)) u);
   }
 
   -- ---- and one no more

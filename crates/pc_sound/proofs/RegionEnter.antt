@@ -1,11 +1,10 @@
 -- A node of a typed frame is the one that rises in regions, and a method's frame begins above the one that waits.
-use Rattle.std.specs.Prelude.{◌≡◌, ◌≢◌, ◌⊎◌, ℕ, suc, ◌+◌, ◌≤◌, Bool, true, false, List, [], ◌∷◌, length, Option, Some, None, slice_get, refl}
-use Rattle.std.proofs.Common.{inl, inr, ap, sym, subst, ◌∙◌}
+use Rattle.std.specs.Prelude.{◌≡◌, ◌≢◌, ℕ, suc, ◌+◌, Bool, true, List, ◌∷◌, length, Option, Some, slice_get}
+use Rattle.std.proofs.Common.{inr, sym, subst, ◌∙◌}
 use Rattle.std.proofs.lemmas.Option.{same_Some}
 use Rattle.pc_heap.specs.declared.value.Value.{Value}
 use Rattle.pc_caps.specs.Tables.{unalias}
 use Rattle.pc_core.specs.declared.declarations.Method.{Method}
-use Rattle.pc_core.specs.declared.declarations.MethodKind.{MethodKind}
 use Rattle.pc_core.specs.declared.nodes.Node.{Node}
 use Rattle.pc_core.specs.declared.nodes.NodeKind.{NodeKind}
 use Rattle.pc_core.specs.CoreData.{CoreData}
@@ -17,11 +16,11 @@ use Rattle.pc_semantics.specs.declared.frames.Task.{Task}
 use Rattle.pc_semantics.specs.Around.{first_frame}
 use Rattle.pc_rules.specs.Parts.{Ty, before, through}
 use Rattle.pc_rules.specs.Threads.{false_true}
-use Rattle.pc_sound.specs.Types.{Want}
-use Rattle.pc_sound.specs.Tasks.{Within, stacked, Follows, FinishOk}
-use Rattle.pc_sound.specs.RegionWorld.{World, InSlot, Fits}
-use Rattle.pc_sound.specs.RegionTasks.{Entry, Rises, TasksRise}
-use Rattle.pc_sound.specs.RegionFrames.{Entered, GoesTo, FramesFit}
+use Rattle.pc_sound.proofs.Types.{Want}
+use Rattle.pc_sound.proofs.Tasks.{Within, stacked, Follows, FinishOk}
+use Rattle.pc_sound.proofs.RegionWorld.{World, InSlot, Fits}
+use Rattle.pc_sound.proofs.RegionTasks.{Entry, Rises, TasksRise}
+use Rattle.pc_sound.proofs.RegionFrames.{Entered, GoesTo, FramesFit}
 use Rattle.pc_sound.proofs.Needs.{Needs}
 use Rattle.pc_sound.proofs.RegionBegins.{ArgumentsAt, begins_active, begins_body}
 use Rattle.pc_sound.proofs.RegionCallers.{Rests, waits}

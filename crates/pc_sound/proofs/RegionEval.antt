@@ -1,7 +1,7 @@
 -- The task Eval, at each kind of node, in regions.
-use Rattle.std.specs.Prelude.{◌≡◌, ℕ, suc, ◌+◌, ◌-◌, ◌<◌, ◌≤◌, Bool, true, false, ◌&&◌, cond, List, [], ◌∷◌, length, Option, Some, None, nat_eq, nat_lt, slice_get, refl}
+use Rattle.std.specs.Prelude.{◌≡◌, ℕ, suc, ◌+◌, ◌-◌, ◌<◌, ◌≤◌, Bool, false, ◌&&◌, cond, List, [], ◌∷◌, length, Option, Some, None, nat_eq, nat_lt, slice_get, refl}
 use Rattle.std.proofs.Common.{inl, inr, ap, sym, subst, ◌∙◌, arith}
-use Rattle.std.proofs.lemmas.Bool.{eq-eqb, le-ltb, cases_lt}
+use Rattle.std.proofs.lemmas.Bool.{eq-eqb, le-ltb, cases_lt, and_right}
 use Rattle.std.proofs.lemmas.Option.{same_Some}
 use Rattle.pc_heap.specs.declared.value.Value.{Value}
 use Rattle.pc_caps.specs.declared.capability.Cap.{Cap}
@@ -11,7 +11,6 @@ use Rattle.pc_core.specs.declared.nodes.NodeKind.{NodeKind}
 use Rattle.pc_core.specs.declared.nodes.NodeKind.TheVariants as nodes
 use Rattle.pc_core.specs.CoreData.{CoreData}
 use Rattle.pc_core.specs.Words.{◌>>=◌}
-use Rattle.pc_core.specs.Nodes.{HasArity, NamesFit}
 use Rattle.pc_ann.specs.declared.annotation.Ann.{Ann}
 use Rattle.pc_semantics.specs.declared.frames.Frame.{Frame}
 use Rattle.pc_semantics.specs.declared.frames.Task.TheVariants as task
@@ -20,42 +19,35 @@ use Rattle.pc_semantics.specs.Evaluation.{first_then, evaluate, evaluate_node}
 use Rattle.pc_rules.specs.Parts.{Ty, before, through}
 use Rattle.pc_rules.specs.Rules.{says, said_by}
 use Rattle.pc_rules.specs.OneRule.{body_rule}
-use Rattle.pc_rules.specs.Threads.{Threaded, is_branch, threads, false_true}
-use Rattle.pc_sound.specs.Tasks.{EvalOk, BodyOk, TasksOk, reads, writes, stores, makes, spawns, invokes, applies, is_lazy}
-use Rattle.pc_sound.specs.Moves.{Runs}
-use Rattle.pc_sound.specs.RegionWorld.{Place, InSlot, OnStack, InField, InMail, World, Opened, FitsSome}
-use Rattle.pc_sound.specs.RegionTasks.{Entry, Shallow, Recovers, recovered_type, EvalRises, BodyRises, TasksRise}
-use Rattle.pc_sound.specs.RegionFrames.{ThisFits, SlotsFit, StackFits, OpenedTo}
-use Rattle.pc_sound.specs.RegionMoves.{elsewhere, RegionMoveOk, Situated}
-use Rattle.pc_sound.specs.RegionPlaces.{with_open, Shifts}
-use Rattle.pc_sound.specs.RegionClimb.{ClimbLaw}
-use Rattle.pc_sound.specs.RegionScope.{LiveShallow}
-use Rattle.pc_sound.specs.RegionSettle.{TakeLaw}
-use Rattle.pc_sound.specs.RegionContexts.{higher, OpenLaw}
+use Rattle.pc_rules.specs.Threads.{Threaded, is_branch, false_true}
+use Rattle.pc_sound.proofs.Tasks.{EvalOk, BodyOk, TasksOk, reads, writes, stores, makes, spawns, invokes, applies, is_lazy}
+use Rattle.pc_sound.proofs.Moves.{Runs}
+use Rattle.pc_sound.proofs.RegionWorld.{Place, InSlot, OnStack, World, Opened, FitsSome}
+use Rattle.pc_sound.proofs.RegionTasks.{Entry, Shallow, Recovers, recovered_type, EvalRises, BodyRises, TasksRise, LiveShallow}
+use Rattle.pc_sound.proofs.RegionFrames.{ThisFits, SlotsFit, StackFits, OpenedTo}
+use Rattle.pc_sound.proofs.RegionMoves.{RegionMoveOk, Situated}
+use Rattle.pc_sound.proofs.RegionPlaces.{with_open, Shifts}
+use Rattle.pc_sound.proofs.RegionClimbed.{ClimbLaw}
+use Rattle.pc_sound.proofs.RegionContextLaws.{higher, OpenLaw}
 use Rattle.pc_sound.proofs.Needs.{Needs}
-use Rattle.pc_sound.proofs.Notes.{meets}
+use Rattle.pc_sound.proofs.Notes.{meets, children_threaded, names_fit, arity_fits}
 use Rattle.pc_sound.proofs.Begin.{body_inverse}
 use Rattle.pc_sound.proofs.EvalChildren.{within_is, first_of_them, type_is}
 use Rattle.pc_sound.proofs.Inverse.{RecoverRule, number_rule, truth_rule, text_rule, prim_rule, this_rule, local_rule, consume_rule, and_rule, or_rule, if_rule, while_rule, seq_rule, recover_rule}
-use Rattle.pc_sound.proofs.RegionShifts.{others_kept, fields_kept}
-use Rattle.pc_sound.proofs.RegionLevels.{below_under}
-use Rattle.pc_sound.proofs.RegionRise.{and_none, not_here, slot_depth}
+use Rattle.pc_sound.proofs.RegionShifts.{others_kept, fields_kept, below_under}
+use Rattle.pc_sound.proofs.RegionRise.{higher_elsewhere}
 use Rattle.pc_sound.proofs.RegionStands.{stand_here}
 use Rattle.pc_sound.proofs.RegionChildren.{IsAt, at_depth}
 use Rattle.pc_sound.proofs.RegionControl.{children_of, child_of, strict_goes, finish_rises, entry_at, tail_rises, lazy_goes, if_goes, while_goes, seq_goes, body_goes}
 use Rattle.pc_sound.proofs.RegionValue.{number_goes, truth_goes, text_goes, prim_goes, this_goes, slot_goes, consume_goes}
 use Rattle.pc_sound.proofs.RegionSteps.{KeepsRegions}
+use Rattle.pc_sound.proofs.RegionBelow.{slot_depth}
+use Rattle.pc_sound.proofs.RegionTaken.{TakeLaw}
 
 -- ---- levels above
 
 low_kept : (i k j l : ℕ) → l ≤ k → (nat_eq i j && nat_lt k l) ≡ false
-low_kept i k j l low = and_none (nat_eq i j) (nat_lt k l) (le-ltb k l low)
-
-higher_elsewhere : (i k : ℕ) (p : Place) → elsewhere i p ≡ true → higher i k p ≡ false
-higher_elsewhere i k (InSlot j h s l) e = not_here (nat_eq i j) (nat_lt k l) e
-higher_elsewhere i k (OnStack j h d l) e = not_here (nat_eq i j) (nat_lt k l) e
-higher_elsewhere i k (InField a n) e = refl
-higher_elsewhere i k (InMail j t n) e = refl
+low_kept i k j l low = and_right (nat_eq i j) (nat_lt k l) (le-ltb k l low)
 
 deeper : (d : ℕ) (es : List Entry) → Shallow es d → Shallow es (d + 1)
 deeper d [] k = k
@@ -167,18 +159,10 @@ module _ (core : CoreData) (ann : Ann) (needs : Needs core ann) (flat : LiveShal
   module _ (e : EvalRises core ann f.method s.active.depth s.active.holds.live s.active.holds.entries n (λ d l g. TasksRise core ann f.method f.tasks d l g)) (t : EvalOk core ann f.method r.held.live r.held.set r.held.wants n (λ l z g. TasksOk core ann f.method f.tasks l z g)) where
     -- The children of a node of this kind are evaluated one after the other.
     threaded_at : (k : NodeKind) → e.node.kind ≡ k → is_branch k ≡ false → says core ann e.node (before e.note) e.note.rule k ≡ Some (said_by e.note) → Threaded ann e.node.children (before e.note)
-    threaded_at k is other q =
-        threads core ann e.node (before e.note) (said_by e.note) e.note.rule k other
-        (subst (λ (j : NodeKind). HasArity j (length e.node.children)) is (needs.formed.nodes n e.node e.is_node).arity) q
-
-    many : (k : NodeKind) → e.node.kind ≡ k → HasArity k (length e.node.children)
-    many k is = subst (λ (j : NodeKind). HasArity j (length e.node.children)) is (needs.formed.nodes n e.node e.is_node).arity
+    threaded_at k is other q = children_threaded core ann needs n e.node e.note e.is_node k is other q
 
     some : (c k : ℕ) → c ≡ suc k → 0 < c
     some c k is = omega (arith, is)
-
-    low_slot : (k : NodeKind) → e.node.kind ≡ k → NamesFit core e.node.method k
-    low_slot k is = subst (NamesFit core e.node.method) is (needs.formed.nodes n e.node e.is_node).names
 
     kind_goes : (k : NodeKind) → e.node.kind ≡ k → says core ann e.node (before e.note) e.note.rule k ≡ Some (said_by e.note) → RegionMoveOk core ann w around fs (evaluate f n e.node.children k)
     kind_goes (nodes.Number z) is q = number_goes core ann needs climb take around f fs r w n s e t z (number_rule core ann e.node e.note e.note.rule z q)
@@ -188,17 +172,17 @@ module _ (core : CoreData) (ann : Ann) (needs : Needs core ann) (flat : LiveShal
     kind_goes nodes.This is q = this_goes core ann needs climb take around f fs r w n s e t (this_rule core ann e.node e.note e.note.rule q)
     kind_goes (nodes.Local z) is q =
         let u = local_rule core ann e.node e.note e.note.rule z q in
-        slot_goes core ann needs climb take around f fs r w n s e t z (low_slot (nodes.Local z) is).0 u.place u.used u.says
+        slot_goes core ann needs climb take around f fs r w n s e t z (names_fit core ann needs n e.node e.is_node (nodes.Local z) is).0 u.place u.used u.says
     kind_goes (nodes.Consume z) is q =
         let u = consume_rule core ann e.node e.note e.note.rule z q in
-        consume_goes core ann needs climb take around f fs r w n s e t z (low_slot (nodes.Consume z) is).0 u.place u.used u.says
-    kind_goes (nodes.Field z) is q = let c = threaded_at (nodes.Field z) is refl q in strict_goes core ann needs flat around f fs w n s e (nodes.Field z) is refl (task.Get n) c.0 c.1 (inl (some (length e.node.children) 0 (many (nodes.Field z) is))) (λ m v. finish_rises core ann needs flat around f fs w n s e reads (nodes.Field z) is refl c.0 c.1 m v)
-    kind_goes (nodes.SetField z) is q = let c = threaded_at (nodes.SetField z) is refl q in strict_goes core ann needs flat around f fs w n s e (nodes.SetField z) is refl (task.Put n) c.0 c.1 (inl (some (length e.node.children) 1 (many (nodes.SetField z) is))) (λ m v. finish_rises core ann needs flat around f fs w n s e writes (nodes.SetField z) is refl c.0 c.1 m v)
+        consume_goes core ann needs climb take around f fs r w n s e t z (names_fit core ann needs n e.node e.is_node (nodes.Consume z) is).0 u.place u.used u.says
+    kind_goes (nodes.Field z) is q = let c = threaded_at (nodes.Field z) is refl q in strict_goes core ann needs flat around f fs w n s e (nodes.Field z) is refl (task.Get n) c.0 c.1 (inl (some (length e.node.children) 0 (arity_fits core ann needs n e.node e.is_node (nodes.Field z) is))) (λ m v. finish_rises core ann needs flat around f fs w n s e reads (nodes.Field z) is refl c.0 c.1 m v)
+    kind_goes (nodes.SetField z) is q = let c = threaded_at (nodes.SetField z) is refl q in strict_goes core ann needs flat around f fs w n s e (nodes.SetField z) is refl (task.Put n) c.0 c.1 (inl (some (length e.node.children) 1 (arity_fits core ann needs n e.node e.is_node (nodes.SetField z) is))) (λ m v. finish_rises core ann needs flat around f fs w n s e writes (nodes.SetField z) is refl c.0 c.1 m v)
     kind_goes (nodes.Define z) is q = let c = threaded_at (nodes.Define z) is refl q in strict_goes core ann needs flat around f fs w n s e (nodes.Define z) is refl (task.Store n) c.0 c.1 (inr refl) (λ m v. finish_rises core ann needs flat around f fs w n s e stores (nodes.Define z) is refl c.0 c.1 m v)
     kind_goes (nodes.Assign z) is q = let c = threaded_at (nodes.Assign z) is refl q in strict_goes core ann needs flat around f fs w n s e (nodes.Assign z) is refl (task.Store n) c.0 c.1 (inr refl) (λ m v. finish_rises core ann needs flat around f fs w n s e stores (nodes.Assign z) is refl c.0 c.1 m v)
     kind_goes (nodes.New z) is q = let c = threaded_at (nodes.New z) is refl q in strict_goes core ann needs flat around f fs w n s e (nodes.New z) is refl (task.Make n) c.0 c.1 (inr refl) (λ m v. finish_rises core ann needs flat around f fs w n s e makes (nodes.New z) is refl c.0 c.1 m v)
     kind_goes (nodes.Spawn z) is q = let c = threaded_at (nodes.Spawn z) is refl q in strict_goes core ann needs flat around f fs w n s e (nodes.Spawn z) is refl (task.Spawn n) c.0 c.1 (inr refl) (λ m v. finish_rises core ann needs flat around f fs w n s e spawns (nodes.Spawn z) is refl c.0 c.1 m v)
-    kind_goes (nodes.Call z) is q = let c = threaded_at (nodes.Call z) is refl q in strict_goes core ann needs flat around f fs w n s e (nodes.Call z) is refl (task.Invoke n) c.0 c.1 (inl (many (nodes.Call z) is)) (λ m v. finish_rises core ann needs flat around f fs w n s e invokes (nodes.Call z) is refl c.0 c.1 m v)
+    kind_goes (nodes.Call z) is q = let c = threaded_at (nodes.Call z) is refl q in strict_goes core ann needs flat around f fs w n s e (nodes.Call z) is refl (task.Invoke n) c.0 c.1 (inl (arity_fits core ann needs n e.node e.is_node (nodes.Call z) is)) (λ m v. finish_rises core ann needs flat around f fs w n s e invokes (nodes.Call z) is refl c.0 c.1 m v)
     kind_goes (nodes.Binary o) is q = let c = threaded_at (nodes.Binary o) is refl q in strict_goes core ann needs flat around f fs w n s e (nodes.Binary o) is refl (task.Apply n) c.0 c.1 (inr refl) (λ m v. finish_rises core ann needs flat around f fs w n s e applies (nodes.Binary o) is refl c.0 c.1 m v)
     kind_goes nodes.Not is q = let c = threaded_at nodes.Not is refl q in strict_goes core ann needs flat around f fs w n s e nodes.Not is refl (task.Apply n) c.0 c.1 (inr refl) (λ m v. finish_rises core ann needs flat around f fs w n s e applies nodes.Not is refl c.0 c.1 m v)
     kind_goes (nodes.Same b) is q = let c = threaded_at (nodes.Same b) is refl q in strict_goes core ann needs flat around f fs w n s e (nodes.Same b) is refl (task.Apply n) c.0 c.1 (inr refl) (λ m v. finish_rises core ann needs flat around f fs w n s e applies (nodes.Same b) is refl c.0 c.1 m v)

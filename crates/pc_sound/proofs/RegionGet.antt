@@ -1,5 +1,5 @@
 -- What is seen of a field through an origin, by regions. An origin that no place holds was let go before: it is an alias then.
-use Rattle.std.specs.Prelude.{◌≡◌, ℕ, ◌+◌, ◌<◌, ◌≤◌, true, Option, Some, refl}
+use Rattle.std.specs.Prelude.{◌≡◌, ℕ, ◌+◌, ◌<◌, ◌≤◌, Bool, true, Some, refl}
 use Rattle.std.proofs.Common.{ap, sym, subst, ◌∙◌, arith}
 use Rattle.std.proofs.lemmas.Option.{same_Some, none-some}
 use Rattle.pc_heap.specs.Objects.{ObjectMap}
@@ -12,12 +12,11 @@ use Rattle.pc_caps.specs.declared.capability.Cap.{Cap}
 use Rattle.pc_caps.specs.declared.capability.Cap.TheVariants as cap
 use Rattle.pc_caps.specs.declared.capability.Form.{Form}
 use Rattle.pc_caps.specs.declared.capability.Form.TheVariants as form
-use Rattle.pc_sound.specs.RegionWorld.{Place, OnStack, InField, Opened, Held, Child, World, Frozen, in_ice, under_ice, Seen, same, under, frozen, Over, over_own, over_field, over_part, FitsIn, Fits, AliasIn, Alias, WorldOk}
-use Rattle.pc_sound.specs.RegionFrames.{OpenedTo}
-use Rattle.pc_sound.specs.RegionSettle.{Settled, SettleLaw}
-use Rattle.pc_sound.specs.RegionClimb.{passed}
-use Rattle.pc_sound.proofs.RegionSlot.{no_role}
-use Rattle.pc_sound.proofs.RegionClimb.{passed_self, near_same, seen_cold}
+use Rattle.pc_sound.proofs.RegionWorld.{Place, OnStack, InField, Held, Child, World, Frozen, in_ice, under_ice, Seen, same, under, frozen, Over, over_own, over_field, over_part, FitsIn, Fits, AliasIn, Alias, WorldOk}
+use Rattle.pc_sound.proofs.RegionFrames.{OpenedTo}
+use Rattle.pc_sound.proofs.RegionSettled.{Settled, SettleLaw}
+use Rattle.pc_sound.proofs.RegionSlot.{no_role, child_shut, held_shut, held_no_part}
+use Rattle.pc_sound.proofs.RegionClimb.{near_same, seen_cold}
 
 -- What is seen from what is seen is seen.
 pub seen_far : (w : World) (p r : ℕ) {q : ℕ} → Seen w p r → Seen w r q → Seen w p q
@@ -42,18 +41,9 @@ module _ (w : World) (objects : ObjectMap) (count i base d : ℕ) (ok : WorldOk 
   is_last : w.role context ≡ Some (i, base + d)
   is_last = ok.named i (base + d) here (omega (arith, top))
 
-  held_shut : (q : ℕ) → w.stands q ≡ Held (InField a j) → (k : ℕ) → w.stands q ≡ Opened k → ⊥
-  held_shut q e k g = cc
-
-  child_shut : (q u : ℕ) (at : Option Place) → w.stands q ≡ Child u at → (k : ℕ) → w.stands q ≡ Opened k → ⊥
-  child_shut q u at e k g = cc
-
-  no_child : (q u : ℕ) (at : Option Place) → w.stands q ≡ Held (InField a j) → w.stands q ≡ Child u at → ⊥
-  no_child q u at e g = cc
-
   -- An `iso` field, over which this level is.
   iso_read : (q l : ℕ) → w.stands q ≡ Held (InField a j) → Over w i q l → base ≤ l → l ≤ base + d → Reads form.Iso q
-  iso_read q l e o low high = (tt, (no_role w objects count i base d ok here top opened q l o low (held_shut q e), λ u at g. no_child q u at e g, l, low, high, o))
+  iso_read q l e o low high = (tt, (no_role w objects count i base d ok here top opened q l o low (held_shut w (InField a j) q e), λ u at g. held_no_part w (InField a j) q u at e g, l, low, high, o))
 
   from_iso : (c : Cap) (q : ℕ) (g : Form) → view form.Iso c ≡ Some g → AliasIn w i base (base + d) form.Iso r → FitsIn w (InField a j) (unalias c) q → Reads g q
   from_iso cap.Iso q g is o e = subst (λ (f : Form). Reads f q) (same_Some form.Iso g is) (iso_read q o.2 e (over_field a j e o.0 o.5) o.3 o.4)
@@ -83,7 +73,7 @@ module _ (w : World) (objects : ObjectMap) (count i base d : ℕ) (ok : WorldOk 
       let at : w.stands q ≡ Child context (Some (InField a j)) = e ∙ ap (λ (u : ℕ). Child u (Some (InField a j))) o in
       subst (λ (f : Form). Reads f q) (same_Some form.Trn g is) (
         under context (Some (InField a j)) at (same refl),
-        (no_role w objects count i base d ok here top opened q (base + d) (over_part context (Some (InField a j)) at refl is_last) (omega arith) (child_shut q context (Some (InField a j)) at), Some (InField a j), at, refl),
+        (no_role w objects count i base d ok here top opened q (base + d) (over_part context (Some (InField a j)) at refl is_last) (omega arith) (child_shut w q context (Some (InField a j)) at), Some (InField a j), at, refl),
       )
   from_ref cap.Ref q g is o e = subst (λ (f : Form). Reads f q) (same_Some form.Ref g is) (e ∙ o, tt)
   from_ref cap.Val q g is o e = subst (λ (f : Form). Reads f q) (same_Some form.Val g is) (e, tt)
@@ -173,10 +163,11 @@ let_go_trn form.Val e = cc
 let_go_trn form.Box e = cc
 let_go_trn form.Tag e = cc
 
--- The origin on top of the stack is let go: its alias may be used still.
-pub origin_goes : SettleLaw → (w : World) (objects : ObjectMap) (count : ℕ) → WorldOk w objects count → (i : ℕ) → i < count → (h n base d : ℕ) → w.top i ≡ base + d → (f : Form) (v : Value) → Fits w (OnStack i h n (base + d)) f v → Alias w i base (base + d) f v
-    → (x : World) × Settled w x objects count i (passed i h n (base + d)) f (let_go f) (OnStack i h n (base + d)) v × Alias x i base (base + d) (let_go f) v
-origin_goes settle w objects count ok i here h n base d top f v fit alias =
+-- The origin on top of the stack is let go: its alias may be used still. That place is left, at least.
+pub origin_leaves : SettleLaw → (w : World) (objects : ObjectMap) (count : ℕ) → WorldOk w objects count → (i : ℕ) → i < count → (h n base d : ℕ) → w.top i ≡ base + d → (gone : Place → Bool) → gone (OnStack i h n (base + d)) ≡ true
+    → (f : Form) (v : Value) → Fits w (OnStack i h n (base + d)) f v → Alias w i base (base + d) f v
+    → (x : World) × Settled w x objects count i gone f (let_go f) (OnStack i h n (base + d)) v × Alias x i base (base + d) (let_go f) v
+origin_leaves settle w objects count ok i here h n base d top gone left f v fit alias =
     let low : base + d ≤ w.top i = omega (arith, top) in
-    let got = settle w objects count ok i here h n (base + d) low (passed i h n (base + d)) (passed_self i h n (base + d) (base + d)) (OnStack i h n (base + d)) f (let_go f) v (let_go_above f) fit (near_same w i h n (base + d) f (let_go f)) (refl, low) in
+    let got = settle w objects count ok i here h n (base + d) low gone left (OnStack i h n (base + d)) f (let_go f) v (let_go_above f) fit (near_same w i h n (base + d) f (let_go f)) (refl, low) in
     (got.0, got.1, subst (λ (k : ℕ). Alias got.0 i base k (let_go f) v) top (got.1.fresh base (omega (arith, top)) (λ is. ap (w.context i) (sym top)) (subst (λ (k : ℕ). Alias w i base k f v) (sym top) alias)))

@@ -1,5 +1,5 @@
 -- The task Invoke, by regions: a function begins, a message is sent, or a text is pushed.
-use Rattle.std.specs.Prelude.{◌≡◌, ◌≢◌, ◌⊎◌, ℕ, suc, ◌+◌, ◌-◌, ◌<◌, ◌≤◌, Bool, true, false, List, [], ◌∷◌, length, Option, Some, None, slice_get, decimal, refl}
+use Rattle.std.specs.Prelude.{◌≡◌, ℕ, ◌+◌, ◌-◌, ◌<◌, ◌≤◌, true, List, ◌∷◌, length, Option, Some, None, decimal, refl}
 use Rattle.std.proofs.Common.{inl, inr, ap, sym, subst, ◌∙◌, arith}
 use Rattle.std.proofs.lemmas.Bool.{eq-eqb, lt-ltb}
 use Rattle.pc_heap.specs.Objects.{ObjectMap, class_at}
@@ -7,12 +7,9 @@ use Rattle.pc_heap.specs.declared.value.Address.{Address}
 use Rattle.pc_heap.specs.declared.value.Value.{Value}
 use Rattle.pc_heap.specs.declared.value.Value.TheVariants.{Text}
 use Rattle.pc_caps.specs.Tables.{unalias, sendable}
-use Rattle.pc_caps.specs.declared.capability.Form.{Form}
 use Rattle.pc_caps.specs.declared.capability.Form.TheVariants as form
-use Rattle.pc_core.specs.declared.declarations.Method.{Method}
 use Rattle.pc_core.specs.declared.declarations.MethodKind.{MethodKind}
 use Rattle.pc_core.specs.declared.declarations.MethodKind.TheVariants as method
-use Rattle.pc_core.specs.declared.declarations.ParamInfo.{ParamInfo}
 use Rattle.pc_core.specs.declared.nodes.NodeKind.TheVariants as nodes
 use Rattle.pc_core.specs.CoreData.{CoreData}
 use Rattle.pc_core.specs.Entities.{may_have_fields}
@@ -22,43 +19,42 @@ use Rattle.pc_ann.specs.declared.mask.Mask.{Mask}
 use Rattle.pc_ann.specs.declared.annotation.Ann.{Ann}
 use Rattle.pc_semantics.specs.declared.frames.Frame.{Frame}
 use Rattle.pc_semantics.specs.declared.frames.Task.TheVariants as task
-use Rattle.pc_semantics.specs.declared.mailbox.Message.{Message}
-use Rattle.pc_semantics.specs.Around.{Around, none, entity_of, with_stack, pushed}
+use Rattle.pc_semantics.specs.Around.{Around, none, entity_of}
 use Rattle.pc_semantics.specs.Calls.{invoke_task, truth_text}
 use Rattle.pc_sub.specs.Declarations.{takes_sendable}
 use Rattle.pc_rules.specs.Parts.{Ty, Masks, before, through, type_of}
 use Rattle.pc_rules.specs.Calls.{arguments}
-use Rattle.pc_sound.specs.Types.{OfKind, OfType, OfSome, Want, StackOk}
-use Rattle.pc_sound.specs.Tasks.{want_of, stacked, FinishOk, invokes, TasksOk}
-use Rattle.pc_sound.specs.Moves.{Runs}
-use Rattle.pc_sound.specs.RegionWorld.{InMail, OnStack, World, Fits, FitsSome, Alias, AliasSome}
-use Rattle.pc_sound.specs.RegionTasks.{Entry, FinishRises, TasksRise, piled}
-use Rattle.pc_sound.specs.RegionFrames.{StackFits, MessageFits}
-use Rattle.pc_sound.specs.RegionMoves.{Others, Turned, Situated, RegionMoveOk}
-use Rattle.pc_sound.specs.RegionSettle.{SettleLaw}
-use Rattle.pc_sound.specs.RegionClimb.{ClimbLaw}
-use Rattle.pc_sound.specs.RegionContexts.{LentLaw}
+use Rattle.pc_sound.proofs.Types.{OfKind, OfType, OfSome, Want, StackOk}
+use Rattle.pc_sound.proofs.Tasks.{want_of, stacked, FinishOk, invokes, TasksOk}
+use Rattle.pc_sound.proofs.Moves.{Runs}
+use Rattle.pc_sound.proofs.RegionWorld.{InMail, OnStack, World, Fits, FitsSome, Alias, AliasSome}
+use Rattle.pc_sound.proofs.RegionTasks.{Entry, FinishRises, TasksRise, piled}
+use Rattle.pc_sound.proofs.RegionFrames.{StackFits}
+use Rattle.pc_sound.proofs.RegionMoves.{Others, Turned, Situated, RegionMoveOk}
+use Rattle.pc_sound.proofs.RegionSettled.{SettleLaw}
+use Rattle.pc_sound.proofs.RegionClimbed.{ClimbLaw}
+use Rattle.pc_sound.proofs.RegionContextLaws.{LentLaw}
 use Rattle.pc_sound.proofs.Needs.{Needs}
 use Rattle.pc_sound.proofs.Notes.{meets}
 use Rattle.pc_sound.proofs.Values.{top_is, is_number, is_truth, is_address, own_no_trait}
-use Rattle.pc_sound.proofs.InverseCalls.{CalledRule, SendRule, TextRule}
+use Rattle.pc_sound.proofs.InverseCalls.{SendRule, TextRule}
 use Rattle.pc_sound.proofs.Popped.{popped_is}
 use Rattle.pc_sound.proofs.Callers.{counts, actor_of_be}
 use Rattle.pc_sound.proofs.InvokeTask.{invokes_is, actor_place, no_method, none_typed, text_typed}
 use Rattle.pc_sound.proofs.RegionSteps.{KeepsRegions}
 use Rattle.pc_sound.proofs.RegionRules.{call_forms}
-use Rattle.pc_sound.proofs.RegionArguments.{TopFits, top_fits, stands_below}
+use Rattle.pc_sound.proofs.RegionArguments.{stands_below}
 use Rattle.pc_sound.proofs.RegionBegins.{message_fits}
 use Rattle.pc_sound.proofs.RegionPasses.{sent_form, from_place, calm_same, pass_all}
 use Rattle.pc_sound.proofs.RegionCallers.{live_left, follows_at, others_on, pushes_on}
 use Rattle.pc_sound.proofs.RegionRise.{Pushes, rise}
 use Rattle.pc_sound.proofs.RegionSent.{mailed, fits_on, others_mailed, pushes_mailed}
-use Rattle.pc_sound.proofs.RegionCall.{level, here, Calls, calls, is_top, same_level, stands, call_ok, lend_ok}
+use Rattle.pc_sound.proofs.RegionCall.{here, Calls, calls, stands, call_ok, lend_ok}
 
 -- A message between what was before and what came of it.
 others_sent : (w v u x : World) (i count j : ℕ) → Others w v i count None → Others v u i count (Some j) → Others u x i count None → Others w x i count (Some j)
 others_sent w v u x i count j a b c = record {
-  fits = λ p f z e k. c.fits p f z e (b.fits p f z e (a.fits p f z e k));
+  fits = λ p f z e m k. c.fits p f z e m (b.fits p f z e m (a.fits p f z e m k));
   sent = λ k there. zeros (x.sent k) (u.sent k) (v.sent k) (w.sent k) _ (c.sent k there) (b.sent k there) (a.sent k there);
   top = λ k there n. c.top k there n ∙ b.top k there n ∙ a.top k there n;
   opened = λ k l there n e. c.opened k l there n (b.opened k l there n (a.opened k l there n e));
@@ -137,7 +133,7 @@ module _ (settle : SettleLaw) (core : CoreData) (climb : ClimbLaw core) (ann : A
               (others_mailed all.world a.maker i around.actors) up.1.others;
           frames = up.1.frames;
         },
-        λ x k q v b d z. up.1.others.fits (InMail a.maker (w.sent a.maker) k) (unalias q.cap) v refl (fits_on all.world a.maker (InMail a.maker (w.sent a.maker) k) (unalias q.cap) v (arrived x k q v b d z)),
+        λ x k q v b d z. up.1.others.fits (InMail a.maker (w.sent a.maker) k) (unalias q.cap) v refl refl (fits_on all.world a.maker (InMail a.maker (w.sent a.maker) k) (unalias q.cap) v (arrived x k q v b d z)),
       )
 
   -- ---- a text

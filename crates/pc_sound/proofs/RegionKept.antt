@@ -1,8 +1,7 @@
--- What the other actors and the waiting messages have to fit is kept while an actor moves, and a move that keeps what it has to
--- leaves a configuration that has regions.
-use Rattle.std.specs.Prelude.{◌≡◌, ◌≢◌, ℕ, suc, ◌<◌, ◌≤◌, true, not, List, [], ◌∷◌, ◌++◌, length, Option, Some, None, nat_eq, refl}
+-- What the other actors and the waiting messages have to fit is kept while an actor moves.
+use Rattle.std.specs.Prelude.{◌≡◌, ◌≢◌, ℕ, suc, ◌<◌, ◌≤◌, true, not, List, [], ◌∷◌, ◌++◌, length, Option, Some, None, nat_eq, nat_lt, refl}
 use Rattle.std.proofs.Common.{ap, sym, subst, ◌∙◌, arith}
-use Rattle.std.proofs.lemmas.Bool.{ne_eqb}
+use Rattle.std.proofs.lemmas.Bool.{ne_eqb, lt-ltb}
 use Rattle.pc_heap.specs.declared.value.Value.{Value}
 use Rattle.pc_core.specs.CoreData.{CoreData}
 use Rattle.pc_ann.specs.declared.annotation.Ann.{Ann}
@@ -10,10 +9,10 @@ use Rattle.pc_semantics.specs.declared.frames.Frame.{Frame}
 use Rattle.pc_semantics.specs.declared.mailbox.Message.{Message}
 use Rattle.pc_rules.specs.Parts.{Ty}
 use Rattle.pc_caps.specs.declared.capability.Form.{Form}
-use Rattle.pc_sound.specs.RegionWorld.{Over, World, Opened, InMail, InSlot, OnStack, Fits, AliasSome}
-use Rattle.pc_sound.specs.RegionTasks.{Entry}
-use Rattle.pc_sound.specs.RegionFrames.{TopAlias, FramesFit, MessageFits, MailFits}
-use Rattle.pc_sound.specs.RegionMoves.{Others}
+use Rattle.pc_sound.proofs.RegionWorld.{Over, World, Opened, InMail, InSlot, OnStack, Fits, AliasSome}
+use Rattle.pc_sound.proofs.RegionTasks.{Entry}
+use Rattle.pc_sound.proofs.RegionFrames.{TopAlias, FramesFit, MessageFits, MailFits}
+use Rattle.pc_sound.proofs.RegionMoves.{Others}
 use Rattle.pc_sound.proofs.RegionBelow.{holds_kept, wait_kept}
 
 module _ (core : CoreData) (ann : Ann) (w w' : World) (i count : ℕ) (to : Option ℕ) (o : Others w w' i count to) where
@@ -22,6 +21,9 @@ module _ (core : CoreData) (ann : Ann) (w w' : World) (i count : ℕ) (to : Opti
   module _ (j : ℕ) (there : j < count) (differ : i ≢ j) where
     another : not (nat_eq i j) ≡ true
     another = ap not (ne_eqb i j differ)
+
+    known : nat_lt j count ≡ true
+    known = lt-ltb j count there
 
     some_alias : (b : ℕ) (t : Option Ty) (v : Value) → AliasSome w j b (w.top j) t v → AliasSome w' j b (w.top j) t v
     some_alias b None v a = tt
@@ -35,8 +37,8 @@ module _ (core : CoreData) (ann : Ann) (w w' : World) (i count : ℕ) (to : Opti
     pub frames_kept : (fs : List Frame) → FramesFit core ann w j fs → FramesFit core ann w' j fs
     frames_kept [] k = o.top j there differ ∙ k
     frames_kept (f ∷ fs) k =
-        let slots = λ (h s l : ℕ) (g : Form) (v : Value) (low : h < suc (length fs)) (x : Fits w (InSlot j h s l) g v). o.fits (InSlot j h s l) g v another x in
-        let stacks = λ (h d l : ℕ) (g : Form) (v : Value) (low : h < suc (length fs)) (x : Fits w (OnStack j h d l) g v). o.fits (OnStack j h d l) g v another x in
+        let slots = λ (h s l : ℕ) (g : Form) (v : Value) (low : h < suc (length fs)) (x : Fits w (InSlot j h s l) g v). o.fits (InSlot j h s l) g v another known x in
+        let stacks = λ (h d l : ℕ) (g : Form) (v : Value) (low : h < suc (length fs)) (x : Fits w (OnStack j h d l) g v). o.fits (OnStack j h d l) g v another known x in
         let over = λ (m l : ℕ) (up : m ≤ k.0.holds.base) (low : l < k.0.holds.base) (x : Over w j (w.context j m) l). o.over j m l there differ x in
         let ajar = λ (l : ℕ) (up : l ≤ k.0.holds.base) (x : w.stands (w.context j l) ≡ Opened j). o.opened j l there differ x in (
           record {
@@ -55,7 +57,7 @@ module _ (core : CoreData) (ann : Ann) (w w' : World) (i count : ℕ) (to : Opti
   -- ---- messages
 
   message_kept : (j t : ℕ) (m : Message) → MessageFits core w j t m → MessageFits core w' j t m
-  message_kept j t m k x n p v a b c = o.fits (InMail j t n) _ v refl (k x n p v a b c)
+  message_kept j t m k x n p v a b c = o.fits (InMail j t n) _ v refl refl (k x n p v a b c)
 
   -- No message more.
   pub mail_kept : (j t : ℕ) (ms : List Message) → w'.sent j ≡ w.sent j → MailFits core w j t ms → MailFits core w' j t ms

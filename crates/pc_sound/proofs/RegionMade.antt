@@ -15,9 +15,9 @@ use Rattle.pc_semantics.specs.declared.mailbox.Message.{Message}
 use Rattle.pc_semantics.specs.Configurations.{Configuration, with_objects, with_actor, with_frames, own_address}
 use Rattle.pc_semantics.specs.Step.{around, delivered, left, made}
 use Rattle.pc_semantics.specs.Around.{Move, Stuck, Overflows, Goes, Writes, Makes, Spawns, Enters, Sends, Leaves}
-use Rattle.pc_sound.specs.RegionWorld.{World, WorldOk}
-use Rattle.pc_sound.specs.RegionFrames.{FramesFit, MessageFits, MailFits, ActorFits, InRegions, HasRegions}
-use Rattle.pc_sound.specs.RegionMoves.{one_more, Others, Turned, RegionMoveOk}
+use Rattle.pc_sound.proofs.RegionWorld.{World, WorldOk}
+use Rattle.pc_sound.proofs.RegionFrames.{FramesFit, MessageFits, MailFits, ActorFits, InRegions, HasRegions}
+use Rattle.pc_sound.proofs.RegionMoves.{one_more, Others, Turned, RegionMoveOk}
 use Rattle.pc_sound.proofs.RegionKept.{frames_kept, mail_kept, mail_more}
 
 -- What stands at a place after a write: what was written, there, or what stood at another place.
@@ -91,7 +91,7 @@ module _ (core : CoreData) (ann : Ann) (c : Configuration) (i : ℕ) (a : Actor)
   }
 
   delivers : (w' : World) (fs : List Frame) (j : ℕ) (m : Message) (p : Option Actor) → slice_get (slice_set c.actors i (gone_on fs)) j ≡ p → j < length c.actors → Turned core ann w w' i (length c.actors) (Some j) c.objects (length c.actors) fs → MessageFits core w' j (w.sent j) m
-      → InRegions core ann w' (delivered (with_frames c i a fs) j m p).1
+      → InRegions core ann w' (delivered c (with_frames c i a fs) j m p).1
   delivers w' fs j m None at l t new =
       let b = get_within (slice_set c.actors i (gone_on fs)) j (subst (λ (n : ℕ). j < n) (sym (length-set c.actors i (gone_on fs))) l) in
       absurd (none-some b.0 (sym at ∙ b.1))

@@ -1,9 +1,9 @@
 -- A region becomes a part of another: what is in it is in the other then, and what was seen from it is seen from the other.
-use Rattle.std.specs.Prelude.{◌≡◌, ◌≢◌, ◌⊎◌, ℕ, ◌<◌, ◌≤◌, Bool, true, false, cond, Option, Some, None, nat_eq, refl}
+use Rattle.std.specs.Prelude.{◌≡◌, ◌⊎◌, ℕ, ◌<◌, ◌≤◌, Bool, true, false, cond, Option, Some, None, refl}
 use Rattle.std.specs.FinMap.{get}
 use Rattle.std.proofs.Common.{inl, inr, ap, sym, subst, ◌∙◌, arith}
-use Rattle.std.proofs.lemmas.Bool.{eq-eqb, ne_eqb, cases_eq, cases_lt}
-use Rattle.std.proofs.lemmas.Option.{same_Some, none-some}
+use Rattle.std.proofs.lemmas.Bool.{eq-eqb, ne_eqb, cases_eq}
+use Rattle.std.proofs.lemmas.Option.{none-some}
 use Rattle.pc_heap.specs.Objects.{ObjectMap}
 use Rattle.pc_heap.specs.declared.value.Address.{Address}
 use Rattle.pc_heap.specs.declared.value.Object.{Object}
@@ -11,12 +11,10 @@ use Rattle.pc_heap.specs.declared.value.Value.{Value}
 use Rattle.pc_heap.specs.declared.value.Value.TheVariants.{Num, Truth, Text, Prim, At}
 use Rattle.pc_caps.specs.declared.capability.Form.{Form}
 use Rattle.pc_caps.specs.declared.capability.Form.TheVariants as form
-use Rattle.pc_semantics.specs.Configurations.{own_address}
 use Rattle.pc_rules.specs.Threads.{false_true}
-use Rattle.pc_sound.specs.RegionWorld.{Place, InSlot, OnStack, InField, InMail, Standing, Unused, Froze, Opened, Loose, Held, Child, World, home, Frozen, ice, in_ice, under_ice, Belongs, opened, loose, slot, stack, field, child, Seen, same, under, frozen, steady, Over, over_loose, over_slot, over_own, over_field, over_part, over_child, FitsIn, Fits, AliasIn, Alias, WorldOk}
-use Rattle.pc_sound.specs.RegionPlaces.{stand, renamed, child_renamed, merged, Shifts}
-use Rattle.pc_sound.proofs.RegionSafe.{context_belongs}
-use Rattle.pc_sound.proofs.RegionStands.{stand_here, stand_other}
+use Rattle.pc_sound.proofs.RegionWorld.{Place, InSlot, OnStack, InField, InMail, Standing, Unused, Froze, Opened, Loose, Held, Child, World, home, Frozen, ice, in_ice, under_ice, Belongs, Seen, same, under, frozen, steady, Over, over_loose, over_slot, over_own, over_field, over_part, over_child, FitsIn, Fits, AliasIn, Alias, WorldOk}
+use Rattle.pc_sound.proofs.RegionPlaces.{renamed, child_renamed, merged, Shifts}
+use Rattle.pc_sound.proofs.RegionStands.{stand_here, stand_other, belongs_used}
 
 pub renamed_here : (q r x : ℕ) → q ≡ x → renamed q r x ≡ r
 renamed_here q r x e = ap (λ (b : Bool). cond b r x) (eq-eqb q x e)
@@ -42,12 +40,20 @@ was_held q r p (Opened j) e = e
 was_held q r p (Loose j l) e = e
 was_held q r p (Held o) e = e
 
+was_unused : (q r : ℕ) (s : Standing) → child_renamed q r s ≡ Unused → s ≡ Unused
+was_unused q r (Child u at) e = absurd (cc)
+was_unused q r Unused e = e
+was_unused q r Froze e = e
+was_unused q r (Opened j) e = e
+was_unused q r (Loose j l) e = e
+was_unused q r (Held o) e = e
+
 -- ---- region q of actor i becomes a part of region r
 
 module _
     (w : World) (objects : ObjectMap) (count : ℕ) (ok : WorldOk w objects count) (i : ℕ) (here : i < count) (b : ℕ) (floor : b ≤ w.top i) (gone : Place → Bool) (q r : ℕ)
     -- it is another, and in use
-    (apart : q ≡ r → ⊥) (used : r < w.next)
+    (apart : q ≡ r → ⊥) (used : r < w.next) (alive : w.stands r ≡ Unused → ⊥)
     -- it is no context, is of the actor, is not frozen and not open, and the places that may hold it are left
     (plain : w.role q ≡ None) (mine : Belongs w i q) (warm : Frozen w q → ⊥) (shut : (j : ℕ) → w.stands q ≡ Opened j → ⊥)
     (held : (p : Place) → w.stands q ≡ Held p → gone p ≡ true) (part : (u : ℕ) (p : Place) → w.stands q ≡ Child u (Some p) → gone p ≡ true)
@@ -183,14 +189,6 @@ module _
     over_too : (j m l : ℕ) → Over w j (w.context j m) l → Over (merged w q r) j (renamed q r (w.context j m)) l
     over_too j m l o = subst (λ (y : ℕ). Over (merged w q r) j y l) (sym (renamed_other q r (w.context j m) (not_under j l o))) (over_on j l o)
 
-    in_use : (x : ℕ) → Belongs w i x → w.stands x ≡ Unused → ⊥
-    in_use x (opened e) u = cc
-    in_use x (loose l e) u = cc
-    in_use x (slot h t l e) u = cc
-    in_use x (stack h d l e) u = cc
-    in_use x (field a k e o) u = cc
-    in_use x (child v at e o) u = cc
-
     below_next : (x : ℕ) → x < w.next → renamed q r x < w.next
     below_next x l =
         elim (cases_eq q x) [
@@ -199,7 +197,7 @@ module _
         ]
 
     unused_on : (x : ℕ) → w.next ≤ x → (merged w q r).stands x ≡ Unused
-    unused_on x more = plain_on x Unused (λ is. in_use q mine (ap w.stands is ∙ (ok.unused x more).0)) (ok.unused x more).0 refl
+    unused_on x more = plain_on x Unused (λ is. belongs_used w i q mine (ap w.stands is ∙ (ok.unused x more).0)) (ok.unused x more).0 refl
 
     parents_on : (x u : ℕ) (at : Option Place) → (merged w q r).stands x ≡ Child u at → u < w.next
     parents_on x u at e =
@@ -221,6 +219,18 @@ module _
         not_unused : Unused ≡ Held (InField a k) → ⊥
         not_unused f = cc
 
+    used_on : (x : ℕ) → (w.stands x ≡ Unused → ⊥) → (merged w q r).stands (renamed q r x) ≡ Unused → ⊥
+    used_on x live e =
+        elim (cases_eq q x) [
+          | inl is ↦ alive (was_unused q r (w.stands r) (sym (stands_other r apart) ∙ ap (merged w q r).stands (sym (renamed_here q r x is)) ∙ e))
+          | inr n ↦ live (was_unused q r (w.stands x) (sym (stands_other x n) ∙ ap (merged w q r).stands (sym (renamed_other q r x n)) ∙ e))
+        ]
+
+    absent_on : (x : ℕ) → w.stands x ≡ Unused → (merged w q r).stands (renamed q r x) ≡ Unused
+    absent_on x e =
+        let n = λ (is : q ≡ x). belongs_used w i q mine (ap w.stands is ∙ e) in
+        ap (merged w q r).stands (renamed_other q r x n) ∙ plain_on x Unused n e refl
+
     context_on : (j l : ℕ) → ((w.stands (w.context j l) ≡ Opened j) ⊎ ((m : ℕ) × (m < l) × Over w j (w.context j l) m))
         → ((merged w q r).stands (renamed q r (w.context j l)) ≡ Opened j) ⊎ ((m : ℕ) × (m < l) × Over (merged w q r) j (renamed q r (w.context j l)) m)
     context_on j l (inl e) = inl (opened_too (w.context j l) j e)
@@ -238,6 +248,9 @@ module _
       regions = λ a. below_next (w.region a) (ok.regions a);
       parents = parents_on;
       holders = holders_on;
+      absent = λ a e. absent_on (w.region a) (ok.absent a e);
+      present = λ a o e u. used_on (w.region a) (ok.present a o e) u;
+      homes = λ j l there u. used_on (w.context j l) (ok.homes j l there) u;
     }
 
     pub merged_shifts : Shifts w (merged w q r) objects count i b gone

@@ -1,7 +1,7 @@
 -- Arguments settle, one after the other, where they are wanted: each at the parameter of the method that was found, after that of
 -- the method by which the call was read, where the place lives with another region.
-use Rattle.std.specs.Prelude.{◌≡◌, ◌≢◌, ◌⊎◌, ℕ, suc, ◌+◌, ◌<◌, ◌≤◌, Bool, true, false, ◌&&◌, ◌||◌, not, List, [], ◌∷◌, length, Option, Some, nat_eq, nat_lt, slice_get, refl}
-use Rattle.std.proofs.Common.{inl, inr, ap, sym, subst, ◌∙◌, arith, None}
+use Rattle.std.specs.Prelude.{◌≡◌, ◌≢◌, ◌⊎◌, ℕ, suc, ◌+◌, ◌<◌, ◌≤◌, Bool, true, false, ◌&&◌, List, [], ◌∷◌, length, Option, Some, nat_eq, nat_lt, slice_get, refl}
+use Rattle.std.proofs.Common.{inl, inr, sym, subst, ◌∙◌, arith, None}
 use Rattle.std.proofs.lemmas.Bool.{eq-eqb, ne_eqb, cases_lt, lt-ltb, le-ltb}
 use Rattle.pc_heap.specs.Objects.{ObjectMap}
 use Rattle.pc_heap.specs.declared.value.Value.{Value}
@@ -19,11 +19,11 @@ use Rattle.pc_ann.specs.declared.annotation.Ann.{Ann}
 use Rattle.pc_rules.specs.Parts.{type_of}
 use Rattle.pc_rules.specs.Calls.{arguments_go, arguments_sendable}
 use Rattle.pc_rules.specs.Threads.{false_true}
-use Rattle.pc_sound.specs.RegionWorld.{Opened, Place, InSlot, OnStack, InField, InMail, World, home, Fits, FitsSome, Alias, Over, WorldOk}
-use Rattle.pc_sound.specs.RegionPlaces.{Shifts}
-use Rattle.pc_sound.specs.RegionSettle.{Lands, NearTrn, NearFrom, Near, Settled, SettleLaw}
+use Rattle.pc_sound.proofs.RegionWorld.{Opened, Place, InSlot, OnStack, InField, InMail, World, home, Fits, FitsSome, Alias, Over, WorldOk}
+use Rattle.pc_sound.proofs.RegionPlaces.{Shifts}
+use Rattle.pc_sound.proofs.RegionSettled.{Lands, NearFrom, Near, Settled, SettleLaw}
 use Rattle.pc_sound.proofs.Declarations.{below_trans}
-use Rattle.pc_sound.proofs.RegionShifts.{shifts_both}
+use Rattle.pc_sound.proofs.RegionShifts.{wider, shifts_none, shifts_then}
 use Rattle.pc_sound.proofs.RegionArguments.{ArgumentsStand, GoesIn, first_goes, first_sendable}
 use Rattle.pc_sound.proofs.RegionBegins.{ArgumentsAt}
 
@@ -86,27 +86,12 @@ pub record Calm (w w' : World) (objects : ObjectMap) (count i : ℕ) (gone : Pla
 pub calm_of : (w w' : World) (objects : ObjectMap) (count i : ℕ) (gone : Place → Bool) (f g : Form) (to : Place) (v : Value) → Settled w w' objects count i gone f g to v → Calm w w' objects count i gone
 calm_of w w' objects count i gone f g to v s = record { shifts = s.shifts; role = s.role; context = s.context; top = s.top; opened = s.opened; over = s.over; alias = s.alias }
 
-pub wider : (w w' : World) (objects : ObjectMap) (count i b : ℕ) (gone more : Place → Bool) → ((p : Place) → more p ≡ false → gone p ≡ false) → Shifts w w' objects count i b gone → Shifts w w' objects count i b more
-wider w w' objects count i b gone more sub x = record {
-  world = x.world;
-  fits = λ p f v none k. x.fits p f v (sub p none) k;
-  sent = x.sent;
-  top = x.top;
-  context = x.context;
-  contexts = x.contexts;
-  opened = x.opened;
-  alias = x.alias;
-  over = x.over;
-  low = x.low;
-}
-
 pub calm_wider : (w w' : World) (objects : ObjectMap) (count i : ℕ) (gone more : Place → Bool) → ((p : Place) → more p ≡ false → gone p ≡ false) → Calm w w' objects count i gone → Calm w w' objects count i more
 calm_wider w w' objects count i gone more sub c = record { shifts = wider w w' objects count i (w.top i) gone more sub c.shifts; role = c.role; context = c.context; top = c.top; opened = c.opened; over = c.over; alias = c.alias }
 
 pub calm_both : (w v u : World) (objects : ObjectMap) (count i : ℕ) (gone : Place → Bool) → Calm w v objects count i gone → Calm v u objects count i gone → Calm w u objects count i gone
 calm_both w v u objects count i gone x y = record {
-  shifts = wider w u objects count i (w.top i) (λ p. gone p || gone p) gone (λ p none. twice (gone p) none)
-      (shifts_both w v u objects count i (w.top i) gone gone x.shifts (subst (λ (b : ℕ). Shifts v u objects count i b gone) (x.top i) y.shifts));
+  shifts = shifts_then w v u objects count i (w.top i) gone x.shifts (subst (λ (b : ℕ). Shifts v u objects count i b gone) (x.top i) y.shifts);
   role = λ q. y.role q ∙ x.role q;
   context = λ j l there low. y.context j l there (subst (λ (t : ℕ). l ≤ t) (sym (x.top j)) low) ∙ x.context j l there low;
   top = λ j. y.top j ∙ x.top j;
@@ -114,25 +99,10 @@ calm_both w v u objects count i gone x y = record {
   over = λ j o. y.over j (x.over j o);
   alias = λ j c k g z there low a. y.alias j c k g z there (subst (λ (t : ℕ). k ≤ t) (sym (x.top j)) low) (x.alias j c k g z there low a);
 }
-  where
-    twice : (a : Bool) → a ≡ false → (a || a) ≡ false
-    twice true e = e
-    twice false e = refl
 
 pub calm_same : (w : World) (objects : ObjectMap) (count i : ℕ) (gone : Place → Bool) → WorldOk w objects count → Calm w w objects count i gone
 calm_same w objects count i gone ok = record {
-  shifts = record {
-    world = ok;
-    fits = λ p f v e k. k;
-    sent = λ j. refl;
-    top = λ j n. refl;
-    context = λ l low. refl;
-    contexts = λ j l there n low. refl;
-    opened = λ j l n e. e;
-    alias = λ j c f v there n a. a;
-    over = λ j m l there n o. o;
-    low = λ m l n k o. o;
-  };
+  shifts = shifts_none w objects count i (w.top i) gone ok;
   role = λ q. refl;
   context = λ j l there low. refl;
   top = λ j. refl;

@@ -9,7 +9,7 @@ use Rattle.pc_core.specs.declared.declarations.MethodKind.TheVariants as method
 use Rattle.pc_core.specs.declared.declarations.ParamInfo.{ParamInfo}
 use Rattle.pc_sub.specs.Declarations.{takes_sendable}
 use Rattle.pc_semantics.specs.declared.mailbox.Message.{Message}
-use Rattle.pc_sound.specs.Types.{ArgumentsOk}
+use Rattle.pc_sound.proofs.Types.{ArgumentsOk}
 use Rattle.pc_heap.specs.declared.value.Value.{Value}
 use Rattle.pc_heap.specs.declared.value.Value.TheVariants.{At}
 use Rattle.pc_caps.specs.Gets.{get_below}
@@ -25,16 +25,17 @@ use Rattle.pc_semantics.specs.declared.frames.Task.TheVariants as task
 use Rattle.pc_semantics.specs.Configurations.{Configuration}
 use Rattle.pc_semantics.specs.Safety.{address_of, name_read, touched_name, access_of, Race, Quiet}
 use Rattle.pc_semantics.specs.Step.{around}
-use Rattle.pc_sound.specs.Tasks.{TasksOk}
-use Rattle.pc_sound.specs.Frames.{FramesOk}
-use Rattle.pc_sound.specs.Typed.{MessageOk, MailOk, FirstMailOk, WellTyped, ActorOk}
-use Rattle.pc_sound.specs.RegionWorld.{World}
-use Rattle.pc_sound.specs.RegionTasks.{TasksRise, uses_top}
-use Rattle.pc_sound.specs.RegionFrames.{TopAlias, FramesFit, MessageFits, MailFits, InRegions}
-use Rattle.pc_sound.specs.RegionMoves.{Situated}
+use Rattle.pc_sound.proofs.Tasks.{TasksOk}
+use Rattle.pc_sound.proofs.Frames.{FramesOk}
+use Rattle.pc_sound.proofs.Typed.{MessageOk, MailOk, FirstMailOk, WellTyped, ActorOk}
+use Rattle.pc_sound.proofs.RegionWorld.{World}
+use Rattle.pc_sound.proofs.RegionTasks.{TasksRise, uses_top}
+use Rattle.pc_sound.proofs.RegionFrames.{TopAlias, FramesFit, MessageFits, MailFits, InRegions}
+use Rattle.pc_sound.proofs.RegionMoves.{Situated}
 use Rattle.pc_sound.proofs.Needs.{Needs}
 use Rattle.pc_sound.proofs.RegionSafe.{AccessOk, AccessesOk, address_is, no_race, let_alone}
 use Rattle.pc_sound.proofs.RegionAccess.{get_access, put_access}
+use Rattle.pc_sound.proofs.Steps.{some_frames}
 
 -- A list with a first value.
 first_is : {T : Type 0} → (xs : List T) (x : T) → slice_get xs 0 ≡ Some x → (ys : List T) × (xs ≡ x ∷ ys)
@@ -90,9 +91,6 @@ module _ (core : CoreData) (ann : Ann) (needs : Needs core ann) (c : Configurati
         inl (put_access core ann needs (around c i) f fs (record { objects = typed.objects; here = get_below c.actors i a is; held = ok.0.0; wait = ok.1 }) w n x.address t.rest t.at ts
         (subst (λ (us : List Task). TasksOk core ann f.method us ok.0.0.live ok.0.0.set ok.0.0.wants) at ok.0.1) (situated (task.Put n ∷ ts) at))
     task_access t ts at p e x h = absurd (none-some p e)
-
-  some_frames : (f : Frame) (fs : List Frame) → f ∷ fs ≡ [] → ⊥
-  some_frames f fs e = cc
 
   frame_access : (f : Frame) (fs : List Frame) → a.frames ≡ f ∷ fs → ActorOk core ann c.objects i a → FramesFit core ann w i a.frames → (t : Task) → slice_get f.tasks 0 ≡ Some t → (n : ℕ × Bool) → touched_name core t ≡ Some n → (x : Access) → access_of core c f n ≡ Some x → AccessOk w i x
   frame_access f fs at (inl ok) k t e n p x h = absurd (some_frames f fs (sym at ∙ ok.0))

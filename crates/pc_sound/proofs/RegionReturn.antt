@@ -1,5 +1,5 @@
 -- A method ends, in regions: what it leaves goes to the frame that waits for it, and up from there.
-use Rattle.std.specs.Prelude.{◌≡◌, ◌≢◌, ◌⊎◌, ℕ, suc, ◌+◌, ◌-◌, ◌<◌, ◌≤◌, Bool, true, false, ◌&&◌, ◌||◌, List, [], ◌∷◌, length, Option, Some, None, nat_eq, nat_lt, slice_get, refl}
+use Rattle.std.specs.Prelude.{◌≡◌, ℕ, suc, ◌+◌, ◌-◌, ◌<◌, ◌≤◌, Bool, true, false, ◌&&◌, ◌||◌, List, [], ◌∷◌, length, Option, Some, None, nat_eq, nat_lt, refl}
 use Rattle.std.proofs.Common.{inl, inr, ap, sym, subst, ◌∙◌, arith}
 use Rattle.std.proofs.lemmas.Bool.{eq-eqb, ne_eqb, le-ltb, and_from, and_right, and_parts, or_left, or_right, or_from}
 use Rattle.pc_heap.specs.Objects.{ObjectMap}
@@ -24,37 +24,36 @@ use Rattle.pc_semantics.specs.declared.frames.Task.{Task}
 use Rattle.pc_semantics.specs.declared.frames.Task.TheVariants as task
 use Rattle.pc_semantics.specs.Calls.{leave}
 use Rattle.std.proofs.lemmas.Option.{same_Some}
-use Rattle.pc_semantics.specs.Around.{Around, entity_of}
+use Rattle.pc_semantics.specs.Around.{Around}
 use Rattle.pc_semantics.specs.Step.{left}
-use Rattle.pc_rules.specs.Parts.{Ty, constructs}
+use Rattle.pc_rules.specs.Parts.{Ty}
 use Rattle.pc_rules.specs.Threads.{false_true}
-use Rattle.pc_sound.specs.Types.{OfKind, OfType, OfSome, StackOk}
-use Rattle.pc_sound.specs.Tasks.{ReturnOk}
-use Rattle.pc_sound.specs.Frames.{leaves}
-use Rattle.pc_sound.specs.Moves.{Runs}
-use Rattle.pc_sound.specs.RegionWorld.{Place, InSlot, OnStack, InField, InMail, Opened, Held, Child, World, Fits, FitsSome, AliasIn, Alias, AliasSome, Over, WorldOk}
-use Rattle.pc_sound.specs.RegionTasks.{Entry, top_of, TasksRise}
-use Rattle.pc_sound.specs.RegionFrames.{StackFits, TopAlias, Entered, GoesTo, SendableSome, Awaits, WaitFits, FramesFit, FieldsFit}
-use Rattle.pc_sound.specs.RegionMoves.{elsewhere, Turned, RegionMoveOk, Situated}
-use Rattle.pc_sound.specs.RegionPlaces.{standing, lowered, without_last, Shifts}
-use Rattle.pc_sound.specs.RegionContexts.{higher, ended, Ends}
-use Rattle.pc_sound.specs.RegionClimb.{ClimbLaw}
+use Rattle.pc_sound.proofs.Types.{OfType, OfSome, StackOk}
+use Rattle.pc_sound.proofs.Tasks.{ReturnOk}
+use Rattle.pc_sound.proofs.Frames.{leaves}
+use Rattle.pc_sound.proofs.Moves.{Runs}
+use Rattle.pc_sound.proofs.RegionWorld.{Place, InSlot, OnStack, InField, InMail, Opened, Held, Child, World, Fits, FitsSome, AliasIn, Alias, AliasSome, Over, WorldOk}
+use Rattle.pc_sound.proofs.RegionTasks.{Entry, top_of}
+use Rattle.pc_sound.proofs.RegionFrames.{StackFits, TopAlias, Entered, GoesTo, SendableSome, Awaits, WaitFits, FramesFit, FieldsFit}
+use Rattle.pc_sound.proofs.RegionMoves.{elsewhere, Turned, RegionMoveOk, Situated}
+use Rattle.pc_sound.proofs.RegionPlaces.{standing, lowered, without_last, Shifts}
+use Rattle.pc_sound.proofs.RegionContextLaws.{higher, ended, Ends}
+use Rattle.pc_sound.proofs.RegionClimbed.{ClimbLaw}
 use Rattle.pc_sound.proofs.Needs.{Needs}
 use Rattle.pc_sound.proofs.Basic.{of_lower, some_lower}
 use Rattle.pc_sound.proofs.Values.{top_is}
-use Rattle.pc_sound.proofs.ReturnTask.{built}
 use Rattle.pc_sound.proofs.RegionSteps.{KeepsRegions}
 use Rattle.pc_sound.proofs.Tables.{below_sees}
-use Rattle.pc_sound.proofs.RegionClimb.{climb, drops}
 use Rattle.pc_sound.proofs.RegionEnds.{ends, falls}
 use Rattle.pc_sound.proofs.RegionRenewed.{number_here, role_here}
-use Rattle.pc_sound.proofs.RegionStands.{stand_here}
+use Rattle.pc_sound.proofs.RegionStands.{stand_here, held_used}
 use Rattle.pc_sound.proofs.RegionClose.{closed_shifts}
 use Rattle.pc_sound.proofs.RegionPasses.{lower_still, near_home, near_sent}
-use Rattle.pc_sound.proofs.RegionShifts.{others_kept, fields_kept, shifts_both}
-use Rattle.pc_sound.proofs.RegionSettle.{shifts_none, shifts_less, settle}
+use Rattle.pc_sound.proofs.RegionShifts.{others_kept, fields_kept, shifts_none, shifts_less, shifts_then, lower_shift}
+use Rattle.pc_sound.proofs.RegionSettle.{settle}
 use Rattle.pc_sound.proofs.RegionRise.{Pushes, rise, others_both, not_here}
-use Rattle.pc_sound.proofs.RegionLower.{top_down, this_low, slots_low, stack_low, wait_low}
+use Rattle.pc_sound.proofs.RegionBelow.{top_down, this_low, slots_low, stack_low, wait_low}
+use Rattle.pc_sound.proofs.ReturnTask.{built_typed}
 
 -- ---- what a frame leaves that ends
 
@@ -243,6 +242,11 @@ sent_alias w w' i b c k m form.Box v s a down = absurd (false_true s)
 
 -- ---- a result comes back
 
+-- It is of the type to which it goes.
+typed_result : (core : CoreData) (ann : Ann) → Needs core ann → (objects : ObjectMap) (x : Method) (v : Value) → OfType core objects x.result v → (t : Option Ty) → GoesTo core x.result t → OfSome core objects t v
+typed_result core ann needs objects x v typed None goes = tt
+typed_result core ann needs objects x v typed (Some t) goes = of_lower core ann needs objects x.result t v (goes.0, below_sees x.result.1 t.1 goes.1) typed
+
 module _
     (core : CoreData) (ann : Ann) (needs : Needs core ann) (climb : ClimbLaw core) (w : World) (objects : ObjectMap) (count i : ℕ) (ok : WorldOk w objects count) (fields : FieldsFit core w objects) (here : i < count)
     (g : Frame) (gs : List Frame) (b : ℕ) (x : Method) (k : Awaits core ann w i (length gs) b x g) (rest : WaitFits core ann w i k.holds.base g.method gs)
@@ -257,10 +261,6 @@ module _
 
     abbrev there : Place
     there = OnStack i (length gs) (length g.stack) level
-
-    typed_so : (t : Option Ty) → GoesTo core x.result t → OfSome core objects t v
-    typed_so None goes = tt
-    typed_so (Some t) goes = of_lower core ann needs objects x.result t v (goes.0, below_sees x.result.1 t.1 goes.1) typed
 
     -- By a frame that began at the level of the node that waits.
     plain_at : (t : Option Ty) → GoesTo core x.result t → b ≡ level → (u : World) × Shifts w u objects count i level gone × (u.top i ≡ level) × FitsSome u there t v × AliasSome u i k.holds.base level t v
@@ -280,7 +280,7 @@ module _
     pub plain_back : b ≡ level → (u : World) × Turned core ann w u i count None objects count (left (Some v) (g ∷ gs))
     plain_back is =
         let z = plain_at k.call.ty k.result is in
-        comes_back core ann climb w objects count i fields here g gs b x k rest z.0 z.1 z.2 v (typed_so k.call.ty k.result) z.3 z.4
+        comes_back core ann climb w objects count i fields here g gs b x k rest z.0 z.1 z.2 v (typed_result core ann needs objects x v typed k.call.ty k.result) z.3 z.4
 
     -- By a frame whose receiver is lent.
     module _ (is : b ≡ suc level) (l : ℕ) (least : k.holds.base ≤ l) (most : l < b) (held : Over w i (w.context i b) l) where
@@ -302,7 +302,7 @@ module _
           let fresh : Alias z.0 i b (suc level) t.1 v =
           subst (λ (m : ℕ). Alias z.0 i b m t.1 v) last (z.1.fresh b (omega (arith, top)) (λ trn. absurd (false_true (sym (ap sendable_form trn) ∙ s))) alias) in (
             ended z.0 i level,
-            shifts_less w (ended z.0 i level) objects count i level level (λ p. gone p || gone p) gone (omega arith) (λ p q. or_from (gone p) (gone p) q q) (shifts_both w z.0 (ended z.0 i level) objects count i level gone gone first after.0.shifts),
+            shifts_then w z.0 (ended z.0 i level) objects count i level gone first after.0.shifts,
             top_down_to z.0 (z.1.top i ∙ last),
             after.0.shifts.fits there t.1 v (stays_low i (suc (length gs)) (length gs) level level (omega arith) (omega arith)) z.1.fits,
             sent_alias z.0 (ended z.0 i level) i b k.holds.base level (suc level) t.1 v s fresh (λ a. after.1 k.holds.base l b v least (omega (arith, most, is)) (omega (arith, is)) over a),
@@ -311,7 +311,7 @@ module _
       pub lent_back : SendableSome k.call.ty → (u : World) × Turned core ann w u i count None objects count (left (Some v) (g ∷ gs))
       lent_back s =
           let z = lent_at k.call.ty k.result s in
-          comes_back core ann climb w objects count i fields here g gs b x k rest z.0 z.1 z.2 v (typed_so k.call.ty k.result) z.3 z.4
+          comes_back core ann climb w objects count i fields here g gs b x k rest z.0 z.1 z.2 v (typed_result core ann needs objects x v typed k.call.ty k.result) z.3 z.4
 
 -- ---- a new object comes back
 
@@ -380,14 +380,10 @@ module _
 
     closes : Shifts ended_world closed_world objects count i floor far
     closes =
-        closed_shifts ended_world objects count over_end.shifts.world i here (w.context i b) (Held own_place) (ap (lowered i (w.top i - 1)) ajar) bare (λ u at e. absurd (no_parent u at e)) (λ a n e. absurd (no_holder a n e)) floor far (omega (arith, top_now))
+        closed_shifts ended_world objects count over_end.shifts.world i here (w.context i b) (Held own_place) (ap (lowered i (w.top i - 1)) ajar) bare (λ u at e. absurd (no_parent u at e)) (λ a n e. absurd (no_holder a n e)) (held_used own_place) floor far (omega (arith, top_now))
 
     both : Shifts w closed_world objects count i floor far
-    both = shifts_less w closed_world objects count i floor floor (λ p. far p || far p) far (omega arith) (λ p q. or_from (far p) (far p) q q) (shifts_both w ended_world closed_world objects count i floor far far over_end.shifts closes)
-
-    typed_as : (t : Option Ty) → GoesTo core x.result t → OfSome core objects t v
-    typed_as None goes = tt
-    typed_as (Some t) goes = of_lower core ann needs objects x.result t v (goes.0, below_sees x.result.1 t.1 goes.1) typed
+    both = shifts_then w ended_world closed_world objects count i floor far over_end.shifts closes
 
     new_at : (t : Option Ty) → (u : World) × Shifts w u objects count i floor far × (u.top i ≡ floor) × FitsSome u goal t v × AliasSome u i k.holds.base floor t v
     new_at None = (closed_world, both, top_now, tt, tt)
@@ -396,8 +392,7 @@ module _
         let z = settle closed_world objects count closes.world i here (suc (length gs)) 0 floor (omega (arith, top_now)) far (leaving_own i (suc (length gs)) floor 0 floor) goal form.IsoE t.1 v refl held
         (near_home closed_world own_place form.IsoE t.1 goal refl) (refl, omega (arith, top_now)) in (
           z.0,
-          shifts_less w z.0 objects count i floor floor (λ p. far p || far p) far (omega arith) (λ p q. or_from (far p) (far p) q q)
-              (shifts_both w closed_world z.0 objects count i floor far far both (shifts_less closed_world z.0 objects count i (closed_world.top i) floor far far (omega (arith, top_now)) (λ p q. q) z.1.shifts)),
+          shifts_then w closed_world z.0 objects count i floor far both (lower_shift closed_world z.0 objects count i (closed_world.top i) floor far (omega (arith, top_now)) z.1.shifts),
           z.1.top i ∙ top_now,
           z.1.fits,
           subst (λ (m : ℕ). Alias z.0 i k.holds.base m t.1 v) top_now
@@ -407,7 +402,7 @@ module _
     pub new_back : (u : World) × Turned core ann w u i count None objects count (left (Some v) (g ∷ gs))
     new_back =
         let z = new_at k.call.ty in
-        comes_back core ann climb w objects count i fields here g gs b x k rest z.0 z.1 z.2 v (typed_as k.call.ty k.result) z.3 z.4
+        comes_back core ann climb w objects count i fields here g gs b x k rest z.0 z.1 z.2 v (typed_result core ann needs objects x v typed k.call.ty k.result) z.3 z.4
 
 -- ---- each kind of method
 
@@ -471,16 +466,8 @@ module _
           rw top.is (fun_back x.kind refl kind top.top (length top.below) res.0 below typed
           (subst (λ (l : ℕ). Fits w (OnStack around.actor (suc (length gs)) (length top.below) l) res.0.1 top.top) (base_zero s.active.holds.base) stack.0) alias s.wait.2.entered)
       leave_in method.New is =
-          let own : e.own ≡ r.held.own = same_Some e.own r.held.own (sym e.is_own ∙ r.held.is_own) in
           let fits : ResultFits method.New e.own = subst (λ (k : MethodKind). ResultFits k e.own) is (needs.formed.methods f.method e.own e.is_own).result_fits in
-          let kept = subst (λ (y : Method). (entity_of around.objects r.held.this ≡ Some y.entity) × OfKind core y.entity r.held.this) (sym own) (r.held.this_ok.is_entity, r.held.this_ok.kind) in
-          let typed : OfType core around.objects e.own.result r.held.this = record {
-            entity = e.own.entity;
-            is_entity = kept.0;
-            below = inl (sym fits.1);
-            kind = kept.1;
-            finished = λ z. built core ann needs around f (g ∷ gs) r e (ap constructs is);
-          } in
+          let typed : OfType core around.objects e.own.result r.held.this = built_typed core ann needs around f (g ∷ gs) r e is in
           let kind : x.kind ≡ method.New = ap (λ (z : Method). z.kind) (sym is_x) ∙ is in
           let this : Fits w (InSlot around.actor (suc (length gs)) 0 s.active.holds.base) form.Ref r.held.this =
           subst (λ (c : Cap). Fits w (InSlot around.actor (suc (length gs)) 0 s.active.holds.base) (unalias c) r.held.this) fits.0 (s.active.holds.this_fits e.own r.held.this e.is_own r.held.is_this) in
@@ -504,7 +491,3 @@ module _ (climbs : (core : CoreData) (ann : Ann) → Needs core ann → ClimbLaw
   pub return_regions : KeepsRegions task.Return
   return_regions core ann needs around f [] r e w s = rw e.is_own (last_in climbs core ann needs around f w r e s e.own.kind refl)
   return_regions core ann needs around f (g ∷ gs) r e w s = rw e.is_own (leave_in climbs core ann needs around f w g gs r e s e.own.kind refl)
-
--- By the laws that stand.
-pub keeps_return : KeepsRegions task.Return
-keeps_return = return_regions (λ core ann needs. climb core ann needs settle (drops ends))

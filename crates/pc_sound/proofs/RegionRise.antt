@@ -1,43 +1,32 @@
 -- A value is pushed in a running frame, and goes up its way: the world that the climb leaves fits the frame that goes on.
-use Rattle.std.specs.Prelude.{◌≡◌, ℕ, ◌+◌, ◌<◌, ◌≤◌, Bool, true, false, not, ◌&&◌, ◌||◌, List, [], ◌∷◌, length, Option, Some, None, nat_eq, nat_lt, slice_get, refl}
+use Rattle.std.specs.Prelude.{◌≡◌, ℕ, ◌+◌, ◌<◌, ◌≤◌, Bool, true, false, not, ◌&&◌, ◌||◌, List, [], ◌∷◌, length, Option, Some, None, nat_eq, nat_lt, refl}
 use Rattle.std.proofs.Common.{ap, sym, subst, ◌∙◌, arith}
-use Rattle.std.proofs.lemmas.Bool.{ne_eqb, le-ltb}
-use Rattle.std.proofs.lemmas.Option.{same_Some}
+use Rattle.std.proofs.lemmas.Bool.{ne_eqb, le-ltb, or_from, and_right}
 use Rattle.pc_heap.specs.Objects.{ObjectMap}
 use Rattle.pc_heap.specs.declared.value.Value.{Value}
-use Rattle.pc_caps.specs.declared.capability.Cap.{Cap}
 use Rattle.pc_caps.specs.Tables.{unalias}
-use Rattle.pc_core.specs.declared.nodes.Slot.{Slot}
 use Rattle.pc_core.specs.CoreData.{CoreData}
-use Rattle.pc_core.specs.Members.{bind_some}
 use Rattle.pc_ann.specs.declared.mask.Mask.{Mask}
 use Rattle.pc_ann.specs.declared.annotation.Ann.{Ann}
-use Rattle.pc_ann.specs.Masks.{IsIn}
 use Rattle.pc_semantics.specs.declared.frames.Frame.{Frame}
 use Rattle.pc_semantics.specs.declared.frames.Task.{Task}
 use Rattle.pc_semantics.specs.Around.{Around, Goes}
-use Rattle.pc_rules.specs.Parts.{Ty, slot_of}
+use Rattle.pc_rules.specs.Parts.{Ty}
 use Rattle.pc_rules.specs.Threads.{false_true}
-use Rattle.pc_sound.specs.Types.{OfSome}
-use Rattle.pc_sound.specs.Tasks.{Within}
-use Rattle.pc_sound.specs.RegionWorld.{Place, InSlot, OnStack, InField, InMail, World, FitsSome, Alias, AliasSome, WorldOk}
-use Rattle.pc_sound.specs.RegionTasks.{Entry, Shallow, SlotsShallow, Rises, TasksRise, top_of, uses_top}
-use Rattle.pc_sound.specs.RegionFrames.{ThisFits, SlotsFit, StackFits, OpenedTo, WaitFits, FieldsFit, TopAlias}
-use Rattle.pc_sound.specs.RegionMoves.{elsewhere, Others, Turned, RegionMoveOk, Situated}
-use Rattle.pc_sound.specs.RegionPlaces.{Shifts}
-use Rattle.pc_sound.specs.RegionClimb.{passed, ClimbLaw}
+use Rattle.pc_sound.proofs.Types.{OfSome}
+use Rattle.pc_sound.proofs.Tasks.{Within}
+use Rattle.pc_sound.proofs.RegionWorld.{Place, InSlot, OnStack, InField, InMail, World, FitsSome, Alias, AliasSome, WorldOk}
+use Rattle.pc_sound.proofs.RegionTasks.{Entry, Shallow, SlotsShallow, Rises, TasksRise, top_of, uses_top}
+use Rattle.pc_sound.proofs.RegionFrames.{ThisFits, SlotsFit, StackFits, OpenedTo, WaitFits, FieldsFit, TopAlias}
+use Rattle.pc_sound.proofs.RegionMoves.{elsewhere, Others, Turned, RegionMoveOk, Situated}
+use Rattle.pc_sound.proofs.RegionPlaces.{Shifts}
+use Rattle.pc_sound.proofs.RegionClimbed.{passed, ClimbLaw}
 use Rattle.pc_sound.proofs.Basic.{within_trans}
-use Rattle.pc_sound.proofs.RegionShifts.{others_kept, fields_kept, below_kept}
+use Rattle.pc_sound.proofs.RegionShifts.{others_kept, fields_kept, below_kept, no_more}
+use Rattle.pc_sound.proofs.RegionContextLaws.{higher}
+use Rattle.pc_sound.proofs.RegionBelow.{slot_depth}
 
 -- ---- what is passed
-
-pub and_none : (a b : Bool) → b ≡ false → (a && b) ≡ false
-and_none true b e = e
-and_none false b e = refl
-
-pub or_none : (a b : Bool) → a ≡ false → b ≡ false → (a || b) ≡ false
-or_none true b e g = e
-or_none false b e g = g
 
 pub not_here : (a b : Bool) → not a ≡ true → (a && b) ≡ false
 not_here true b e = absurd (false_true e)
@@ -50,25 +39,23 @@ passed_elsewhere i h n k (OnStack j g d l) e = not_here (nat_eq i j) (nat_eq h g
 passed_elsewhere i h n k (InField a f) e = refl
 passed_elsewhere i h n k (InMail j t f) e = refl
 
+-- Nothing of other actors and of messages is at a higher level.
+pub higher_elsewhere : (i k : ℕ) (p : Place) → elsewhere i p ≡ true → higher i k p ≡ false
+higher_elsewhere i k (InSlot j h s l) e = not_here (nat_eq i j) (nat_lt k l) e
+higher_elsewhere i k (OnStack j h d l) e = not_here (nat_eq i j) (nat_lt k l) e
+higher_elsewhere i k (InField a n) e = refl
+higher_elsewhere i k (InMail j t n) e = refl
+
 pub lower_frame : (a : Bool) (h g : ℕ) (b : Bool) → g < h → (a && (nat_eq h g && b)) ≡ false
-lower_frame a h g b low = and_none a (nat_eq h g && b) (ap (λ (c : Bool). c && b) (ne_eqb h g (λ e. absurd (omega (arith, e, low)))))
+lower_frame a h g b low = and_right a (nat_eq h g && b) (ap (λ (c : Bool). c && b) (ne_eqb h g (λ e. absurd (omega (arith, e, low)))))
 
 pub slot_kept : (i h n k s l : ℕ) → l ≤ k → passed i h n k (InSlot i h s l) ≡ false
-slot_kept i h n k s l low = and_none (nat_eq i i) (nat_eq h h && nat_lt k l) (and_none (nat_eq h h) (nat_lt k l) (le-ltb k l low))
+slot_kept i h n k s l low = and_right (nat_eq i i) (nat_eq h h && nat_lt k l) (and_right (nat_eq h h) (nat_lt k l) (le-ltb k l low))
 
 pub stack_kept : (i h n k d l : ℕ) → d < n → l ≤ k → passed i h n k (OnStack i h d l) ≡ false
 stack_kept i h n k d l under low =
-    and_none (nat_eq i i) (nat_eq h h && (nat_eq n d || nat_lt k l)) (and_none (nat_eq h h) (nat_eq n d || nat_lt k l)
-    (or_none (nat_eq n d) (nat_lt k l) (ne_eqb n d (λ e. absurd (omega (arith, e, under)))) (le-ltb k l low)))
-
--- The depth of a live slot.
-pub slot_depth : (core : CoreData) (ann : Ann) (m s d : ℕ) (live : Mask) (y : Slot × (ℕ × Cap)) → SlotsShallow core m live d → IsIn live s → slot_of core ann m s ≡ Some y → y.0.depth ≤ d
-slot_depth core ann m s d live y flat is e =
-    let a = bind_some (slice_get core.methods m) _ y e in
-    let b = bind_some (slice_get core.slots (a.0.first_slot + s)) _ y a.2 in
-    let c = bind_some (slice_get ann.slots (a.0.first_slot + s)) _ y b.2 in
-    let at : b.0 ≡ y.0 = ap (λ (z : Slot × (ℕ × Cap)). z.0) (same_Some (b.0, c.0) y c.2) in
-    subst (λ (z : Slot). z.depth ≤ d) at (flat s a.0 b.0 is a.1 b.1)
+    and_right (nat_eq i i) (nat_eq h h && (nat_eq n d || nat_lt k l)) (and_right (nat_eq h h) (nat_eq n d || nat_lt k l)
+    (or_from (nat_eq n d) (nat_lt k l) (ne_eqb n d (λ e. absurd (omega (arith, e, under)))) (le-ltb k l low)))
 
 -- ---- the frame goes on
 
@@ -98,7 +85,7 @@ module _ (core : CoreData) (ann : Ann) (climb : ClimbLaw core) (objects : Object
 -- What was in a world, and then in one that came of it.
 pub others_both : (w v u : World) (i count : ℕ) → Others w v i count None → Others v u i count None → Others w u i count None
 others_both w v u i count x y = record {
-  fits = λ p f z e k. y.fits p f z e (x.fits p f z e k);
+  fits = λ p f z e a k. y.fits p f z e a (x.fits p f z e a k);
   sent = λ j there. let one = x.sent j there in let more = y.sent j there in omega (arith, one, more);
   top = λ j there n. y.top j there n ∙ x.top j there n;
   opened = λ j l there n e. y.opened j l there n (x.opened j l there n e);
@@ -161,13 +148,10 @@ module _ (core : CoreData) (ann : Ann) (climb : ClimbLaw core) (objects : Object
 
 -- ---- the world stays
 
-no_more : (n m : ℕ) → n ≡ m → n ≡ m + 0
-no_more n m e = omega (arith, e)
-
 module _ (core : CoreData) (ann : Ann) (around : Around) (f : Frame) (ts : List Task) (fs : List Frame) (w : World) (s : Situated core ann w around f ts fs) where
   same_others : Others w w around.actor around.actors None
   same_others = record {
-    fits = λ p g v e k. k;
+    fits = λ p g v e a k. k;
     sent = λ j there. no_more (w.sent j) (w.sent j) refl;
     top = λ j there n. refl;
     opened = λ j l there n e. e;

@@ -1,11 +1,9 @@
 -- What the rules of calls say of forms.
-use Rattle.std.specs.Prelude.{◌≡◌, ◌⊎◌, ℕ, Bool, true, false, ◌&&◌, not, Option, Some, None, slice_get}
+use Rattle.std.specs.Prelude.{◌≡◌, ◌⊎◌, ℕ, true, ◌&&◌, not, Some, slice_get}
 use Rattle.std.proofs.Common.{inl, inr}
 use Rattle.std.proofs.lemmas.Bool.{and_parts}
 use Rattle.pc_caps.specs.Tables.{fits, unalias}
 use Rattle.pc_caps.specs.Order.{is_below}
-use Rattle.pc_caps.specs.declared.capability.Form.TheVariants as form
-use Rattle.pc_core.specs.declared.declarations.Method.{Method}
 use Rattle.pc_core.specs.declared.declarations.MethodKind.TheVariants as method
 use Rattle.pc_core.specs.declared.nodes.Node.{Node}
 use Rattle.pc_core.specs.declared.nodes.NodeKind.TheVariants as nodes
@@ -13,7 +11,7 @@ use Rattle.pc_core.specs.CoreData.{CoreData}
 use Rattle.pc_core.specs.Members.{bind_some}
 use Rattle.pc_ann.specs.declared.annotation.Note.{Note}
 use Rattle.pc_ann.specs.declared.annotation.Ann.{Ann}
-use Rattle.pc_rules.specs.Parts.{Ty, says_of, before, through}
+use Rattle.pc_rules.specs.Parts.{says_of, before, through}
 use Rattle.pc_rules.specs.Calls.{arguments, arguments_go, arguments_sendable, called, is_function, is_isolated, is_lent, lends, calls, recovers, recovered_result, call_says, callrecover_says}
 use Rattle.pc_rules.specs.Rules.{said_by, Meets}
 use Rattle.pc_rules.specs.Threads.{kept}

@@ -1,5 +1,5 @@
 -- A message is sent: there is one more for its actor, and all else is as it was.
-use Rattle.std.specs.Prelude.{◌≡◌, ◌≢◌, ◌⊎◌, ℕ, suc, ◌+◌, ◌<◌, ◌≤◌, Bool, true, false, cond, List, length, Option, Some, None, nat_eq, slice_get, refl}
+use Rattle.std.specs.Prelude.{◌≡◌, ℕ, suc, ◌+◌, Bool, true, false, cond, List, length, Option, Some, nat_eq, refl}
 use Rattle.std.proofs.Common.{inl, inr, ap, sym, subst, ◌∙◌, arith}
 use Rattle.std.proofs.lemmas.Bool.{eqb-true}
 use Rattle.pc_heap.specs.Objects.{ObjectMap}
@@ -12,11 +12,10 @@ use Rattle.pc_core.specs.CoreData.{CoreData}
 use Rattle.pc_ann.specs.declared.mask.Mask.{Mask}
 use Rattle.pc_ann.specs.declared.annotation.Ann.{Ann}
 use Rattle.pc_semantics.specs.declared.frames.Frame.{Frame}
-use Rattle.pc_sound.specs.RegionWorld.{Place, InSlot, OnStack, InField, InMail, Opened, World, home, Frozen, ice, in_ice, under_ice, Seen, same, under, frozen, Over, over_loose, over_slot, over_own, over_field, over_part, over_child, FitsIn, Fits, AliasIn, Alias, WorldOk}
-use Rattle.pc_sound.specs.RegionTasks.{Entry}
-use Rattle.pc_sound.specs.RegionFrames.{FieldsFit}
-use Rattle.pc_sound.specs.RegionPlaces.{with_number}
-use Rattle.pc_sound.specs.RegionMoves.{one_more, Others}
+use Rattle.pc_sound.proofs.RegionWorld.{Place, InSlot, OnStack, InField, InMail, World, home, Frozen, ice, in_ice, under_ice, Seen, same, under, frozen, Over, over_loose, over_slot, over_own, over_field, over_part, over_child, FitsIn, Fits, AliasIn, Alias, WorldOk}
+use Rattle.pc_sound.proofs.RegionTasks.{Entry}
+use Rattle.pc_sound.proofs.RegionPlaces.{with_number}
+use Rattle.pc_sound.proofs.RegionMoves.{Others}
 use Rattle.pc_sound.proofs.RegionBelow.{stack_fits, wait_kept}
 use Rattle.pc_sound.proofs.RegionRise.{Pushes}
 
@@ -97,7 +96,7 @@ module _ (w : World) (to : ℕ) where
 
   pub others_mailed : (i count : ℕ) → Others w (mailed w to) i count (Some to)
   others_mailed i count = record {
-    fits = λ p f v e k. fits_on p f v k;
+    fits = λ p f v e a k. fits_on p f v k;
     sent = λ j there. numbered j (nat_eq to j) refl;
     top = λ j there n. refl;
     opened = λ j l there n e. e;
@@ -117,6 +116,9 @@ module _ (w : World) (to : ℕ) where
     regions = ok.regions;
     parents = ok.parents;
     holders = ok.holders;
+    absent = ok.absent;
+    present = ok.present;
+    homes = ok.homes;
   }
 
   pub pushes_mailed : (core : CoreData) (ann : Ann) (objects : ObjectMap) (count i m base d : ℕ) (live : Mask) (below : List Entry) (slots : List (Option Value)) (vs : List Value) (fs : List Frame)

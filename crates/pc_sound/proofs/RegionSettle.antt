@@ -14,48 +14,22 @@ use Rattle.pc_caps.specs.Tables.{sendable_form}
 use Rattle.pc_caps.specs.declared.capability.Form.{Form}
 use Rattle.pc_caps.specs.declared.capability.Form.TheVariants as form
 use Rattle.pc_rules.specs.Threads.{false_true}
-use Rattle.pc_sound.specs.RegionWorld.{Place, InSlot, OnStack, InField, InMail, Standing, Unused, Froze, Opened, Loose, Held, Child, World, home, Frozen, ice, in_ice, under_ice, Belongs, opened, loose, slot, stack, field, child, Seen, same, under, frozen, steady, Over, over_loose, over_slot, over_own, over_field, over_part, over_child, FitsIn, Fits, AliasIn, Alias, WorldOk}
-use Rattle.pc_sound.specs.RegionPlaces.{standing, renamed, child_renamed, merged, Shifts}
-use Rattle.pc_sound.specs.RegionSettle.{Lands, NearTrn, Near, Settled, SettleLaw, Taken, FreeIn, Free, Takes, TakeLaw}
+use Rattle.pc_sound.proofs.RegionWorld.{Place, InSlot, OnStack, InField, InMail, Standing, Unused, Froze, Opened, Loose, Held, Child, World, home, Frozen, ice, Belongs, stack, child, Seen, same, under, frozen, steady, Over, over_loose, over_slot, over_own, over_field, over_part, over_child, FitsIn, Fits, AliasIn, Alias, WorldOk}
+use Rattle.pc_sound.proofs.RegionPlaces.{standing, renamed, child_renamed, merged}
+use Rattle.pc_sound.proofs.RegionSettled.{Lands, NearTrn, Near, Settled, SettleLaw}
 use Rattle.pc_sound.proofs.RegionSafe.{not_frozen, context_belongs}
-use Rattle.pc_sound.proofs.RegionStands.{stand_here, stand_other, none_over_stack}
+use Rattle.pc_sound.proofs.RegionStands.{stand_here, stand_other, none_over_stack, home_standing}
 use Rattle.pc_sound.proofs.RegionStands as stands
 use Rattle.pc_sound.proofs.RegionMerge as merge
+use Rattle.pc_sound.proofs.RegionShifts.{shifts_none}
 
--- ---- nothing changes
+-- ---- how regions stand
 
-pub shifts_none : (w : World) (objects : ObjectMap) (count i b : ℕ) (gone : Place → Bool) → WorldOk w objects count → Shifts w w objects count i b gone
-shifts_none w objects count i b gone ok = record {
-  world = ok;
-  fits = λ p f v n k. k;
-  sent = λ j. refl;
-  top = λ j n. refl;
-  context = λ l n. refl;
-  contexts = λ j l there n t. refl;
-  opened = λ j l n e. e;
-  alias = λ j c f v there n a. a;
-  over = λ j m l there n o. o;
-  low = λ m l n k o. o;
-}
+pub no_place : (u n : ℕ) (at : Option Place) (b : Address) → Child u at ≡ Held (InField b n) → ⊥
+no_place u n at b e = cc
 
--- A shift of a frame of one level is one of a lower level, and one that leaves more.
-pub shifts_less : (w w' : World) (objects : ObjectMap) (count i b c : ℕ) (gone more : Place → Bool) → c ≤ b → ((p : Place) → more p ≡ false → gone p ≡ false) → Shifts w w' objects count i b gone → Shifts w w' objects count i c more
-shifts_less w w' objects count i b c gone more low far x = record {
-  world = x.world;
-  fits = λ p f v n k. x.fits p f v (far p n) k;
-  sent = x.sent;
-  top = x.top;
-  context = λ l n. x.context l (omega (arith, n, low));
-  contexts = x.contexts;
-  opened = λ j l n e. x.opened j l (lower n) e;
-  alias = x.alias;
-  over = x.over;
-  low = λ m l n k o. x.low m l (omega (arith, n, low)) (omega (arith, k, low)) o;
-}
-  where
-    lower : {j l : ℕ} → (i ≢ j) ⊎ (l ≤ c) → (i ≢ j) ⊎ (l ≤ b)
-    lower (inl n) = inl n
-    lower (inr n) = inr (omega (arith, n, low))
+pub held_no_child : (p : Place) (u : ℕ) (at : Option Place) → Held p ≡ Child u at → ⊥
+held_no_child p u at e = cc
 
 -- ---- the region of what a stack owns
 
@@ -82,12 +56,6 @@ no_alias w j c k (Num n) = tt
 no_alias w j c k (Truth t) = tt
 no_alias w j c k (Text t) = tt
 no_alias w j c k (Prim n) = tt
-
-home_standing : (w : World) (q : ℕ) (s : Standing) (p : Place) → home (standing w q s) p ≡ home w p
-home_standing w q s (InSlot j h t l) = refl
-home_standing w q s (OnStack j h d l) = refl
-home_standing w q s (InField a k) = refl
-home_standing w q s (InMail j t k) = refl
 
 module _
     (w : World) (objects : ObjectMap) (count : ℕ) (ok : WorldOk w objects count) (i : ℕ) (here : i < count) (h d l : ℕ) (level : l ≤ w.top i)
@@ -146,14 +114,14 @@ module _
 
     module _
         (s : Standing) (seen : (c u : ℕ) (at : Option Place) → w.stands q ≡ Child u at → Seen (standing w q s) c u → Seen (standing w q s) c q)
-        (parent : (u : ℕ) (at : Option Place) → s ≡ Child u at → u < w.next) (holder : (a : Address) (k : ℕ) → s ≡ Held (InField a k) → (o : Object) × (get objects a ≡ Some o))
+        (parent : (u : ℕ) (at : Option Place) → s ≡ Child u at → u < w.next) (holder : (a : Address) (k : ℕ) → s ≡ Held (InField a k) → (o : Object) × (get objects a ≡ Some o)) (alive : s ≡ Unused → ⊥)
       where
         stays : (x : ℕ) → (q ≡ x → ⊥) → (standing w q s).stands x ≡ w.stands x
         stays x n = stand_other w.stands q s x n
 
         over_on : (j : ℕ) {x m : ℕ} → Over w j x m → Over (standing w q s) j x m
         over_on j {x} {m} o =
-            stands.over_through w objects count ok i here (w.top i) gone q s (mine_if own) warm (shut_if own) (held_if own) (part_if own) (λ n low k. free_if own i n k) (λ n up down. absurd (omega (arith, up, down))) seen parent holder j m
+            stands.over_through w objects count ok i here (w.top i) gone q s (mine_if own) warm (shut_if own) (held_if own) (part_if own) (λ n low k. free_if own i n k) (λ n up down. absurd (omega (arith, up, down))) seen parent holder alive j m
             (λ y k is. free_if own j m (subst (λ (z : ℕ). Over w j z m) (sym is) k)) o
 
         alias_in : (j c k : ℕ) (f : Form) (x : ℕ) → AliasIn w j c k f x → AliasIn (standing w q s) j c k f x
@@ -181,7 +149,7 @@ module _
             → ((c : ℕ) → c ≤ w.top i → (g ≡ form.Trn → home w to ≡ w.context i (w.top i)) → Alias w i c (w.top i) f v → Alias (standing w q s) i c (w.top i) g v)
             → Settled w (standing w q s) objects count i gone f g to v
         standing_settles f g to v fits fresh = record {
-          shifts = stands.standing_shifts w objects count ok i here (w.top i) gone q s (mine_if own) warm (shut_if own) (held_if own) (part_if own) (λ n low k. free_if own i n k) (λ n up down. absurd (omega (arith, up, down))) seen parent holder;
+          shifts = stands.standing_shifts w objects count ok i here (w.top i) gone q s (mine_if own) warm (shut_if own) (held_if own) (part_if own) (λ n low k. free_if own i n k) (λ n up down. absurd (omega (arith, up, down))) seen parent holder alive;
           role = λ x. refl;
           context = λ j m there t. refl;
           top = λ j. refl;
@@ -195,18 +163,18 @@ module _
     -- ---- it becomes a part of r
 
     module _
-        (r : ℕ) (apart : q ≡ r → ⊥) (used : r < w.next)
+        (r : ℕ) (apart : q ≡ r → ⊥) (used : r < w.next) (alive : w.stands r ≡ Unused → ⊥)
         (seen : (c u : ℕ) (at : Option Place) → w.stands q ≡ Child u at → Seen (merged w q r) c (renamed q r u) → Seen (merged w q r) c r)
       where
         merged_settles : (f : Form) (to : Place) (v : Value) → Fits (merged w q r) to form.Ref v → Settled w (merged w q r) objects count i gone f form.Ref to v
         merged_settles f to v fits = record {
-          shifts = merge.merged_shifts w objects count ok i here (w.top i) (omega arith) gone q r apart used plain (mine_if own) warm (shut_if own) (held_if own) (part_if own) (free_if own) (unsteady_if own) seen;
+          shifts = merge.merged_shifts w objects count ok i here (w.top i) (omega arith) gone q r apart used alive plain (mine_if own) warm (shut_if own) (held_if own) (part_if own) (free_if own) (unsteady_if own) seen;
           role = λ x. refl;
-          context = λ j m there t. merge.context_same w objects count ok i here (w.top i) (omega arith) gone q r apart used plain (mine_if own) warm (shut_if own) (held_if own) (part_if own) (free_if own) (unsteady_if own) seen j m there t;
+          context = λ j m there t. merge.context_same w objects count ok i here (w.top i) (omega arith) gone q r apart used alive plain (mine_if own) warm (shut_if own) (held_if own) (part_if own) (free_if own) (unsteady_if own) seen j m there t;
           top = λ j. refl;
-          opened = λ x j e. merge.opened_on w objects count ok i here (w.top i) (omega arith) gone q r apart used plain (mine_if own) warm (shut_if own) (held_if own) (part_if own) (free_if own) (unsteady_if own) seen x j e;
-          over = λ j {q = x} {l = m} o. merge.over_on w objects count ok i here (w.top i) (omega arith) gone q r apart used plain (mine_if own) warm (shut_if own) (held_if own) (part_if own) (free_if own) (unsteady_if own) seen j m o;
-          alias = λ j c k g u there t a. merge.alias_on w objects count ok i here (w.top i) (omega arith) gone q r apart used plain (mine_if own) warm (shut_if own) (held_if own) (part_if own) (free_if own) (unsteady_if own) seen j c k g u a;
+          opened = λ x j e. merge.opened_on w objects count ok i here (w.top i) (omega arith) gone q r apart used alive plain (mine_if own) warm (shut_if own) (held_if own) (part_if own) (free_if own) (unsteady_if own) seen x j e;
+          over = λ j {q = x} {l = m} o. merge.over_on w objects count ok i here (w.top i) (omega arith) gone q r apart used alive plain (mine_if own) warm (shut_if own) (held_if own) (part_if own) (free_if own) (unsteady_if own) seen j m o;
+          alias = λ j c k g u there t a. merge.alias_on w objects count ok i here (w.top i) (omega arith) gone q r apart used alive plain (mine_if own) warm (shut_if own) (held_if own) (part_if own) (free_if own) (unsteady_if own) seen j c k g u a;
           fits = fits;
           fresh = λ c low at b. no_alias (merged w q r) i c (w.top i) v;
         }
@@ -225,6 +193,12 @@ module _
     landed_used g (OnStack j k t m) x n = subst (λ (y : ℕ). w.context y m < w.next) (sym x.0) (context_used m x.1)
     landed_used g (InField b k) x n = ok.regions b
     landed_used g (InMail j t k) x n = absurd (false_true (sym n ∙ x))
+
+    landed_alive : (g : Form) (to : Place) → Lands w objects i at_stack g to → sendable_form g ≡ false → w.stands (home w to) ≡ Unused → ⊥
+    landed_alive g (InSlot j k t m) x n = subst (λ (y : ℕ). w.stands (w.context y m) ≡ Unused → ⊥) (sym x.0) (ok.homes i m here)
+    landed_alive g (OnStack j k t m) x n = subst (λ (y : ℕ). w.stands (w.context y m) ≡ Unused → ⊥) (sym x.0) (ok.homes i m here)
+    landed_alive g (InField b k) x n = ok.present b x.0.0 x.0.1
+    landed_alive g (InMail j t k) x n = absurd (false_true (sym n ∙ x))
 
     target_apart : (b : Address) → OwnedBy w at_stack q → (w.stands (w.region b) ≢ Held at_stack) → ((u : ℕ) → w.stands (w.region b) ≢ Child u (Some at_stack)) → q ≡ w.region b → ⊥
     target_apart b (inl e) x y is = x (ap w.stands (sym is) ∙ e)
@@ -250,14 +224,8 @@ module _
     is_there : (s : Standing) → (standing w q s).stands q ≡ s
     is_there s = stand_here w.stands q s
 
-    no_place : (u n : ℕ) (at : Option Place) (b : Address) → Child u at ≡ Held (InField b n) → ⊥
-    no_place u n at b e = cc
-
     parent_is : (u v : ℕ) (at to : Option Place) → Child u at ≡ Child v to → u < w.next → v < w.next
     parent_is u v at to e x = let is : u ≡ v = cc in subst (λ (y : ℕ). y < w.next) is x
-
-    held_no_child : (p : Place) (u : ℕ) (at : Option Place) → Held p ≡ Child u at → ⊥
-    held_no_child p u at e = cc
 
     module _
         (to : Place) (f : Form) (seen_held : (c u : ℕ) (at : Option Place) (s : Standing) → w.stands q ≡ Child u at → Seen (standing w q s) c u → Seen (standing w q s) c (home w to))
@@ -270,7 +238,7 @@ module _
             → ((c : ℕ) → c ≤ w.top i → (g ≡ form.Trn → home w to ≡ w.context i (w.top i)) → AliasIn w i c (w.top i) f q → AliasIn (standing w q (Child (home w to) at)) i c (w.top i) g q)
             → Settled w (standing w q (Child (home w to) at)) objects count i gone f g to (At a)
         as_child at g lands n fits fresh =
-            standing_settles (Child (home w to) at) (below at) (λ u to' e. parent_is (home w to) u at to' e (landed_used g to lands n)) (λ b k e. absurd (no_place (home w to) k at b e)) f g to (At a) fits fresh
+            standing_settles (Child (home w to) at) (below at) (λ u to' e. parent_is (home w to) u at to' e (landed_used g to lands n)) (λ b k e. absurd (no_place (home w to) k at b e)) (λ e. cc) f g to (At a) fits fresh
 
         seen_so : (at : Option Place) → Seen (standing w q (Child (home w to) at)) (home (standing w q (Child (home w to) at)) to) q
         seen_so at = under (home w to) at (is_there (Child (home w to) at)) (same (sym (home_standing w q (Child (home w to) at) to)))
@@ -288,7 +256,7 @@ module _
 
     to_val : (f : Form) (to : Place) → Settled w (standing w q Froze) objects count i gone f form.Val to (At a)
     to_val f to =
-        standing_settles Froze (λ c u at e k. frozen (ice (is_there Froze))) (λ u at e. absurd (no_parent u at e)) (λ b k e. absurd (no_hold b k e)) f form.Val to (At a) (ice (is_there Froze)) (λ c low near b. tt)
+        standing_settles Froze (λ c u at e k. frozen (ice (is_there Froze))) (λ u at e. absurd (no_parent u at e)) (λ b k e. absurd (no_hold b k e)) (λ e. cc) f form.Val to (At a) (ice (is_there Froze)) (λ c low near b. tt)
       where
         no_parent : (u : ℕ) (at : Option Place) → Froze ≡ Child u at → ⊥
         no_parent u at e = cc
@@ -301,7 +269,7 @@ module _
         → Settled w (merged w q (home w to)) objects count i gone f form.Ref to (At a)
     to_ref f to lands seen =
         let apart = landed_apart form.Ref to lands refl in
-        merged_settles (home w to) apart (landed_used form.Ref to lands refl) seen f to (At a)
+        merged_settles (home w to) apart (landed_used form.Ref to lands refl) (landed_alive form.Ref to lands refl) seen f to (At a)
         (merge.renamed_here q (home w to) q refl ∙ sym (home_merged to apart))
       where
         nothing : q ≡ 0 → ⊥
@@ -319,7 +287,7 @@ module _
         → ((c : ℕ) → c ≤ w.top i → (g ≡ form.Trn → home w to ≡ w.context i (w.top i)) → AliasIn w i c (w.top i) form.IsoE q → AliasIn (standing w q (Loose i (w.top i))) i c (w.top i) g q)
         → Settled w (standing w q (Loose i (w.top i))) objects count i gone form.IsoE g to (At a)
     to_loose g to e fits fresh =
-        standing_settles (Loose i (w.top i)) (λ c u at f k. absurd (not_child (w.stands q) u at e f)) (λ u at f. absurd (no_parent u at f)) (λ b k f. absurd (no_hold b k f)) form.IsoE g to (At a) fits fresh
+        standing_settles (Loose i (w.top i)) (λ c u at f k. absurd (not_child (w.stands q) u at e f)) (λ u at f. absurd (no_parent u at f)) (λ b k f. absurd (no_hold b k f)) (λ e. cc) form.IsoE g to (At a) fits fresh
       where
         no_parent : (u : ℕ) (at : Option Place) → Loose i (w.top i) ≡ Child u at → ⊥
         no_parent u at f = cc
@@ -333,7 +301,7 @@ module _
     from_iso : (g : Form) (to : Place) → w.stands q ≡ Held at_stack → Lands w objects i at_stack g to → (w' : World) × Settled w w' objects count i gone form.IsoE g to (At a)
     from_iso form.IsoE to e lands = (
       standing w q (Held to),
-      standing_settles (Held to) (λ c u at f k. absurd (not_child (w.stands q) u at e f)) (λ u at f. absurd (held_no_child to u at f)) (landed_holder form.IsoE to lands) form.IsoE form.IsoE to (At a) (is_there (Held to)) (λ c low near b. tt),
+      standing_settles (Held to) (λ c u at f k. absurd (not_child (w.stands q) u at e f)) (λ u at f. absurd (held_no_child to u at f)) (landed_holder form.IsoE to lands) (λ e. cc) form.IsoE form.IsoE to (At a) (is_there (Held to)) (λ c low near b. tt),
     )
     from_iso form.TrnE to e lands = (standing w q (Child (home w to) (Some to)), to_trn_own to form.IsoE (λ c u at s f k. absurd (not_child (w.stands q) u at e f)) lands)
     from_iso form.Iso to e lands = (
@@ -385,7 +353,7 @@ module _
       standing w q (Child (w.context i l) None),
       standing_settles (Child (w.context i l) None)
           (λ c u at f k. under (w.context i l) None (is_there (Child (w.context i l) None)) (subst (Seen (standing w q (Child (w.context i l) None)) c) (sym (child_is u at (w.stands q) e f)) k))
-          (λ u at f. parent_is (w.context i l) u None at f (context_used l level)) (λ b k f. absurd (no_place (w.context i l) k None b f)) form.TrnE form.Tag to (At a) tt (λ c low near' b. tt),
+          (λ u at f. parent_is (w.context i l) u None at f (context_used l level)) (λ b k f. absurd (no_place (w.context i l) k None b f)) (λ e. cc) form.TrnE form.Tag to (At a) tt (λ c low near' b. tt),
     )
 
 -- ---- what is shared only comes
@@ -460,105 +428,3 @@ module _ (w : World) (objects : ObjectMap) (count : ℕ) (ok : WorldOk w objects
 
 pub settle : SettleLaw
 settle w objects count ok i here h d l level gone left to f g v n fits near lands = settle_value w objects count ok i here h d l level gone left to f g v n fits near lands
-
--- ---- taking
-
-module _
-    (w : World) (objects : ObjectMap) (count : ℕ) (ok : WorldOk w objects count) (i : ℕ) (here : i < count) (b : ℕ)
-    (above : (j : ℕ) → b < j → j ≤ w.top i → w.stands (w.context i j) ≡ Opened i) (p : Place) (gone : Place → Bool) (left : gone p ≡ true)
-    (h d l : ℕ) (level : l ≤ w.top i)
-  where
-    module _ (a : Address) (own : OwnedBy w p (w.region a)) (free : FreeIn w i b (w.region a)) where
-      shut_of : OwnedBy w p (w.region a) → (j : ℕ) → w.stands (w.region a) ≡ Opened j → ⊥
-      shut_of (inl e) j f = cc
-      shut_of (inr e) j f = cc
-
-      held_of : OwnedBy w p (w.region a) → (t : Place) → w.stands (w.region a) ≡ Held t → gone t ≡ true
-      held_of (inl e) t f = let is : p ≡ t = cc in ap gone (sym is) ∙ left
-      held_of (inr e) t f = absurd (cc)
-
-      part_of : OwnedBy w p (w.region a) → (u : ℕ) (t : Place) → w.stands (w.region a) ≡ Child u (Some t) → gone t ≡ true
-      part_of (inl e) u t f = absurd (cc)
-      part_of (inr e) u t f = let is : p ≡ t = cc in ap gone (sym is) ∙ left
-
-      module _
-          (f : Form) (s : Standing) (seen : (c u : ℕ) (at : Option Place) → w.stands (w.region a) ≡ Child u at → Seen (standing w (w.region a) s) c u → Seen (standing w (w.region a) s) c (w.region a))
-          (parent : (u : ℕ) (at : Option Place) → s ≡ Child u at → u < w.next) (holder : (c : Address) (k : ℕ) → s ≡ Held (InField c k) → (o : Object) × (get objects c ≡ Some o))
-        where
-          taken : Fits (standing w (w.region a) s) (OnStack i h d l) f (At a) → Taken w (standing w (w.region a) s) objects count i b gone f (OnStack i h d l) (At a)
-          taken fits = record {
-            shifts = stands.standing_shifts w objects count ok i here b gone (w.region a) s free.0 (λ x. not_frozen w free.0 x) (shut_of own) (held_of own) (part_of own) free.1 above seen parent holder;
-            region = refl;
-            role = λ q. refl;
-            context = λ j m there t. refl;
-            top = λ j. refl;
-            opened = λ q j e. stand_other w.stands (w.region a) s q (λ is. shut_of own j (ap w.stands is ∙ e)) ∙ e;
-            fits = fits;
-          }
-
-    to_stack : (c : Address) (k : ℕ) → Held (OnStack i h d l) ≡ Held (InField c k) → ⊥
-    to_stack c k e = cc
-
-    not_part : (s : Standing) (u : ℕ) (at : Option Place) → s ≡ Held p → s ≡ Child u at → ⊥
-    not_part s u at e f = cc
-
-    part_is : (s : Standing) (v u : ℕ) (at : Option Place) → s ≡ Child v (Some p) → s ≡ Child u at → v ≡ u
-    part_is s v u at e f = cc
-
-    no_field : (u n : ℕ) (at : Option Place) (c : Address) → Child u at ≡ Held (InField c n) → ⊥
-    no_field u n at c e = cc
-
-    no_part : (t : Place) (u : ℕ) (at : Option Place) → Held t ≡ Child u at → ⊥
-    no_part t u at e = cc
-
-    child_of : (u v : ℕ) (at to : Option Place) → Child u at ≡ Child v to → u ≡ v
-    child_of u v at to e = cc
-
-    context_low : w.context i l < w.next
-    context_low =
-        elim (cases_lt (w.context i l) w.next) [
-          | inl low ↦ low
-          | inr high ↦ absurd (none-some (i, l) (sym (ok.unused (w.context i l) high).1 ∙ ok.named i l here level))
-        ]
-
-    take_at : (f : Form) (a : Address) → FitsIn w p f (w.region a) → FreeIn w i b (w.region a) → Takes w p f (OnStack i h d l) → (w' : World) × Taken w w' objects count i b gone f (OnStack i h d l) (At a)
-    take_at form.IsoE a e free t = (
-      standing w (w.region a) (Held (OnStack i h d l)),
-      taken a (inl e) free form.IsoE (Held (OnStack i h d l)) (λ c u at f k. absurd (not_part (w.stands (w.region a)) u at e f)) (λ u at f. absurd (no_part (OnStack i h d l) u at f)) (λ c k f. absurd (to_stack c k f))
-          (stand_here w.stands (w.region a) (Held (OnStack i h d l))),
-    )
-    take_at form.TrnE a e free t =
-        let s = Child (w.context i l) (Some (OnStack i h d l)) in (
-          standing w (w.region a) s,
-          taken a (inr e) free form.TrnE s
-              (λ c u at f k. under (w.context i l) (Some (OnStack i h d l)) (stand_here w.stands (w.region a) s) (subst (Seen (standing w (w.region a) s) c) (sym (part_is (w.stands (w.region a)) (home w p) u at e f) ∙ sym t) k))
-              (λ u at f. subst (λ (x : ℕ). x < w.next) (child_of (w.context i l) u (Some (OnStack i h d l)) at f) context_low) (λ c k f. absurd (no_field (w.context i l) k (Some (OnStack i h d l)) c f))
-              (stand_here w.stands (w.region a) s),
-        )
-    take_at form.Iso a e free t = absurd t
-    take_at form.Trn a e free t = absurd t
-    take_at form.Ref a e free t = absurd t
-    take_at form.Val a e free t = absurd t
-    take_at form.Box a e free t = absurd t
-    take_at form.Tag a e free t = absurd t
-
-    nothing_taken : (f : Form) (v : Value) → Fits w (OnStack i h d l) f v → Taken w w objects count i b gone f (OnStack i h d l) v
-    nothing_taken f v fits = record {
-      shifts = shifts_none w objects count i b gone ok;
-      region = refl;
-      role = λ q. refl;
-      context = λ j m there t. refl;
-      top = λ j. refl;
-      opened = λ q j e. e;
-      fits = fits;
-    }
-
-    take_value : (f : Form) (v : Value) → Fits w p f v → Free w i b v → Takes w p f (OnStack i h d l) → (w' : World) × Taken w w' objects count i b gone f (OnStack i h d l) v
-    take_value f (At a) fits free t = take_at f a fits free t
-    take_value f (Num n) fits free t = (w, nothing_taken f (Num n) tt)
-    take_value f (Truth n) fits free t = (w, nothing_taken f (Truth n) tt)
-    take_value f (Text n) fits free t = (w, nothing_taken f (Text n) tt)
-    take_value f (Prim n) fits free t = (w, nothing_taken f (Prim n) tt)
-
-pub take : TakeLaw
-take w objects count ok i here b above p gone left h d l level f v fits free t = take_value w objects count ok i here b above p gone left h d l level f v fits free t

@@ -9,11 +9,25 @@ use Rattle.pc_caps.specs.declared.capability.Cap.{Cap}
 use Rattle.pc_caps.specs.declared.capability.Cap.TheVariants as cap
 use Rattle.pc_caps.specs.declared.capability.Form.TheVariants as form
 use Rattle.pc_rules.specs.Threads.{false_true}
-use Rattle.pc_sound.specs.RegionWorld.{Place, InSlot, OnStack, Opened, Held, Child, World, slot, child, Seen, same, under, Over, over_slot, over_part, FitsIn, Fits, AliasIn, Alias, WorldOk}
-use Rattle.pc_sound.specs.RegionFrames.{OpenedTo}
-use Rattle.pc_sound.specs.RegionSettle.{FreeIn, Free}
+use Rattle.pc_sound.proofs.RegionWorld.{Place, InSlot, OnStack, Opened, Held, Child, World, slot, child, Seen, same, under, Over, over_slot, over_part, FitsIn, Fits, AliasIn, Alias, WorldOk}
+use Rattle.pc_sound.proofs.RegionFrames.{OpenedTo}
 use Rattle.pc_sound.proofs.RegionSafe.{one_actor, context_belongs, over_is_of}
 use Rattle.pc_sound.proofs.RegionStands.{one_level}
+use Rattle.pc_sound.proofs.RegionTaken.{FreeIn, Free}
+
+-- What may not be sent is of the same depth, so it lives with the same context.
+pub same_context : (w : World) (i base c d : ℕ) (k : Cap) → (c ≡ d) ⊎ (sendable k ≡ true) → sendable k ≡ false → w.context i (base + c) ≡ w.context i (base + d)
+same_context w i base c d k (inl e) bound = ap (λ (l : ℕ). w.context i (base + l)) e
+same_context w i base c d k (inr e) bound = absurd (false_true (sym bound ∙ e))
+
+pub held_shut : (w : World) (p : Place) (q : ℕ) → w.stands q ≡ Held p → (j : ℕ) → w.stands q ≡ Opened j → ⊥
+held_shut w p q e j g = cc
+
+pub held_no_part : (w : World) (p : Place) (q u : ℕ) (at : Option Place) → w.stands q ≡ Held p → w.stands q ≡ Child u at → ⊥
+held_no_part w p q u at e g = cc
+
+pub child_shut : (w : World) (q u : ℕ) (at : Option Place) → w.stands q ≡ Child u at → (j : ℕ) → w.stands q ≡ Opened j → ⊥
+child_shut w q u at e j g = cc
 
 module _ (w : World) (objects : ObjectMap) (count i base d : ℕ) (ok : WorldOk w objects count) (here : i < count) (top : w.top i ≡ base + d) (opened : OpenedTo w i base d) where
   -- What is no open region, and is at a level from that of the frame on, is no context.
@@ -49,29 +63,16 @@ module _ (w : World) (objects : ObjectMap) (count i base d : ℕ) (ok : WorldOk 
     child_over : (q : ℕ) → w.stands q ≡ Child (w.context i (base + c)) (Some (InSlot i h s (base + c))) → Over w i q (base + c)
     child_over q e = over_part (w.context i (base + c)) (Some (InSlot i h s (base + c))) e refl is_context
 
-    held_shut : (q : ℕ) → w.stands q ≡ Held (InSlot i h s (base + c)) → (j : ℕ) → w.stands q ≡ Opened j → ⊥
-    held_shut q e j g = cc
-
-    child_shut : (q u : ℕ) (at : Option Place) → w.stands q ≡ Child u at → (j : ℕ) → w.stands q ≡ Opened j → ⊥
-    child_shut q u at e j g = cc
-
-    held_no_child : (q u : ℕ) (at : Option Place) → w.stands q ≡ Held (InSlot i h s (base + c)) → w.stands q ≡ Child u at → ⊥
-    held_no_child q u at e g = cc
-
-    level_is : (k : Cap) → (c ≡ d) ⊎ (sendable k ≡ true) → sendable k ≡ false → w.context i (base + c) ≡ w.context i (base + d)
-    level_is k (inl e) bound = ap (λ (l : ℕ). w.context i (base + l)) e
-    level_is k (inr e) bound = absurd (false_true (sym bound ∙ e))
-
     read_in : (k : Cap) (q : ℕ) → (c ≡ d) ⊎ (sendable k ≡ true) → FitsIn w (InSlot i h s (base + c)) (unalias k) q → FitsIn w (OnStack i h n (base + d)) (plain k) q × AliasIn w i base (base + d) (plain k) q
-    read_in cap.Iso q near e = (tt, (no_role q (base + c) (slot_over q e) (omega arith) (held_shut q e), λ u at g. held_no_child q u at e g, base + c, omega arith, omega (arith, outer), slot_over q e))
+    read_in cap.Iso q near e = (tt, (no_role q (base + c) (slot_over q e) (omega arith) (held_shut w (InSlot i h s (base + c)) q e), λ u at g. held_no_part w (InSlot i h s (base + c)) q u at e g, base + c, omega arith, omega (arith, outer), slot_over q e))
     read_in cap.Trn q near e =
-        let is = level_is cap.Trn near refl in (
+        let is = same_context w i base c d cap.Trn near refl in (
           under (w.context i (base + c)) (Some (InSlot i h s (base + c))) e (same is),
-          (no_role q (base + c) (child_over q e) (omega arith) (child_shut q (w.context i (base + c)) (Some (InSlot i h s (base + c))) e), Some (InSlot i h s (base + c)), e ∙ ap (λ (u : ℕ). Child u (Some (InSlot i h s (base + c)))) is, refl),
+          (no_role q (base + c) (child_over q e) (omega arith) (child_shut w q (w.context i (base + c)) (Some (InSlot i h s (base + c))) e), Some (InSlot i h s (base + c)), e ∙ ap (λ (u : ℕ). Child u (Some (InSlot i h s (base + c)))) is, refl),
         )
-    read_in cap.Ref q near e = (e ∙ level_is cap.Ref near refl, tt)
+    read_in cap.Ref q near e = (e ∙ same_context w i base c d cap.Ref near refl, tt)
     read_in cap.Val q near e = (e, tt)
-    read_in cap.Box q near e = (subst (λ (u : ℕ). Seen w u q) (level_is cap.Box near refl) e, tt)
+    read_in cap.Box q near e = (subst (λ (u : ℕ). Seen w u q) (same_context w i base c d cap.Box near refl) e, tt)
     read_in cap.Tag q near e = (tt, tt)
 
     -- What is read of the slot in the plain form of its capability.

@@ -12,8 +12,8 @@ use Rattle.pc_heap.specs.declared.value.Value.TheVariants.{Num, Truth, Text, Pri
 use Rattle.pc_caps.specs.declared.capability.Form.{Form}
 use Rattle.pc_caps.specs.declared.capability.Form.TheVariants as form
 use Rattle.pc_rules.specs.Threads.{false_true}
-use Rattle.pc_sound.specs.RegionWorld.{Place, InSlot, OnStack, InField, InMail, Standing, Unused, Opened, Held, Child, World, home, Frozen, ice, in_ice, under_ice, Belongs, opened, loose, slot, stack, field, child, Seen, same, under, frozen, Over, over_loose, over_slot, over_own, over_field, over_part, over_child, FitsIn, Fits, AliasIn, Alias, WorldOk}
-use Rattle.pc_sound.specs.RegionPlaces.{stand, standing, Shifts}
+use Rattle.pc_sound.proofs.RegionWorld.{Place, InSlot, OnStack, InField, InMail, Standing, Unused, Froze, Opened, Held, Child, World, home, Frozen, ice, in_ice, under_ice, Belongs, opened, loose, slot, stack, field, child, Seen, same, under, frozen, Over, over_loose, over_slot, over_own, over_field, over_part, over_child, FitsIn, Fits, AliasIn, Alias, WorldOk}
+use Rattle.pc_sound.proofs.RegionPlaces.{stand, standing, Shifts}
 use Rattle.pc_sound.proofs.RegionSafe.{one_actor, context_belongs, over_is_of}
 
 pub stand_here : (f : ℕ → Standing) (q : ℕ) (s : Standing) → stand f q s q ≡ s
@@ -21,6 +21,28 @@ stand_here f q s = ap (λ (b : Bool). cond b s (f q)) (eq-eqb q q refl)
 
 pub stand_other : (f : ℕ → Standing) (q : ℕ) (s : Standing) (x : ℕ) → (q ≡ x → ⊥) → stand f q s x ≡ f x
 stand_other f q s x n = ap (λ (b : Bool). cond b s (f x)) (ne_eqb q x n)
+
+pub home_standing : (w : World) (q : ℕ) (s : Standing) (p : Place) → home (standing w q s) p ≡ home w p
+home_standing w q s (InSlot j h t l) = refl
+home_standing w q s (OnStack j h d l) = refl
+home_standing w q s (InField a k) = refl
+home_standing w q s (InMail j t k) = refl
+
+-- What belongs to an actor is in use.
+pub belongs_used : (w : World) (i x : ℕ) → Belongs w i x → w.stands x ≡ Unused → ⊥
+belongs_used w i x (opened e) u = cc
+belongs_used w i x (loose l e) u = cc
+belongs_used w i x (slot h t l e) u = cc
+belongs_used w i x (stack h d l e) u = cc
+belongs_used w i x (field a k e o) u = cc
+belongs_used w i x (child v at e o) u = cc
+
+-- What is held or frozen is in use.
+pub held_used : (p : Place) → Held p ≡ Unused → ⊥
+held_used p e = cc
+
+pub froze_used : Froze ≡ Unused → ⊥
+froze_used e = cc
 
 -- ---- levels
 
@@ -91,6 +113,8 @@ module _
     -- what it was seen from it is seen from, and its new parent or holder is there
     (seen : (c u : ℕ) (at : Option Place) → w.stands r ≡ Child u at → Seen (standing w r s) c u → Seen (standing w r s) c r)
     (parent : (u : ℕ) (at : Option Place) → s ≡ Child u at → u < w.next) (holder : (a : Address) (k : ℕ) → s ≡ Held (InField a k) → (o : Object) × (get objects a ≡ Some o))
+    -- it is in use still
+    (alive : s ≡ Unused → ⊥)
   where
     other : (x : ℕ) → (r ≡ x → ⊥) → (standing w r s).stands x ≡ w.stands x
     other x n = stand_other w.stands r s x n
@@ -133,20 +157,14 @@ module _
 
     -- ---- places
 
-    home_same : (p : Place) → home (standing w r s) p ≡ home w p
-    home_same (InSlot j h t l) = refl
-    home_same (OnStack j h d l) = refl
-    home_same (InField a k) = refl
-    home_same (InMail j t k) = refl
-
     fits_in : (p : Place) (f : Form) (q : ℕ) → gone p ≡ false → FitsIn w p f q → FitsIn (standing w r s) p f q
     fits_in p form.IsoE q g e = other q (λ is. false_true (sym g ∙ held p (ap w.stands is ∙ e))) ∙ e
-    fits_in p form.TrnE q g e = other q (λ is. false_true (sym g ∙ part (home w p) p (ap w.stands is ∙ e))) ∙ e ∙ ap (λ (c : ℕ). Child c (Some p)) (sym (home_same p))
+    fits_in p form.TrnE q g e = other q (λ is. false_true (sym g ∙ part (home w p) p (ap w.stands is ∙ e))) ∙ e ∙ ap (λ (c : ℕ). Child c (Some p)) (sym (home_standing w r s p))
     fits_in p form.Iso q g e = tt
-    fits_in p form.Trn q g e = subst (λ (c : ℕ). Seen (standing w r s) c q) (sym (home_same p)) (seen_on e)
-    fits_in p form.Ref q g e = e ∙ sym (home_same p)
+    fits_in p form.Trn q g e = subst (λ (c : ℕ). Seen (standing w r s) c q) (sym (home_standing w r s p)) (seen_on e)
+    fits_in p form.Ref q g e = e ∙ sym (home_standing w r s p)
     fits_in p form.Val q g e = frozen_on e
-    fits_in p form.Box q g e = subst (λ (c : ℕ). Seen (standing w r s) c q) (sym (home_same p)) (seen_on e)
+    fits_in p form.Box q g e = subst (λ (c : ℕ). Seen (standing w r s) c q) (sym (home_standing w r s p)) (seen_on e)
     fits_in p form.Tag q g e = tt
 
     fits_on : (p : Place) (f : Form) (v : Value) → gone p ≡ false → Fits w p f v → Fits (standing w r s) p f v
@@ -182,14 +200,6 @@ module _
     opened_on : (q j : ℕ) → w.stands q ≡ Opened j → (standing w r s).stands q ≡ Opened j
     opened_on q j e = other q (λ is. shut j (ap w.stands is ∙ e)) ∙ e
 
-    in_use : (x : ℕ) → Belongs w i x → w.stands x ≡ Unused → ⊥
-    in_use x (opened e) u = cc
-    in_use x (loose l e) u = cc
-    in_use x (slot h t l e) u = cc
-    in_use x (stack h d l e) u = cc
-    in_use x (field a k e o) u = cc
-    in_use x (child v at e o) u = cc
-
     context_on : (j l : ℕ) → j < count → l ≤ w.top j → ((w.stands (w.context j l) ≡ Opened j) ⊎ ((m : ℕ) × (m < l) × Over w j (w.context j l) m))
         → ((standing w r s).stands (w.context j l) ≡ Opened j) ⊎ ((m : ℕ) × (m < l) × Over (standing w r s) j (w.context j l) m)
     context_on j l there t (inl e) = inl (opened_on (w.context j l) j e)
@@ -204,6 +214,13 @@ module _
           | inr n ↦ inr (o.0, o.1, over_other j there n o.2)
         ]
 
+    used_on : (x : ℕ) → (w.stands x ≡ Unused → ⊥) → (standing w r s).stands x ≡ Unused → ⊥
+    used_on x used e =
+        elim (cases_eq r x) [
+          | inl is ↦ alive (sym (stand_here w.stands r s) ∙ ap (standing w r s).stands is ∙ e)
+          | inr n ↦ used (sym (other x n) ∙ e)
+        ]
+
     world_on : WorldOk (standing w r s) objects count
     world_on = record {
       zero = ok.zero;
@@ -212,7 +229,7 @@ module _
       root = λ j there. opened_on (w.context j 0) j (ok.root j there);
       own = ok.own;
       contexts = λ j l there t. context_on j l there t (ok.contexts j l there t);
-      unused = λ q more. (other q (λ is. in_use r mine (ap w.stands is ∙ (ok.unused q more).0)) ∙ (ok.unused q more).0, (ok.unused q more).1);
+      unused = λ q more. (other q (λ is. belongs_used w i r mine (ap w.stands is ∙ (ok.unused q more).0)) ∙ (ok.unused q more).0, (ok.unused q more).1);
       regions = ok.regions;
       parents = λ q u at e.
           elim (cases_eq r q) [
@@ -224,6 +241,9 @@ module _
             | inl is ↦ holder a k (sym (stand_here w.stands r s) ∙ ap (standing w r s).stands is ∙ e)
             | inr n ↦ ok.holders q a k (sym (other q n) ∙ e)
           ];
+      absent = λ a e. other (w.region a) (λ is. belongs_used w i r mine (ap w.stands is ∙ ok.absent a e)) ∙ ok.absent a e;
+      present = λ a o e u. used_on (w.region a) (ok.present a o e) u;
+      homes = λ j l there u. used_on (w.context j l) (ok.homes j l there) u;
     }
 
     pub standing_shifts : Shifts w (standing w r s) objects count i b gone

@@ -1,13 +1,14 @@
 -- Where a program begins has regions: the stream's and Main's are open, and the environment is frozen.
-use Rattle.std.specs.Prelude.{◌≡◌, ℕ, zero, suc, ◌<◌, ◌≤◌, Bool, true, false, List, [], ◌∷◌, Option, Some, None, nat_eq, cond, slice_get, refl}
+use Rattle.std.specs.Prelude.{◌≡◌, ◌⊎◌, ℕ, zero, suc, ◌<◌, ◌≤◌, Bool, true, false, List, [], ◌∷◌, Option, Some, None, nat_eq, cond, slice_get, refl}
 use Rattle.std.proofs.Common.{inl, inr, ap, sym, subst, ◌∙◌, arith}
+use Rattle.std.proofs.lemmas.Bool.{eqb-true}
 use Rattle.std.proofs.lemmas.Option.{same_Some, none-some}
-use Rattle.std.specs.FinMap.{empty, get-empty}
-use Rattle.pc_heap.specs.Objects.{address_cmp, ObjectMap}
+use Rattle.std.specs.FinMap.{empty, get, get-empty}
+use Rattle.pc_heap.specs.Objects.{address_cmp}
 use Rattle.pc_heap.specs.declared.value.Address.{Address}
 use Rattle.pc_heap.specs.declared.value.Object.{Object}
 use Rattle.pc_heap.specs.declared.value.Value.{Value}
-use Rattle.pc_heap.specs.declared.value.Value.TheVariants.{Num, Truth, Text, Prim, At}
+use Rattle.pc_heap.specs.declared.value.Value.TheVariants.{Prim, At}
 use Rattle.pc_caps.specs.Tables.{unalias}
 use Rattle.pc_caps.specs.declared.capability.Cap.{Cap}
 use Rattle.pc_caps.specs.declared.capability.Cap.TheVariants as cap
@@ -22,17 +23,18 @@ use Rattle.pc_core.specs.Formed.{Formed}
 use Rattle.pc_ann.specs.declared.annotation.Ann.{Ann}
 use Rattle.pc_semantics.specs.declared.actors.Actor.{Actor}
 use Rattle.pc_semantics.specs.Configurations.{own_address, fields_in, blank_object, environment, environment_address, start_of, start}
-use Rattle.pc_sound.specs.RegionWorld.{Place, InField, InMail, Standing, Unused, Froze, Opened, Held, Child, World, ice, Fits, WorldOk}
-use Rattle.pc_sound.specs.RegionFrames.{FieldsFit, MessageFits, ActorFits, HasRegions}
-use Rattle.pc_sound.proofs.Heaps.{put_or_before}
+use Rattle.pc_sound.proofs.RegionWorld.{Place, InField, InMail, Standing, Unused, Froze, Opened, Held, Child, World, ice, Fits, WorldOk}
+use Rattle.pc_sound.proofs.RegionFrames.{FieldsFit, MessageFits, ActorFits, HasRegions}
+use Rattle.pc_sound.proofs.Heaps.{get_here, put_or_before, put_stays}
 use Rattle.pc_sound.proofs.Made.{no_value}
 use Rattle.pc_sound.proofs.Starts.{with_stream, with_environment, with_main, env_is, main_found}
+use Rattle.pc_sound.proofs.RegionValue.{tag_fits}
 
 -- ---- the world of the start
 
--- The first objects of actors 0 and 1 are in their own regions, and the rest is in region 2.
+-- The first objects of actors 0 and 1 are in their own regions, the environment is in region 2, and the rest in one that is not in use.
 abbrev first_region : Address → ℕ
-first_region a = cond (nat_eq a.serial 0) (cond (nat_eq a.maker 0) 0 1) 2
+first_region a = cond (nat_eq a.serial 0) (cond (nat_eq a.maker 0) 0 (cond (nat_eq a.maker 1) 1 3)) (cond (nat_eq a.serial 1) (cond (nat_eq a.maker 0) 2 3) 3)
 
 abbrev first_stands : ℕ → Standing
 first_stands zero = Opened 0
@@ -51,12 +53,24 @@ first_sent (suc zero) = 1
 first_sent n = 0
 
 abbrev first_world : World
-first_world = record { region = first_region; stands = first_stands; role = first_role; context = λ i j. i; top = λ i. 0; sent = first_sent; next = 3 }
+first_world = record { region = first_region; stands = first_stands; role = first_role; context = λ i j. i; top = λ i. 0; sent = first_sent; next = 4 }
 
-chosen_below : (b d : Bool) → cond b (cond d 0 1) 2 < 3
-chosen_below true true = omega arith
-chosen_below true false = omega arith
-chosen_below false d = omega arith
+chosen_below : (b d e g : Bool) → cond b (cond d 0 (cond e 1 3)) (cond g (cond d 2 3) 3) < 4
+chosen_below true true e g = omega arith
+chosen_below true false true g = omega arith
+chosen_below true false false g = omega arith
+chosen_below false true e true = omega arith
+chosen_below false false e true = omega arith
+chosen_below false d e false = omega arith
+
+-- Where no address of the first three is meant, the region is the last one.
+chosen_rest : (b d e g : Bool) → (b ≡ true → d ≡ true → ⊥) → (b ≡ true → e ≡ true → ⊥) → (g ≡ true → d ≡ true → ⊥) → ◌≡◌ {A = ℕ} (cond b (cond d 0 (cond e 1 3)) (cond g (cond d 2 3) 3)) 3
+chosen_rest true true e g x y z = absurd (x refl refl)
+chosen_rest true false true g x y z = absurd (y refl refl)
+chosen_rest true false false g x y z = refl
+chosen_rest false true e true x y z = absurd (z refl refl)
+chosen_rest false false e true x y z = refl
+chosen_rest false d e false x y z = refl
 
 named_first : (i j : ℕ) → i < 2 → j ≤ 0 → first_role i ≡ Some (i, j)
 named_first zero zero l t = refl
@@ -86,7 +100,7 @@ own_first zero l = refl
 own_first (suc zero) l = refl
 own_first (suc (suc i)) l = absurd (omega (arith, l))
 
-unused_first : (q : ℕ) → 3 ≤ q → (first_stands q ≡ Unused) × (first_role q ≡ None)
+unused_first : (q : ℕ) → 4 ≤ q → (first_stands q ≡ Unused) × (first_role q ≡ None)
 unused_first zero l = absurd (omega (arith, l))
 unused_first (suc zero) l = absurd (omega (arith, l))
 unused_first (suc (suc zero)) l = absurd (omega (arith, l))
@@ -104,8 +118,47 @@ no_holder (suc zero) p e = cc
 no_holder (suc (suc zero)) p e = cc
 no_holder (suc (suc (suc n))) p e = cc
 
-world_first : (objects : ObjectMap) → WorldOk first_world objects 2
-world_first objects = record {
+abbrev address : ℕ → ℕ → Address
+address m s = record { maker = m; serial = s }
+
+is_address : (a : Address) (m s : ℕ) → nat_eq a.serial s ≡ true → nat_eq a.maker m ≡ true → a ≡ address m s
+is_address a m s e g = ap (λ (x : ℕ). address x a.serial) (eqb-true a.maker m g) ∙ ap (address m) (eqb-true a.serial s e)
+
+-- What was put there, and two more since.
+not_absent : (core : CoreData) (main : ℕ) (a : Address) → (a ≡ own_address 0) ⊎ ((a ≡ own_address 1) ⊎ (a ≡ environment_address)) → get (with_main core main) a ≡ None → ⊥
+not_absent core main a (inl is) none = let o = put_stays (with_environment core) (own_address 1) (blank_object core main) a (put_stays (with_stream core) environment_address (environment core) a (blank_object core 5, ap (get (with_stream core)) is ∙ get_here empty (own_address 0) (blank_object core 5))) in none-some o.0 (sym none ∙ o.1)
+not_absent core main a (inr (inl is)) none = none-some (blank_object core main) (sym none ∙ ap (get (with_main core main)) is ∙ get_here (with_environment core) (own_address 1) (blank_object core main))
+not_absent core main a (inr (inr is)) none = let o = put_stays (with_environment core) (own_address 1) (blank_object core main) a (environment core, ap (get (with_environment core)) is ∙ get_here (with_stream core) environment_address (environment core)) in none-some o.0 (sym none ∙ o.1)
+
+absent_first : (core : CoreData) (main : ℕ) (a : Address) → get (with_main core main) a ≡ None → first_stands (first_region a) ≡ Unused
+absent_first core main a none =
+    ap first_stands (chosen_rest (nat_eq a.serial 0) (nat_eq a.maker 0) (nat_eq a.maker 1) (nat_eq a.serial 1)
+    (λ s m. not_absent core main a (inl (is_address a 0 0 s m)) none) (λ s m. not_absent core main a (inr (inl (is_address a 1 0 s m))) none)
+    (λ s m. not_absent core main a (inr (inr (is_address a 0 1 s m))) none))
+
+in_use_at : (a b : Address) (s : Standing) → a ≡ b → first_stands (first_region b) ≡ s → (s ≡ Unused → ⊥) → first_stands (first_region a) ≡ Unused → ⊥
+in_use_at a b s is e used u = used (sym e ∙ ap (λ (x : Address). first_stands (first_region x)) (sym is) ∙ u)
+
+present_first : (core : CoreData) (main : ℕ) (a : Address) (o : Object) → get (with_main core main) a ≡ Some o → first_stands (first_region a) ≡ Unused → ⊥
+present_first core main a o at u =
+    elim (put_or_before (with_environment core) (own_address 1) (blank_object core main) a o at) [
+      | inl p ↦ in_use_at a (own_address 1) (Opened 1) p.0 refl (λ e. cc) u
+      | inr p ↦ elim (put_or_before (with_stream core) environment_address (environment core) a o p) [
+        | inl q ↦ in_use_at a environment_address Froze q.0 refl (λ e. cc) u
+        | inr q ↦ elim (put_or_before empty (own_address 0) (blank_object core 5) a o q) [
+          | inl s ↦ in_use_at a (own_address 0) (Opened 0) s.0 refl (λ e. cc) u
+          | inr s ↦ absurd (none-some o (sym (get-empty address_cmp a) ∙ s))
+        ]
+      ]
+    ]
+
+homes_first : (i : ℕ) → i < 2 → first_stands i ≡ Unused → ⊥
+homes_first zero l e = cc
+homes_first (suc zero) l e = cc
+homes_first (suc (suc i)) l e = omega (arith, l)
+
+world_first : (core : CoreData) (main : ℕ) → WorldOk first_world (with_main core main) 2
+world_first core main = record {
   zero = refl;
   named = λ i j l t. named_first i j l t;
   roles = λ q i j e. roles_first q i j e;
@@ -113,19 +166,15 @@ world_first objects = record {
   own = λ i l. own_first i l;
   contexts = λ i j l t. inl (root_first i l);
   unused = λ q l. unused_first q l;
-  regions = λ a. chosen_below (nat_eq a.serial 0) (nat_eq a.maker 0);
+  regions = λ a. chosen_below (nat_eq a.serial 0) (nat_eq a.maker 0) (nat_eq a.maker 1) (nat_eq a.serial 1);
   parents = λ q u at e. absurd (no_child q u at e);
   holders = λ q a k e. absurd (no_holder q (InField a k) e);
+  absent = absent_first core main;
+  present = present_first core main;
+  homes = λ i l there e. homes_first i there e;
 }
 
 -- ---- the objects
-
-tag_fits : (w : World) (p : Place) (v : Value) → Fits w p form.Tag v
-tag_fits w p (At a) = tt
-tag_fits w p (Num n) = tt
-tag_fits w p (Truth b) = tt
-tag_fits w p (Text t) = tt
-tag_fits w p (Prim n) = tt
 
 module _ (core : CoreData) (ann : Ann) (formed : Formed core) where
   -- The environment's field is a `tag`.
@@ -179,4 +228,4 @@ module _ (core : CoreData) (ann : Ann) (formed : Formed core) where
   pub start_in_regions : HasRegions core ann (start core)
   start_in_regions =
       subst (λ (main : Option (ℕ × ℕ)). HasRegions core ann (start_of core main)) (sym (main_found core formed))
-      (first_world, record { world = world_first (with_main core formed.main.entity); fields = fields_first; actors = actors_first })
+      (first_world, record { world = world_first core formed.main.entity; fields = fields_first; actors = actors_first })

@@ -15,16 +15,16 @@ use Rattle.pc_semantics.specs.Around.{Around}
 use Rattle.pc_semantics.specs.Tasks.{task_move}
 use Rattle.pc_semantics.specs.Step.{around, run_task, take, take_first, run_frames, step_of, step}
 use Rattle.pc_semantics.specs.Runs.{followed, run_from}
-use Rattle.pc_sound.specs.Tasks.{TasksOk}
-use Rattle.pc_sound.specs.Frames.{FramesOk}
-use Rattle.pc_sound.specs.Typed.{WellTyped, ActorOk}
-use Rattle.pc_sound.specs.Moves.{Runs}
-use Rattle.pc_sound.specs.RegionWorld.{World}
-use Rattle.pc_sound.specs.RegionTasks.{TasksRise, uses_top}
-use Rattle.pc_sound.specs.RegionFrames.{TopAlias, FramesFit, InRegions, HasRegions}
-use Rattle.pc_sound.specs.RegionMoves.{RegionMoveOk, Situated}
+use Rattle.pc_sound.proofs.Tasks.{TasksOk}
+use Rattle.pc_sound.proofs.Frames.{FramesOk}
+use Rattle.pc_sound.proofs.Typed.{WellTyped, ActorOk}
+use Rattle.pc_sound.proofs.Moves.{Runs}
+use Rattle.pc_sound.proofs.RegionWorld.{World}
+use Rattle.pc_sound.proofs.RegionTasks.{TasksRise, uses_top}
+use Rattle.pc_sound.proofs.RegionFrames.{TopAlias, FramesFit, InRegions, HasRegions}
+use Rattle.pc_sound.proofs.RegionMoves.{RegionMoveOk, Situated}
 use Rattle.pc_sound.proofs.Needs.{Needs}
-use Rattle.pc_sound.proofs.Steps.{step_ok}
+use Rattle.pc_sound.proofs.Steps.{step_ok, some_frames}
 use Rattle.pc_sound.proofs.AllTasks.{keeps}
 use Rattle.pc_sound.proofs.Takes.{takes}
 use Rattle.pc_sound.proofs.RegionMade.{made_regions}
@@ -66,9 +66,6 @@ module _ (keep : (t : Task) → KeepsRegions t) (takes_first : TakesRegions) (co
           fresh = subst (λ (us : List Task). uses_top us ≡ true → TopAlias w i k.0.holds.base k.0.holds.entries f.stack) at k.2;
           wait = k.3;
         }))
-
-    some_frames : (f : Frame) (fs : List Frame) → f ∷ fs ≡ [] → ⊥
-    some_frames f fs e = cc
 
     first_step : (ms : List Message) → a.mailbox ≡ ms → a.frames ≡ [] → HasRegions core ann (take_first core c i ms).1
     first_step [] at none = (w, g)

@@ -1,24 +1,15 @@
--- The task Store, by regions: the value settles in the slot, and the old one comes to the stack.
-use Rattle.std.specs.Prelude.{◌≡◌, ◌≢◌, ◌⊎◌, ℕ, suc, ◌+◌, ◌<◌, ◌≤◌, Bool, true, false, ◌&&◌, ◌||◌, List, [], ◌∷◌, length, Option, Some, None, nat_eq, nat_lt, slice_get, slice_set, refl}
+-- The frame whose slot got a value goes on, by regions, where the value fits the slot and the old one the stack.
+use Rattle.std.specs.Prelude.{◌≡◌, ◌≢◌, ℕ, suc, ◌+◌, ◌<◌, ◌≤◌, Bool, true, false, ◌&&◌, List, [], ◌∷◌, length, Option, Some, None, nat_eq, nat_lt, slice_get, slice_set, refl}
 use Rattle.std.proofs.Common.{inl, inr, ap, sym, subst, ◌∙◌, arith}
-use Rattle.std.proofs.lemmas.Bool.{and_parts, ne_eqb}
+use Rattle.std.proofs.lemmas.Bool.{ne_eqb, and_right}
 use Rattle.std.proofs.lemmas.Bool.Decides.{eqb_tells}
-use Rattle.std.proofs.lemmas.Option.{same_Some, none-some}
-use Rattle.pc_heap.specs.Objects.{ObjectMap}
+use Rattle.std.proofs.lemmas.Option.{same_Some}
 use Rattle.pc_heap.specs.declared.value.Value.{Value}
 use Rattle.pc_caps.specs.Gets.{get_set_same, get_set_other}
-use Rattle.pc_caps.specs.Order.{is_below}
-use Rattle.pc_caps.specs.Tables.{unalias, fits, sendable}
+use Rattle.pc_caps.specs.Tables.{unalias, fits}
 use Rattle.pc_caps.specs.declared.capability.Cap.{Cap}
-use Rattle.pc_caps.specs.declared.capability.Form.{Form}
-use Rattle.pc_caps.specs.declared.capability.Form.TheVariants as form
-use Rattle.pc_core.specs.declared.declarations.Method.{Method}
-use Rattle.pc_core.specs.declared.nodes.Node.{Node}
-use Rattle.pc_core.specs.declared.nodes.NodeKind.{NodeKind}
-use Rattle.pc_core.specs.declared.nodes.NodeKind.TheVariants as nodes
 use Rattle.pc_core.specs.declared.nodes.Slot.{Slot}
 use Rattle.pc_core.specs.CoreData.{CoreData}
-use Rattle.pc_core.specs.Nodes.{NamesFit, NamesSlot}
 use Rattle.pc_ann.specs.declared.mask.Mask.{Mask}
 use Rattle.pc_ann.specs.declared.annotation.Ann.{Ann}
 use Rattle.pc_ann.specs.Masks.{IsIn, with_number}
@@ -27,24 +18,21 @@ use Rattle.pc_semantics.specs.declared.frames.Frame.{Frame}
 use Rattle.pc_semantics.specs.declared.frames.Task.TheVariants as task
 use Rattle.pc_semantics.specs.Around.{Around, or_none, with_stack}
 use Rattle.pc_semantics.specs.Fields.{held, store}
-use Rattle.pc_sub.specs.Sub.{is_sub}
-use Rattle.pc_rules.specs.Parts.{Ty, slot_of, type_of}
-use Rattle.pc_sound.specs.Types.{OfSome}
-use Rattle.pc_sound.specs.Tasks.{FinishOk, stores, TasksOk}
-use Rattle.pc_sound.specs.Moves.{Runs}
-use Rattle.pc_sound.specs.RegionWorld.{Place, InSlot, OnStack, InField, InMail, World, Fits, FitsSome, AliasSome, WorldOk}
-use Rattle.pc_sound.specs.RegionTasks.{Entry, FinishRises, TasksRise, SlotsShallow}
-use Rattle.pc_sound.specs.RegionFrames.{StackFits, OpenedTo, ThisFits, SlotsFit}
-use Rattle.pc_sound.specs.RegionMoves.{elsewhere, Situated, RegionMoveOk}
-use Rattle.pc_sound.specs.RegionPlaces.{Shifts}
-use Rattle.pc_sound.specs.RegionSettle.{SettleLaw, TakeLaw}
-use Rattle.pc_sound.specs.RegionClimb.{ClimbLaw}
+use Rattle.pc_rules.specs.Parts.{Ty, slot_of}
+use Rattle.pc_sound.proofs.Types.{OfSome}
+use Rattle.pc_sound.proofs.Tasks.{stores}
+use Rattle.pc_sound.proofs.Moves.{Runs}
+use Rattle.pc_sound.proofs.RegionWorld.{Place, InSlot, OnStack, InField, InMail, World, Fits, FitsSome, AliasSome}
+use Rattle.pc_sound.proofs.RegionTasks.{Entry, FinishRises, TasksRise}
+use Rattle.pc_sound.proofs.RegionFrames.{StackFits, OpenedTo, ThisFits, SlotsFit}
+use Rattle.pc_sound.proofs.RegionMoves.{elsewhere, Situated, RegionMoveOk}
+use Rattle.pc_sound.proofs.RegionPlaces.{Shifts}
+use Rattle.pc_sound.proofs.RegionClimbed.{ClimbLaw}
 use Rattle.pc_sound.proofs.Needs.{Needs}
 use Rattle.pc_sound.proofs.EvalValue.{not_zero}
-use Rattle.pc_sound.proofs.StoreTask.{StoreRule, old_ok, room}
 use Rattle.pc_sound.proofs.RegionShifts.{others_kept, fields_kept, below_kept}
-use Rattle.pc_sound.proofs.RegionRise.{Pushes, rise, others_both}
-use Rattle.pc_sound.proofs.RegionCallers.{and_none, not_here, from_under, follows_at}
+use Rattle.pc_sound.proofs.RegionRise.{Pushes, rise, others_both, not_here}
+use Rattle.pc_sound.proofs.RegionCallers.{from_under, follows_at}
 
 -- The slot, and the places of the stack from a depth on.
 abbrev pub stored_gone : (i h s n : ℕ) → Place → Bool
@@ -60,10 +48,10 @@ gone_far i h s n (InField a k) e = refl
 gone_far i h s n (InMail j t k) e = refl
 
 lower_gone : (i h g : ℕ) (b : Bool) → g < h → (nat_eq i i && (nat_eq h g && b)) ≡ false
-lower_gone i h g b low = and_none (nat_eq i i) (nat_eq h g && b) (ap (λ (c : Bool). c && b) (ne_eqb h g (λ e. absurd (omega (arith, e, low)))))
+lower_gone i h g b low = and_right (nat_eq i i) (nat_eq h g && b) (ap (λ (c : Bool). c && b) (ne_eqb h g (λ e. absurd (omega (arith, e, low)))))
 
 slot_stays : (i h s n t l : ℕ) → s ≢ t → stored_gone i h s n (InSlot i h t l) ≡ false
-slot_stays i h s n t l k = and_none (nat_eq i i) (nat_eq h h && nat_eq s t) (and_none (nat_eq h h) (nat_eq s t) (ne_eqb s t k))
+slot_stays i h s n t l k = and_right (nat_eq i i) (nat_eq h h && nat_eq s t) (and_right (nat_eq h h) (nat_eq s t) (ne_eqb s t k))
 
 -- A frame whose slot s has got a value, in a world where it fits there and the old value fits the stack, goes on.
 module _ (core : CoreData) (climb : ClimbLaw core) (ann : Ann) (needs : Needs core ann) (around : Around) (f : Frame) (fs : List Frame) (r : Runs core ann around f fs) (n : ℕ)

@@ -1,12 +1,10 @@
 -- An idle actor takes its first message, in regions: what the message held is held by the slots of the frame that begins.
-use Rattle.std.specs.Prelude.{◌≡◌, ◌≢◌, ◌⊎◌, ℕ, zero, suc, ◌+◌, ◌<◌, ◌≤◌, Bool, true, false, ◌&&◌, cond, List, [], ◌∷◌, length, Option, Some, None, nat_eq, slice_get, slice_set, refl}
-use Rattle.std.specs.FinMap.{get}
+use Rattle.std.specs.Prelude.{◌≡◌, ◌≢◌, ◌⊎◌, ℕ, zero, suc, ◌<◌, ◌≤◌, Bool, true, false, ◌&&◌, cond, List, [], ◌∷◌, length, Option, Some, None, nat_eq, slice_get, refl}
 use Rattle.std.proofs.Common.{inl, inr, ap, sym, subst, ◌∙◌, arith, length-set}
 use Rattle.std.proofs.lemmas.Bool.{eq-eqb, ne_eqb, cases_Bool, and_from, and_left, and_right, cond-true, cond-false}
 use Rattle.std.proofs.lemmas.Option.{same_Some}
 use Rattle.pc_heap.specs.Objects.{ObjectMap}
 use Rattle.pc_heap.specs.declared.value.Address.{Address}
-use Rattle.pc_heap.specs.declared.value.Object.{Object}
 use Rattle.pc_heap.specs.declared.value.Value.{Value}
 use Rattle.pc_heap.specs.declared.value.Value.TheVariants.{Num, Truth, Text, Prim, At}
 use Rattle.pc_caps.specs.Gets.{get_below}
@@ -28,15 +26,15 @@ use Rattle.pc_semantics.specs.declared.frames.Frame.{Frame}
 use Rattle.pc_semantics.specs.declared.mailbox.Message.{Message}
 use Rattle.pc_semantics.specs.Configurations.{Configuration, with_actor, with_frames, own_address}
 use Rattle.pc_semantics.specs.Around.{first_frame}
-use Rattle.pc_semantics.specs.Step.{printed_text, begin_method, take}
+use Rattle.pc_semantics.specs.Step.{printed_text, begin_method}
 use Rattle.pc_rules.specs.Parts.{Ty}
 use Rattle.pc_rules.specs.Threads.{false_true}
 use Rattle.pc_sub.specs.Declarations.{takes_sendable}
-use Rattle.pc_sound.specs.Types.{ArgumentsOk}
-use Rattle.pc_sound.specs.Typed.{MessageOk, MailOk, FirstMailOk, WellTyped}
-use Rattle.pc_sound.specs.RegionWorld.{Place, InSlot, OnStack, InField, InMail, Standing, Unused, Froze, Opened, Loose, Held, Child, World, home, steady, Fits, Alias, AliasSome, Over, WorldOk}
-use Rattle.pc_sound.specs.RegionTasks.{Entry}
-use Rattle.pc_sound.specs.RegionFrames.{TopAlias, FramesFit, FieldsFit, MessageFits, MailFits, ActorFits, InRegions, HasRegions}
+use Rattle.pc_sound.proofs.Types.{ArgumentsOk}
+use Rattle.pc_sound.proofs.Typed.{MessageOk, MailOk, FirstMailOk, WellTyped}
+use Rattle.pc_sound.proofs.RegionWorld.{Place, InSlot, OnStack, InField, InMail, Standing, Unused, Froze, Opened, Loose, Held, Child, World, home, steady, Fits, Alias, AliasSome, Over, WorldOk}
+use Rattle.pc_sound.proofs.RegionTasks.{Entry}
+use Rattle.pc_sound.proofs.RegionFrames.{TopAlias, FramesFit, MailFits, ActorFits, InRegions, HasRegions}
 use Rattle.pc_sound.proofs.Needs.{Needs}
 use Rattle.pc_sound.proofs.Values.{own_no_trait}
 use Rattle.pc_sound.proofs.Growth.{object_of}
@@ -102,6 +100,14 @@ was_held i t a k Froze e = absurd (cc)
 was_held i t a k (Opened j) e = absurd (cc)
 was_held i t a k (Loose j l) e = absurd (cc)
 
+was_empty : (i t : ℕ) (s : Standing) → arrive i t s ≡ Unused → s ≡ Unused
+was_empty i t (Held p) e = absurd (cc)
+was_empty i t (Child v to) e = e
+was_empty i t Unused e = e
+was_empty i t Froze e = e
+was_empty i t (Opened j) e = e
+was_empty i t (Loose j l) e = e
+
 module _ (w : World) (i t : ℕ) where
   moves : (x : ℕ) (s : Standing) → w.stands x ≡ s → arrive i t s ≡ s → (received w i t).stands x ≡ s
   moves x s e stays = ap (arrive i t) e ∙ stays
@@ -149,6 +155,9 @@ module _ (w : World) (i t : ℕ) where
     regions = ok.regions;
     parents = λ x u at e. ok.parents x u at (was_child i t u at (w.stands x) e);
     holders = λ x a n e. ok.holders x a n (was_held i t a n (w.stands x) e);
+    absent = λ a e. moves (w.region a) Unused (ok.absent a e) refl;
+    present = λ a o e u. ok.present a o e (was_empty i t (w.stands (w.region a)) u);
+    homes = λ j l there u. ok.homes j l there (was_empty i t (w.stands (w.context j l)) u);
   }
 
   -- ---- an argument

@@ -1,7 +1,7 @@
 -- Eval at literals, `this` and slots, in regions.
-use Rattle.std.specs.Prelude.{◌≡◌, ◌≢◌, ◌⊎◌, ℕ, ◌+◌, ◌<◌, ◌≤◌, Bool, true, false, ◌&&◌, ◌||◌, cond, List, [], ◌∷◌, length, Option, Some, None, nat_eq, slice_get, slice_set, refl}
+use Rattle.std.specs.Prelude.{◌≡◌, ◌≢◌, ◌⊎◌, ℕ, ◌+◌, ◌<◌, ◌≤◌, Bool, true, false, ◌&&◌, cond, List, [], ◌∷◌, length, Option, Some, None, nat_eq, slice_get, slice_set, refl}
 use Rattle.std.proofs.Common.{inl, inr, ap, sym, subst, ◌∙◌, arith}
-use Rattle.std.proofs.lemmas.Bool.{eqb-true, eq-eqb, ne_eqb, and_parts}
+use Rattle.std.proofs.lemmas.Bool.{eqb-true, eq-eqb, ne_eqb, and_parts, or_cases, and_right}
 use Rattle.std.proofs.lemmas.Option.{same_Some, none-some}
 use Rattle.pc_heap.specs.declared.value.Value.{Value}
 use Rattle.pc_heap.specs.declared.value.Value.TheVariants.{Num, Truth, Text, Prim, At}
@@ -13,13 +13,11 @@ use Rattle.pc_caps.specs.declared.capability.Form.{Form}
 use Rattle.pc_caps.specs.declared.capability.Form.TheVariants as form
 use Rattle.pc_core.specs.declared.declarations.Method.{Method}
 use Rattle.pc_core.specs.declared.nodes.Node.{Node}
-use Rattle.pc_core.specs.declared.nodes.NodeKind.{NodeKind}
 use Rattle.pc_core.specs.declared.nodes.NodeKind.TheVariants as nodes
 use Rattle.pc_core.specs.declared.nodes.Slot.{Slot}
 use Rattle.pc_core.specs.CoreData.{CoreData}
 use Rattle.pc_core.specs.Members.{bind_some}
 use Rattle.pc_core.specs.Methods.{this_slot}
-use Rattle.pc_core.specs.Nodes.{NamesFit}
 use Rattle.pc_ann.specs.declared.mask.Mask.{Mask}
 use Rattle.pc_ann.specs.declared.annotation.Note.{Note}
 use Rattle.pc_ann.specs.declared.annotation.Ann.{Ann}
@@ -32,31 +30,28 @@ use Rattle.pc_semantics.specs.Evaluation.{push_slot, take_slot}
 use Rattle.pc_rules.specs.Parts.{Ty, slot_of, reachable, full, before}
 use Rattle.pc_rules.specs.Values.{this_form}
 use Rattle.pc_rules.specs.Threads.{false_true}
-use Rattle.pc_sound.specs.Types.{OfType, held_in}
-use Rattle.pc_sound.specs.Tasks.{Within, Follows, EvalOk, TasksOk}
-use Rattle.pc_sound.specs.Moves.{Runs}
-use Rattle.pc_sound.specs.RegionWorld.{Place, InSlot, OnStack, InField, InMail, Opened, World, Seen, Fits, Alias, AliasIn, FitsSome}
-use Rattle.pc_sound.specs.RegionTasks.{Entry, Rises, entry_of, EvalRises, TasksRise}
-use Rattle.pc_sound.specs.RegionFrames.{OpenedTo, ThisFits, SlotsFit, StackFits}
-use Rattle.pc_sound.specs.RegionMoves.{elsewhere, RegionMoveOk, Situated}
-use Rattle.pc_sound.specs.RegionPlaces.{Shifts}
-use Rattle.pc_sound.specs.RegionClimb.{ClimbLaw}
-use Rattle.pc_sound.specs.RegionSettle.{Free, Takes, TakeLaw}
+use Rattle.pc_sound.proofs.Types.{OfType, held_in}
+use Rattle.pc_sound.proofs.Tasks.{Within, Follows, EvalOk, TasksOk}
+use Rattle.pc_sound.proofs.Moves.{Runs}
+use Rattle.pc_sound.proofs.RegionWorld.{Place, InSlot, OnStack, InField, InMail, Opened, World, Seen, Fits, Alias, AliasIn, FitsSome}
+use Rattle.pc_sound.proofs.RegionTasks.{Entry, Rises, entry_of, EvalRises, TasksRise}
+use Rattle.pc_sound.proofs.RegionFrames.{OpenedTo, ThisFits, SlotsFit, StackFits}
+use Rattle.pc_sound.proofs.RegionMoves.{elsewhere, RegionMoveOk, Situated}
+use Rattle.pc_sound.proofs.RegionPlaces.{Shifts}
+use Rattle.pc_sound.proofs.RegionClimbed.{ClimbLaw}
 use Rattle.pc_sound.proofs.Needs.{Needs}
 use Rattle.pc_sound.proofs.Needed.{first_own, not_first}
 use Rattle.pc_sound.proofs.Basic.{of_lower}
 use Rattle.pc_sound.proofs.EvalValue.{not_zero, own_at, seen_this, slot_ok}
 use Rattle.pc_sound.proofs.Places.{taken_lower}
 use Rattle.pc_sound.proofs.Inverse.{Says, Used, ThisRule}
-use Rattle.pc_sound.proofs.RegionShifts.{others_kept, fields_kept, below_kept}
-use Rattle.pc_sound.proofs.RegionSettle.{shifts_none}
-use Rattle.pc_sound.proofs.RegionRise.{Pushes, rise, slot_depth, others_both, and_none, not_here, lower_frame}
+use Rattle.pc_sound.proofs.RegionShifts.{others_kept, fields_kept, below_kept, shifts_none}
+use Rattle.pc_sound.proofs.RegionRise.{Pushes, rise, others_both, not_here, lower_frame}
 use Rattle.pc_sound.proofs.RegionChildren.{at_depth}
 use Rattle.pc_sound.proofs.RegionSlot.{slot_read, iso_free, trn_free}
-
-either : (a b : Bool) → (a || b) ≡ true → (a ≡ true) ⊎ (b ≡ true)
-either true b e = inl refl
-either false b e = inr e
+use Rattle.pc_sound.proofs.RegionBelow.{slot_depth}
+use Rattle.pc_sound.proofs.RegionTaken.{Free, Takes, TakeLaw}
+use Rattle.pc_sound.proofs.Notes.{names_fit}
 
 -- ---- forms that say nothing
 
@@ -116,17 +111,17 @@ box_moved w i h s n l k (Prim m) is e = tt
 -- ---- one slot
 
 -- This slot of the frame of height h, at any level.
-abbrev one_slot : (i h s : ℕ) → Place → Bool
+abbrev pub one_slot : (i h s : ℕ) → Place → Bool
 one_slot i h s (InSlot j g t l) = nat_eq i j && (nat_eq h g && nat_eq s t)
 one_slot i h s (OnStack j g d l) = false
 one_slot i h s (InField a f) = false
 one_slot i h s (InMail j t f) = false
 
-that_slot : (i h s l : ℕ) → one_slot i h s (InSlot i h s l) ≡ true
+pub that_slot : (i h s l : ℕ) → one_slot i h s (InSlot i h s l) ≡ true
 that_slot i h s l = ap (λ (b : Bool). b && (nat_eq h h && nat_eq s s)) (eq-eqb i i refl) ∙ ap (λ (b : Bool). b && nat_eq s s) (eq-eqb h h refl) ∙ eq-eqb s s refl
 
 other_slot : (i h s t l : ℕ) → s ≢ t → one_slot i h s (InSlot i h t l) ≡ false
-other_slot i h s t l n = and_none (nat_eq i i) (nat_eq h h && nat_eq s t) (and_none (nat_eq h h) (nat_eq s t) (ne_eqb s t n))
+other_slot i h s t l n = and_right (nat_eq i i) (nat_eq h h && nat_eq s t) (and_right (nat_eq h h) (nat_eq s t) (ne_eqb s t n))
 
 slot_elsewhere : (i h s : ℕ) (p : Place) → elsewhere i p ≡ true → one_slot i h s p ≡ false
 slot_elsewhere i h s (InSlot j g t l) e = not_here (nat_eq i j) (nat_eq h g && nat_eq s t) e
@@ -188,10 +183,7 @@ module _ (core : CoreData) (ann : Ann) (needs : Needs core ann) (climb : ClimbLa
   text_goes x q = leaf_goes (3, form.Val) (Text x) q (record { entity = 3; is_entity = refl; below = inl refl; kind = tt; finished = λ h. tt }) tt tt
 
   pub prim_goes : (p : ℕ) → e.node.kind ≡ nodes.Prim p → Says e.note (Some (p, form.Val)) (before e.note) → RegionMoveOk core ann w around fs (Goes (pushed f (Prim p)))
-  prim_goes p is q = leaf_goes (p, form.Val) (Prim p) q (record { entity = p; is_entity = refl; below = inl refl; kind = names_at (nodes.Prim p) is; finished = λ h. tt }) tt tt
-    where
-      names_at : (k : NodeKind) → e.node.kind ≡ k → NamesFit core e.node.method k
-      names_at k is = subst (NamesFit core e.node.method) is (needs.formed.nodes n e.node e.is_node).names
+  prim_goes p is q = leaf_goes (p, form.Val) (Prim p) q (record { entity = p; is_entity = refl; below = inl refl; kind = names_fit core ann needs n e.node e.is_node (nodes.Prim p) is; finished = λ h. tt }) tt tt
 
   -- ---- the typed evaluation, of the same node and note
 
@@ -232,7 +224,7 @@ module _ (core : CoreData) (ann : Ann) (needs : Needs core ann) (climb : ClimbLa
   -- What is reachable is of the same depth, or may be sent.
   near_slot : (y : Slot × (ℕ × Cap)) → reachable e.node y ≡ true → (y.0.depth ≡ d) ⊎ (sendable y.1.1 ≡ true)
   near_slot y is =
-      elim (either (nat_eq y.0.depth e.node.depth) (sendable y.1.1) is) [
+      elim (or_cases (nat_eq y.0.depth e.node.depth) (sendable y.1.1) is) [
         | inl q ↦ inl (eqb-true y.0.depth e.node.depth q ∙ e.depth)
         | inr q ↦ inr q
       ]
@@ -268,9 +260,6 @@ module _ (core : CoreData) (ann : Ann) (needs : Needs core ann) (climb : ClimbLa
       subst (λ (o : Option (Option Value)). RegionMoveOk core ann w around fs (push_slot f o)) (sym r.held.is_this) (leaf_goes ty r.held.this said typed read.0 read.1)
 
   -- ---- slots
-
-  names_slot : (k : NodeKind) → e.node.kind ≡ k → NamesFit core e.node.method k
-  names_slot k is = subst (NamesFit core e.node.method) is (needs.formed.nodes n e.node e.is_node).names
 
   module _ (z : ℕ) (low : 0 < z) (p : ℕ × Cap) (u : Used core ann e.node z e.note.live_before p) where
     value_at : Rattle.pc_sound.proofs.EvalValue.InSlot core ann needs around f fs r n typed_eval z p

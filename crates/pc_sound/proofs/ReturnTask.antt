@@ -19,10 +19,10 @@ use Rattle.pc_semantics.specs.Step.{left}
 use Rattle.pc_semantics.specs.Calls.{leave}
 use Rattle.pc_rules.specs.Parts.{constructs}
 use Rattle.pc_rules.specs.Threads.{false_true}
-use Rattle.pc_sound.specs.Types.{Finished, OfKind, OfType, Lower, wanted, StackOk}
-use Rattle.pc_sound.specs.Tasks.{ReturnOk}
-use Rattle.pc_sound.specs.Frames.{leaves, LastOk, WaitOk, FramesOk}
-use Rattle.pc_sound.specs.Moves.{MoveOk, Runs}
+use Rattle.pc_sound.proofs.Types.{Finished, OfKind, OfType, Lower, wanted, StackOk}
+use Rattle.pc_sound.proofs.Tasks.{ReturnOk}
+use Rattle.pc_sound.proofs.Frames.{leaves, LastOk, WaitOk, FramesOk}
+use Rattle.pc_sound.proofs.Moves.{MoveOk, Runs}
 use Rattle.pc_sound.proofs.Needs.{Needs}
 use Rattle.pc_sound.proofs.Basic.{some_lower}
 use Rattle.pc_sound.proofs.Values.{top_is}
@@ -79,23 +79,19 @@ module _ (core : CoreData) (ann : Ann) (needs : Needs core ann) (around : Around
       (r.held.this_ok.fields (ap (λ (x : Method). constructs x.kind) (sym is) ∙ c))
       (subst (λ (x : Method). entity_of around.objects r.held.this ≡ Some x.entity) (sym is) r.held.this_ok.is_entity) (e.fields c)
 
+  pub built_typed : e.own.kind ≡ method.New → OfType core around.objects e.own.result r.held.this
+  built_typed is =
+      let own : e.own ≡ r.held.own = same_Some e.own r.held.own (sym e.is_own ∙ r.held.is_own) in
+      let fits : ResultFits method.New e.own = subst (λ (k : MethodKind). ResultFits k e.own) is (needs.formed.methods f.method e.own e.is_own).result_fits in
+      let kept = subst (λ (x : Method). (entity_of around.objects r.held.this ≡ Some x.entity) × OfKind core x.entity r.held.this) (sym own) (r.held.this_ok.is_entity, r.held.this_ok.kind) in
+      record { entity = e.own.entity; is_entity = kept.0; below = inl (sym fits.1); kind = kept.1; finished = λ s. built (ap constructs is) }
+
   leave_ok : (k : MethodKind) → e.own.kind ≡ k → MoveOk core ann around fs (leave f k)
   leave_ok method.Fun is =
       let v = e.result is in
       let top = top_is core around.objects r.held.this v.0 v.1 f.stack (subst (λ g. StackOk core around.objects r.held.this g f.stack) v.2 r.held.stack_ok) in
       rw top.is (value_left core ann needs around f e.own e.is_own r.held.this top.top fs r.wait (ap leaves is) (some_lower core ann needs around.objects v.0.ty (Some e.own.result) top.top v.3 top.answers.0))
-  leave_ok method.New is =
-      let own : e.own ≡ r.held.own = same_Some e.own r.held.own (sym e.is_own ∙ r.held.is_own) in
-      let fits : ResultFits method.New e.own = subst (λ (k : MethodKind). ResultFits k e.own) is (needs.formed.methods f.method e.own e.is_own).result_fits in
-      let kept = subst (λ (x : Method). (entity_of around.objects r.held.this ≡ Some x.entity) × OfKind core x.entity r.held.this) (sym own) (r.held.this_ok.is_entity, r.held.this_ok.kind) in
-      let typed : OfType core around.objects e.own.result r.held.this = record {
-        entity = e.own.entity;
-        is_entity = kept.0;
-        below = inl (sym fits.1);
-        kind = kept.1;
-        finished = λ s. built (ap constructs is);
-      } in
-      rw r.held.is_this (value_left core ann needs around f e.own e.is_own r.held.this r.held.this fs r.wait (ap leaves is) typed)
+  leave_ok method.New is = rw r.held.is_this (value_left core ann needs around f e.own e.is_own r.held.this r.held.this fs r.wait (ap leaves is) (built_typed is))
   leave_ok method.Be is = nothing_left core ann needs around f e.own e.is_own r.held.this fs r.wait (ap leaves is) (λ l. subst (λ (k : MethodKind). LastOk around.objects around.actor k r.held.this) is l)
   leave_ok method.Spawn is =
       nothing_left core ann needs around f e.own e.is_own r.held.this fs r.wait (ap leaves is)

@@ -14,10 +14,10 @@ use Rattle.pc_semantics.specs.declared.frames.Frame.{Frame}
 use Rattle.pc_semantics.specs.declared.frames.Task.{Task}
 use Rattle.pc_semantics.specs.Around.{Around, with_stack, pushed}
 use Rattle.pc_rules.specs.Fields.{is_this}
-use Rattle.pc_sound.specs.Types.{OfSome, Want, StackOk}
-use Rattle.pc_sound.specs.Tasks.{Within, Follows, TasksOk}
-use Rattle.pc_sound.specs.Frames.{HasFields, ThisOk, SlotsOk, FrameOk, WaitOk, FramesOk}
-use Rattle.pc_sound.specs.Moves.{Runs}
+use Rattle.pc_sound.proofs.Types.{OfSome, Want, StackOk}
+use Rattle.pc_sound.proofs.Tasks.{Within, Follows, TasksOk}
+use Rattle.pc_sound.proofs.Frames.{HasFields, ThisOk, SlotsOk, FrameOk, WaitOk, FramesOk}
+use Rattle.pc_sound.proofs.Moves.{Runs}
 use Rattle.pc_sound.proofs.Needs.{Needs}
 use Rattle.pc_sound.proofs.Basic.{within_trans, some_lower}
 

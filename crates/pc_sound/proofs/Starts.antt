@@ -32,8 +32,8 @@ use Rattle.pc_rules.specs.Threads.{false_true}
 use Rattle.pc_rules.specs.Valid.{Valid}
 use Rattle.pc_semantics.specs.declared.actors.Actor.{Actor}
 use Rattle.pc_semantics.specs.Configurations.{own_address, entity_named, main_create, fields_in, blank_object, environment, environment_address, start_of, start}
-use Rattle.pc_sound.specs.Types.{Finished, OfType, ArgumentsOk}
-use Rattle.pc_sound.specs.Typed.{field_type, ObjectOk, PlaceOk, ObjectsOk, ActorOk, WellTyped}
+use Rattle.pc_sound.proofs.Types.{Finished, OfType, ArgumentsOk}
+use Rattle.pc_sound.proofs.Typed.{field_type, ObjectOk, PlaceOk, ObjectsOk, ActorOk, WellTyped}
 use Rattle.pc_sound.proofs.Needs.{Needs}
 use Rattle.pc_sound.proofs.Growth.{Extends, class_is, class_kept, finished_kept}
 use Rattle.pc_sound.proofs.Heaps.{get_after, get_here, put_or_before, fresh_extends, made_here}
@@ -71,6 +71,10 @@ module _ (core : CoreData) (formed : Formed core) where
       let word : position (bytes_eq (codes "create")) core.names ≡ Some m.create.name = position_is (codes "create") core.names m.create.name formed.names m.method_name in
       let number : method_named core m.entity m.create.name ≡ Some m.number = found_is core m.entity m.create.name m.number m.main formed m.is_entity (m.create, m.is_method, m.own, refl) (method_named core m.entity m.create.name) refl in
       rw (named, word, number) refl
+
+  -- There are two actors.
+  pub two_actors : length (start core).actors ≡ 2
+  two_actors = ap (λ (main : Option (ℕ × ℕ)). length (start_of core main).actors) main_found
 
   -- The environment, with its field.
   pub env_is : environment core ≡ record { entity = 4; fields = Some (At (own_address 0)) ∷ [] }

@@ -18,11 +18,11 @@ use Rattle.pc_heap.specs.declared.value.Value.TheVariants.{At}
 use Rattle.pc_semantics.specs.Tasks.{task_move}
 use Rattle.pc_semantics.specs.Step.{around, run_task, take, take_first, run_frames, step_of, step}
 use Rattle.pc_semantics.specs.Runs.{followed, run_from}
-use Rattle.pc_sound.specs.Types.{Finished}
-use Rattle.pc_sound.specs.Tasks.{TasksOk}
-use Rattle.pc_sound.specs.Frames.{FrameOk, WaitOk, FramesOk}
-use Rattle.pc_sound.specs.Typed.{MessageOk, MailOk, FirstMailOk, ActorOk, WellTyped}
-use Rattle.pc_sound.specs.Moves.{MoveOk, Runs}
+use Rattle.pc_sound.proofs.Types.{Finished}
+use Rattle.pc_sound.proofs.Tasks.{TasksOk}
+use Rattle.pc_sound.proofs.Frames.{FrameOk, WaitOk, FramesOk}
+use Rattle.pc_sound.proofs.Typed.{MessageOk, MailOk, FirstMailOk, ActorOk, WellTyped}
+use Rattle.pc_sound.proofs.Moves.{MoveOk, Runs}
 use Rattle.pc_sound.proofs.Needs.{Needs}
 use Rattle.pc_sound.proofs.Made.{StepOk, made_ok}
 
@@ -44,6 +44,9 @@ Takes =
 
 -- ---- steps
 
+pub some_frames : (f : Frame) (fs : List Frame) → f ∷ fs ≡ [] → ⊥
+some_frames f fs e = cc
+
 module _ (keeps : (t : Task) → Keeps t) (takes : Takes) (core : CoreData) (ann : Ann) (needs : Needs core ann) where
   module _ (c : Configuration) (w : WellTyped core ann c) (i : ℕ) (here : i < length c.actors) where
     task_step : (a : Actor) (f : Frame) (fs : List Frame) (ts : List Task) → f.tasks ≡ ts → MailOk core c.objects i a.mailbox → (k : FrameOk core ann c.objects [] f) → WaitOk core ann c.objects i f.method k.0.this fs → StepOk core ann (run_task core c i a f fs ts)
@@ -61,9 +64,6 @@ module _ (keeps : (t : Task) → Keeps t) (takes : Takes) (core : CoreData) (ann
     mail_step : (ms : List Message) → Finished c.objects (At (own_address i)) → MailOk core c.objects i ms → StepOk core ann (take_first core c i ms)
     mail_step [] d k = (w, λ l e. cc)
     mail_step (m ∷ ms) d k = takes core ann needs c w i here m ms method.Be k.0 k.1 (inr (refl, d))
-
-    some_frames : (f : Frame) (fs : List Frame) → f ∷ fs ≡ [] → ⊥
-    some_frames f fs e = cc
 
     frames_step : (a : Actor) (fs : List Frame) → a.frames ≡ fs → ActorOk core ann c.objects i a → StepOk core ann (run_frames core c i a fs)
     frames_step a [] is (inl k) = born_step a.mailbox k.1

@@ -33,20 +33,20 @@ use Rattle.pc_rules.specs.Values.{same_place, defined_type, defined, defines, is
 use Rattle.pc_rules.specs.Rules.{says, said_by}
 use Rattle.pc_rules.specs.Threads.{kept, false_true}
 use Rattle.pc_rules.specs.OneRule.{define_rule}
-use Rattle.pc_sound.specs.Types.{OfType, OfSome, held_in, StackOk}
-use Rattle.pc_sound.specs.Tasks.{Within, stores, FinishOk, TasksOk}
-use Rattle.pc_sound.specs.Frames.{SlotsOk}
-use Rattle.pc_sound.specs.Moves.{MoveOk, Runs}
+use Rattle.pc_sound.proofs.Types.{OfType, OfSome, held_in, StackOk}
+use Rattle.pc_sound.proofs.Tasks.{Within, stores, FinishOk, TasksOk}
+use Rattle.pc_sound.proofs.Frames.{SlotsOk}
+use Rattle.pc_sound.proofs.Moves.{MoveOk, Runs}
 use Rattle.pc_sound.proofs.Needs.{Needs}
 use Rattle.pc_sound.proofs.Basic.{within_trans, of_lower, some_lower}
-use Rattle.pc_sound.proofs.Notes.{slot_at}
+use Rattle.pc_sound.proofs.Notes.{slot_at, names_fit}
 use Rattle.pc_sound.proofs.Begin.{only_one}
 use Rattle.pc_sound.proofs.Steps.{Keeps}
 use Rattle.pc_sound.proofs.Running.{go_ok}
 use Rattle.pc_sound.proofs.Inverse.{Says, says_is}
 use Rattle.pc_sound.proofs.EvalValue.{not_zero}
 use Rattle.pc_sound.proofs.Places.{goes_lower, taken_lower}
-use Rattle.pc_sound.proofs.Finish.{one_top, by_top, own_is, names_is, rule_is, at_this, typed_at}
+use Rattle.pc_sound.proofs.Finish.{one_top, own_is, rule_is, at_this, typed_at, at_top}
 
 -- ---- what the rules say
 
@@ -163,13 +163,13 @@ module _ (core : CoreData) (ann : Ann) (needs : Needs core ann) (around : Around
   store_kind (nodes.Define s) is h rule =
       let q = define_is core ann e.node e.note e.behind e.is_behind s (define_rule core ann e.node (before e.note) e.note.rule s (said_by e.note) rule) in
       let t = one_top core ann needs around f fs r stores n e q.child q.children in
-      by_top core ann needs around f fs r stores n e t.top t.below (store s) t.is
+      at_top (MoveOk core ann around fs) f t.top t.below (store s) t.is
       (slot_ok s (needs.defined_slot n s e.node e.is_node is) q (nodes.Define s) is false_true t.top t.below t.answers.0 t.ok)
   store_kind (nodes.Assign s) is h rule =
       let q = assign_rule core ann e.node e.note e.behind e.is_behind s e.note.rule rule in
       let t = one_top core ann needs around f fs r stores n e q.child q.children in
-      by_top core ann needs around f fs r stores n e t.top t.below (store s) t.is
-      (slot_ok s (names_is core ann needs around f fs r stores n e (nodes.Assign s) is) q (nodes.Assign s) is false_true t.top t.below t.answers.0 t.ok)
+      at_top (MoveOk core ann around fs) f t.top t.below (store s) t.is
+      (slot_ok s (names_fit core ann needs n e.node e.is_node (nodes.Assign s) is) q (nodes.Assign s) is false_true t.top t.below t.answers.0 t.ok)
   store_kind k is h rule = absurd (false_true h)
 
 pub keeps_store : (n : ℕ) → Keeps (task.Store n)

@@ -11,7 +11,7 @@ use Rattle.pc_caps.specs.declared.capability.Form.{Form}
 use Rattle.pc_caps.specs.declared.capability.Form.TheVariants as form
 use Rattle.pc_rules.specs.Threads.{kept}
 use Rattle.pc_rules.specs.Control.{recovered}
-use Rattle.pc_sound.specs.Types.{sees}
+use Rattle.pc_sound.proofs.Types.{sees}
 
 -- What is below what sees, sees.
 below_tag : (b : Form) → is_below form.Tag b ≡ true → sees b ≡ true → false ≡ true
@@ -38,9 +38,6 @@ pub fits_sees : (f : Form) (k : Cap) → fits f k ≡ true → sees (plain k) �
 fits_sees f k e h = below_sees f (unalias k) e (unalias_sees k ∙ h)
 
 -- What is read through an origin: the origin sees, and the field sees what is seen.
-no_sight : (f : Form) → ◌≡◌ {A = Option Form} None (Some f) → {A : Type 0} → A
-no_sight f e = absurd (none-some f e)
-
 pub view_sees : (o : Form) (k : Cap) (f : Form) → view o k ≡ Some f → sees o ≡ true
 view_sees form.Tag k f e = absurd (none-some f e)
 view_sees o k f e = refl

@@ -18,9 +18,9 @@ use Rattle.pc_semantics.specs.Step.{printed_text, begin_method}
 use Rattle.pc_rules.specs.Parts.{constructs}
 use Rattle.pc_rules.specs.Control.{start_set}
 use Rattle.pc_rules.specs.Threads.{false_true}
-use Rattle.pc_sound.specs.Types.{Finished, ArgumentsOk}
-use Rattle.pc_sound.specs.Frames.{ThisOk, LastOk}
-use Rattle.pc_sound.specs.Typed.{MessageOk, MailOk, WellTyped}
+use Rattle.pc_sound.proofs.Types.{Finished, ArgumentsOk}
+use Rattle.pc_sound.proofs.Frames.{ThisOk, LastOk}
+use Rattle.pc_sound.proofs.Typed.{MessageOk, MailOk, WellTyped}
 use Rattle.pc_sound.proofs.Needs.{Needs}
 use Rattle.pc_sound.proofs.Values.{is_text, own_no_trait}
 use Rattle.pc_sound.proofs.Begin.{first_ok}

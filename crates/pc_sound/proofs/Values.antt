@@ -16,7 +16,7 @@ use Rattle.pc_core.specs.Nodes.{NamesPrimitive}
 use Rattle.pc_ann.specs.declared.annotation.Ann.{Ann}
 use Rattle.pc_semantics.specs.Around.{entity_of}
 use Rattle.pc_rules.specs.Threads.{false_true}
-use Rattle.pc_sound.specs.Types.{OfKind, OfType, Want, Answers, StackOk}
+use Rattle.pc_sound.proofs.Types.{OfKind, OfType, Want, Answers, StackOk}
 use Rattle.pc_sound.proofs.Needs.{Needs}
 
 -- ---- the top of a typed stack
@@ -42,9 +42,6 @@ no_trait k p t = let bad : entity.Primitive ≡ entity.Trait = sym p ∙ t in cc
 
 pub fields_no_trait : (k : EntityKind) → may_have_fields k ≡ true → k ≡ entity.Trait → ⊥
 fields_no_trait k h t = false_true (ap may_have_fields (sym t) ∙ h)
-
-few : (e : ℕ) → e ≡ 1 → 6 ≤ e → ⊥
-few e p l = absurd (omega (arith, p, l))
 
 module _ (core : CoreData) (ann : Ann) (needs : Needs core ann) (objects : ObjectMap) where
   -- A value's own entity, where its type's is a primitive.

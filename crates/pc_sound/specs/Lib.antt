@@ -1,16 +1,1 @@
-pub mod Types
-pub mod Tasks
-pub mod Frames
-pub mod Typed
-pub mod Moves
-pub mod RegionWorld
-pub mod RegionTasks
-pub mod RegionFrames
-pub mod RegionMoves
-pub mod RegionPlaces
-pub mod RegionClimb
-pub mod RegionScope
-pub mod RegionLaws
 pub mod Laws
-pub mod RegionSettle
-pub mod RegionContexts

@@ -1,20 +1,10 @@
 //! What is proved of valid annotations and of runs. Each call does nothing, and its contract is the law.
 ghost use Rattle.pc_sound.specs.Laws as law;
-ghost use Rattle.pc_sound.specs.RegionLaws as region;
 
-/// The start of a core with a valid annotation is well typed.
-pub fn start_is_typed()
-    ensures { law.StartIsTyped }
-{}
-
-/// A move that keeps what it has to leads from a well-typed configuration to one, and lacks nothing.
-pub fn moves_keep_types()
-    ensures { law.MovesKeepTypes }
-{}
-
-/// A step from a well-typed configuration leads to one, and lacks nothing.
-pub fn steps_keep_types()
-    ensures { law.StepsKeepTypes }
+/// Every program begins with two actors.
+#[tactic(auto, using(crate::proofs::Starts::two_actors))]
+pub fn start_has_two_actors()
+    ensures { law.StartHasTwoActors }
 {}
 
 /// What has a valid annotation never lacks anything, over every schedule.
@@ -22,12 +12,8 @@ pub fn accepted_never_lacks()
     ensures { law.AcceptedNeverLacks }
 {}
 
-/// Regions exclude races and let waiting messages alone.
-pub fn regions_exclude_races()
-    ensures { region.RegionsExcludeRaces }
-{}
-
-/// A program begins with regions.
-pub fn start_has_regions()
-    ensures { region.StartHasRegions }
+/// What has a valid annotation is safe: over every schedule no two actors race, what waits in messages is let alone, and no
+/// step lacks anything.
+pub fn valid_is_safe()
+    ensures { law.ValidIsSafe }
 {}
