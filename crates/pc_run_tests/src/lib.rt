@@ -2,6 +2,10 @@
 #![tactic(auto)]
 
 #[cfg(test)]
+mod behind;
+#[cfg(test)]
 mod cases;
 #[cfg(test)]
 mod programs;
+#[cfg(test)]
+mod safety;

@@ -46,8 +46,8 @@ fn tree_of(alloc: Global, text: &[u8]) -> Option<File>
     }
 }
 
-// The core of a program.
-fn core_of(alloc: Global, text: &[u8]) -> Option<Core> {
+/// The core of a program.
+pub fn core_of(alloc: Global, text: &[u8]) -> Option<Core> {
     let tree = tree_of(alloc, text)?;
     let Ok(names) = collect(alloc, &tree) else {
         return None;

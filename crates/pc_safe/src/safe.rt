@@ -1,0 +1,57 @@
+//! Safety of accepted cores, over every list of actors.
+ghost use Rattle.std.specs.Prelude.{◌≤◌, length};
+ghost use Rattle.pc_rules.specs.Valid.{Valid, Derivable};
+ghost use Rattle.pc_semantics.specs.Safety.{Safe};
+ghost use Rattle.pc_safe.specs.Apart.{EndsApart};
+ghost use Rattle.pc_safe.specs.Ends.{RunEnds, list_limit};
+
+use crate::fault::SafeFault;
+use crate::runs::accepted_runs;
+use pc_ann::Ann;
+use pc_core::Core;
+use pc_machine::Machine;
+use pc_sound::valid_is_safe;
+use std::alloc::Global;
+
+/// Runs an accepted core: the steps of these actors, one after the other, from its start. The list has at most 4,000,000
+/// actors.
+///
+/// That the core is safe holds whatever the call answers, and for lists of every length.
+///
+/// # Errors
+/// - `TooLong` exactly where a step of the list would make a text that is too long, with the place of the first such step and
+///   the machine before it.
+/// - `Memory` at want of memory.
+pub fn accepted_is_safe<'p>(
+    alloc: Global,
+    core: &'p Core,
+    ann: &Ann,
+    actors: &[u32],
+) -> Result<Machine<'p>, SafeFault<'p>>
+    requires valid { Valid core.now ann.now }
+    requires few { length actors.now ≤ list_limit }
+
+    // Behind every list of actors no two of them race, what waits in messages is let alone, and no actor's next step lacks
+    // its value, slot, object, field or method.
+    ensures safe { Safe core.now }
+
+    // The machine is the one behind this list; or the list meets a text that is too long.
+    ensures ends { RunEnds core.now actors.now result }
+
+    // In the machine no two actors race, and what waits in messages is let alone.
+    ensures apart { EndsApart core.now result }
+{
+    core.formed();
+    valid_is_safe();
+    let _notes = &ann.notes;
+    accepted_runs(alloc, core, ann, actors)
+}
+
+/// A core is safe where some annotation of it is valid. The call does nothing.
+pub fn derivable_is_safe(core: &Core)
+    requires derivable { Derivable core.now }
+    ensures safe { Safe core.now }
+{
+    core.formed();
+    valid_is_safe();
+}
