@@ -1,3 +1,4 @@
+pub mod Change
 pub mod Count
 pub mod Entries
 pub mod Failed

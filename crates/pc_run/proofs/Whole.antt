@@ -16,10 +16,11 @@ use Rattle.pc_run.specs.declared.counts.Progress.TheVariants as progress
 use Rattle.pc_run.specs.declared.report.Report.{Report}
 use Rattle.pc_run.specs.declared.report.RunFault.{RunFault}
 use Rattle.pc_run.specs.declared.report.RunFault.TheVariants.{Sink, TooLong, Memory}
-use Rattle.pc_run.specs.Ends.{Leaves, Writes}
+use Rattle.pc_run.specs.Ends.{Leaves, WritesText}
 use Rattle.pc_run.specs.Reports.{report_of, summary_of}
 use Rattle.pc_run.specs.Underway.{Underway, Reached}
-use Rattle.pc_run.specs.Writing.{Change, change, WriteStops}
+use Rattle.pc_io.specs.Change.{Change, change}
+use Rattle.pc_run.specs.Writing.{WriteStops}
 use Rattle.pc_run.proofs.Stepping.{behind_all}
 use Rattle.pc_run.proofs.Written.{stops_more, stops_on}
 
@@ -30,12 +31,12 @@ report_at c k = record { moved = k.moved; skipped = k.skipped; actors = length c
 module _ (core : CoreData) (list : List ℕ) where
   -- ---- what is written
 
-  stopped : (text : List ℕ) (out : Change) (e : RunFault) → text ≡ run_text core list → WriteStops text out e → Writes core list out.before out.now (Err e)
+  stopped : (text : List ℕ) (out : Change) (e : RunFault) → text ≡ run_text core list → WriteStops text out e → WritesText core list out.before out.now (Err e)
   stopped text out Sink is s = subst (GrowsByPrefix out.before out.now) is s.1
   stopped text out (TooLong n) is s = absurd s
   stopped text out Memory is s = subst (GrowsByPrefix out.before out.now) is s
 
-  pub writes_stopped : (text : List ℕ) (out : Change) (e : RunFault) (r : Result Report RunFault) → text ≡ run_text core list → IsErrAnd r (λ x. x ≡ e) → WriteStops text out e → Writes core list out.before out.now r
+  pub writes_stopped : (text : List ℕ) (out : Change) (e : RunFault) (r : Result Report RunFault) → text ≡ run_text core list → IsErrAnd r (λ x. x ≡ e) → WriteStops text out e → WritesText core list out.before out.now r
   writes_stopped text out e (Ok x) is by s = absurd by
   writes_stopped text out e (Err x) is by s = stopped text out x is (subst (WriteStops text out) (sym by) s)
 
@@ -81,14 +82,14 @@ module _ (core : CoreData) (list : List ℕ) where
 
   module _ (c : Configuration) (p : Progress) (h : Reached core list c [] p) (texts : List (List ℕ)) (are : texts ≡ c.printed) (e : RunFault) (r : Result Report RunFault) (by : IsErrAnd r (λ x. x ≡ e)) where
     -- The writing of the texts stopped.
-    pub texts_stopped : (out : Change) → WriteStops (lines texts) out e → Writes core list out.before out.now r
+    pub texts_stopped : (out : Change) → WriteStops (lines texts) out e → WritesText core list out.before out.now r
     texts_stopped out s =
         let b = text_begins c p h in
         writes_stopped (lines texts ++ b.0) out e r (ap (λ ts. lines ts ++ b.0) are ∙ b.1) by (stops_more (lines texts) b.0 out e s)
 
   module _ (c : Configuration) (k : Counts) (u : Underway core list c k []) (texts : List (List ℕ)) (are : texts ≡ c.printed) (w x y : Option (List ℕ)) (f g h : ℕ) (front : Appends w x (lines texts)) (later : f ≤ g) where
     -- The writing of the numbers behind them stopped.
-    pub summary_stopped : (report : Report) → report ≡ report_at c k → (e : RunFault) (r : Result Report RunFault) → IsErrAnd r (λ x. x ≡ e) → WriteStops (summary_of report) (change x y g h) e → Writes core list w y r
+    pub summary_stopped : (report : Report) → report ≡ report_at c k → (e : RunFault) (r : Result Report RunFault) → IsErrAnd r (λ x. x ≡ e) → WriteStops (summary_of report) (change x y g h) e → WritesText core list w y r
     summary_stopped report is e r by s =
         writes_stopped (lines texts ++ summary_of report) (change w y f h) e r
         (ap (λ ts. lines ts ++ summary_of report) are ∙ ap (λ (n : Report). lines c.printed ++ summary_of n) is ∙ whole_text c k u) by

@@ -10,7 +10,8 @@ use Rattle.pc_io.specs.Sink.{Rose, GrowsByPrefix}
 use Rattle.pc_semantics.specs.Text.{line_end, lines}
 use Rattle.pc_run.specs.declared.report.RunFault.{RunFault}
 use Rattle.pc_run.specs.declared.report.RunFault.TheVariants.{Sink, TooLong, Memory}
-use Rattle.pc_run.specs.Writing.{Change, change, WriteStops, Wrote}
+use Rattle.pc_io.specs.Change.{Change, change}
+use Rattle.pc_run.specs.Writing.{WriteStops, Wrote}
 
 -- ---- prefixes
 

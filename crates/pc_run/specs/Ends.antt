@@ -30,11 +30,11 @@ IsAnswer core list before now (Err Sink) = Rose before now
 IsAnswer core list before now (Err Memory) = Unit {0}
 
 -- The run's text was written, or a prefix of it where the sink failed or memory ran out.
-abbrev pub Writes : CoreData → List ℕ → Option (List ℕ) → Option (List ℕ) → Result Report RunFault → Type 0
-Writes core list before now (Ok report) = Appends before now (run_text core list)
-Writes core list before now (Err (TooLong n)) = Appends before now (run_text core list)
-Writes core list before now (Err Sink) = GrowsByPrefix before now (run_text core list)
-Writes core list before now (Err Memory) = GrowsByPrefix before now (run_text core list)
+abbrev pub WritesText : CoreData → List ℕ → Option (List ℕ) → Option (List ℕ) → Result Report RunFault → Type 0
+WritesText core list before now (Ok report) = Appends before now (run_text core list)
+WritesText core list before now (Err (TooLong n)) = Appends before now (run_text core list)
+WritesText core list before now (Err Sink) = GrowsByPrefix before now (run_text core list)
+WritesText core list before now (Err Memory) = GrowsByPrefix before now (run_text core list)
 
 -- The configuration that is left: behind all steps, or behind some of the first where memory ran out.
 abbrev pub Leaves : CoreData → List ℕ → Configuration → Result Report RunFault → Type 0

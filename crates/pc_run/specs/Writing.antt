@@ -1,20 +1,10 @@
--- What became of a sink.
-use Rattle.std.specs.Prelude.{ℕ, List, Option, Result, MatchResult}
+-- How the writing of a text ended.
+use Rattle.std.specs.Prelude.{List, ℕ, Result, MatchResult}
 use Rattle.std.specs.Io.KnownBytes.{Appends}
+use Rattle.pc_io.specs.Change.{Change}
 use Rattle.pc_io.specs.Sink.{Rose, GrowsByPrefix}
 use Rattle.pc_run.specs.declared.report.RunFault.{RunFault}
 use Rattle.pc_run.specs.declared.report.RunFault.TheVariants.{Sink, TooLong, Memory}
-
--- What a sink told and how often it had failed, before a call and behind it.
-pub record Change : Type 0 where
-  pub before : Option (List ℕ)
-  pub now : Option (List ℕ)
-  pub faults_before : ℕ
-  pub faults_now : ℕ
-
-abbrev pub change : Option (List ℕ) → Option (List ℕ) → ℕ → ℕ → Change
-change before now faults_before faults_now =
-    record { before = before; now = now; faults_before = faults_before; faults_now = faults_now }
 
 -- The writing of a text stopped: the sink failed, or memory ran out. A prefix of the text was written.
 abbrev pub WriteStops : List ℕ → Change → RunFault → Type 0

@@ -5,7 +5,7 @@ ghost use Rattle.pc_sched.specs.Limits.{turn_limit};
 ghost use Rattle.pc_sched.specs.Schedules.{total};
 ghost use Rattle.pc_semantics.specs.Configurations.{start};
 ghost use Rattle.pc_semantics.specs.Text.{waiting};
-ghost use Rattle.pc_run.specs.Ends.{NeverLacks, IsAnswer, Leaves, Writes};
+ghost use Rattle.pc_run.specs.Ends.{NeverLacks, IsAnswer, Leaves, WritesText};
 ghost use Rattle.pc_run.specs.Spreading.{spread};
 
 use crate::counts::{Counts, Progress};
@@ -61,7 +61,7 @@ pub fn run<O: Sink>(
     ensures answers { IsAnswer machine.old.core (spread turns.now) (O.faults out.old) (O.faults out.new) result }
 
     // The run's text is written, or a prefix of it.
-    ensures writes { Writes machine.old.core (spread turns.now) (O.written out.old) (O.written out.new) result }
+    ensures writes { WritesText machine.old.core (spread turns.now) (O.written out.old) (O.written out.new) result }
     ensures later { O.faults out.old ≤ O.faults out.new }
 
     // The machine is behind the steps of the turns.

@@ -2,7 +2,8 @@
 ghost use Rattle.std.specs.Prelude.{◌≡◌, ◌≤◌, ◌++◌, IfOk, string_bytes};
 ghost use Rattle.pc_semantics.specs.Text.{line_end, lines};
 ghost use Rattle.pc_run.specs.Reports.{summary_of};
-ghost use Rattle.pc_run.specs.Writing.{change, Wrote};
+ghost use Rattle.pc_io.specs.Change.{change};
+ghost use Rattle.pc_run.specs.Writing.{Wrote};
 
 use crate::report::{Report, RunFault};
 use pc_caps::List;

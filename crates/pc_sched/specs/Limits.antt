@@ -2,8 +2,8 @@
 use Rattle.std.specs.Prelude.{ℕ}
 
 -- how many bytes its text may have
-abbrev pub text_limit : ℕ
-text_limit = 1048576
+abbrev pub schedule_limit : ℕ
+schedule_limit = 1048576
 
 -- how many turns it may have
 abbrev pub turn_limit : ℕ

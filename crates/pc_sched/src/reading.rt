@@ -2,7 +2,7 @@ ghost use Rattle.std.specs.Prelude.{◌≡◌, ◌<◌, ◌≤◌, List as Seque
 ghost use Rattle.std.specs.List.{prefix_len};
 ghost use Rattle.pc_sched.specs.declared.turns.Turn.{Turn};
 ghost use Rattle.pc_sched.specs.declared.fault.SchedFault.{SchedFault};
-ghost use Rattle.pc_sched.specs.Limits.{text_limit, turn_limit};
+ghost use Rattle.pc_sched.specs.Limits.{schedule_limit, turn_limit};
 ghost use Rattle.pc_sched.specs.Schedules as schedules;
 ghost use Rattle.pc_sched.specs.Schedules.{TurnList, FirstFault};
 ghost use Rattle.pc_sched.specs.Reading.{Steps, Stuck};
@@ -44,7 +44,7 @@ fn step(
     turns: &mut List<Turn>,
 ) -> Result<(usize, u32), SchedFault>
     requires within { at < length text.now }
-    requires short { length text.now ≤ text_limit }
+    requires short { length text.now ≤ schedule_limit }
     requires few { total ≤ turn_limit }
     ensures ok { IfOk result (λ r. Steps text.now at total turns.old turns.new r) }
     ensures err { IfErr result (Stuck text.now at total) }
@@ -67,7 +67,7 @@ fn step(
 
 /// Reads a text word by word to its end.
 fn read_all(alloc: Global, text: &[u8]) -> Result<List<Turn>, SchedFault>
-    requires { length text.now ≤ text_limit }
+    requires { length text.now ≤ schedule_limit }
     ensures ok { IfOk result (TurnList text.now) }
     ensures err { IfErr result (Refuses text.now) }
 {
@@ -87,7 +87,7 @@ fn read_all(alloc: Global, text: &[u8]) -> Result<List<Turn>, SchedFault>
 ///
 /// The first fault is that of the first word which is of no such form, or with which the turns are too many.
 pub fn read(alloc: Global, bytes: &[u8]) -> Result<List<Turn>, SchedFault>
-    requires { length bytes.now ≤ text_limit }
+    requires { length bytes.now ≤ schedule_limit }
     // The turns are the text's.
     ensures ok { IfOk result (TurnList bytes.now) }
     // The fault is the first of the text, or memory ran out.

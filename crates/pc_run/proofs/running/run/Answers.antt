@@ -2,7 +2,7 @@ use Rattle.std.proofs.Common.{◌∙◌, [], subst}
 use Rattle.pc_run.specs.declared.counts.Progress.TheVariants.{Going}
 use Rattle.pc_run.specs.Spreading.{spread}
 use Rattle.pc_run.specs.Underway.{Reached}
-use Rattle.pc_run.specs.Writing.{change}
+use Rattle.pc_io.specs.Change.{change}
 use Rattle.pc_run.proofs.Whole.{leaves_all, summary_stopped, texts_stopped}
 use Rattle.pc_run.proofs.running.run.Goals as goal
 
