@@ -1,0 +1,5 @@
+pub mod Draws
+pub mod Numbers
+pub mod Parts
+pub mod Program
+pub mod Schedule

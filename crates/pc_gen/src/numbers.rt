@@ -1,0 +1,41 @@
+//! The seed and the size of a program, read from texts.
+ghost use Rattle.std.specs.Prelude.{◌<◌, ◌^◌};
+ghost use Rattle.pc_gen.specs.Numbers.{IsNumber, IsSeed, IsSize, Reads};
+
+/// How many digits at most spell a seed.
+const SEED_DIGITS: usize = 20;
+
+/// How many digits at most spell a size.
+const SIZE_DIGITS: usize = 3;
+
+/// The largest size.
+const LARGEST: u64 = 900;
+
+// The number that a text spells with one to so many digits, if it is below 2^64.
+fn number_of(text: &str, most: usize) -> Option<u64>
+    ensures { Reads (λ n. IsNumber most text.now n × (n < 2 ^ 64)) result }
+{
+    match text.as_bytes() {
+        [b'+', ..] => None,
+        bytes if bytes.len() > most => None,
+        _ => text.parse::<u64>().ok(),
+    }
+}
+
+/// The seed that a text spells: one to twenty digits, of a number below 2^64.
+pub fn seed_of(text: &str) -> Option<u64>
+    ensures { Reads (IsSeed text.now) result }
+{
+    number_of(text, SEED_DIGITS)
+}
+
+/// The size that a text spells: one to three digits, of a number from 1 to 900.
+pub fn size_of(text: &str) -> Option<u32>
+    ensures { Reads (IsSize text.now) result }
+{
+    let size = number_of(text, SIZE_DIGITS)?;
+    if size < 1 || size > LARGEST {
+        return None;
+    }
+    Some(size as u32)
+}

@@ -1,0 +1,306 @@
+//! Parts of a made tree, each named as it is written.
+ghost use Rattle.std.specs.Prelude.{◌≡◌, [], ◌∷◌, Some, map, IfOk};
+ghost use Rattle.pc_tree.specs.View.{expr_view, suffix_view, item_view, arm_view, seq_view, method_view, entity_view};
+ghost use Rattle.pc_tree.specs.Tree as t;
+ghost use Rattle.pc_gen.specs.Parts as spec;
+
+use pc_caps::{Cap, List, Span};
+use pc_tree::{
+    Arm, Entity, EntityKind, Expr, Item, MethodDef, MethodWord, Name, Op, ParamDef, Seq, Suffix,
+    TypeRef,
+};
+use std::alloc::{AllocError, Global};
+
+/// A made tree stands in no text.
+pub const NOWHERE: Span = Span { start: 0, end: 0 };
+
+/// A name.
+pub fn named(alloc: Global, text: &[u8]) -> Result<Name, AllocError>
+    ensures { IfOk result (λ name. name ≡ spec.named text.now) }
+{
+    Ok(Name {
+        text: List::from_slice(alloc, text)?,
+        span: NOWHERE,
+    })
+}
+
+/// `C` or `C k`.
+pub fn type_of(alloc: Global, name: &[u8], cap: Option<Cap>) -> Result<TypeRef, AllocError>
+    ensures { IfOk result (λ ty. ty ≡ spec.type_of name.now cap) }
+{
+    Ok(TypeRef {
+        name: named(alloc, name)?,
+        cap,
+        hat: false,
+    })
+}
+
+/// `x`.
+#[tactic(auto, using(pc_tree::proofs::Views::view_name))]
+pub fn variable(alloc: Global, name: &[u8]) -> Result<Expr, AllocError>
+    ensures { IfOk result (λ e. expr_view e ≡ spec.variable name.now) }
+{
+    Ok(Expr::Name(named(alloc, name)?))
+}
+
+/// `C`.
+#[tactic(auto, using(pc_tree::proofs::Views::view_type_name))]
+pub fn entity(alloc: Global, name: &[u8]) -> Result<Expr, AllocError>
+    ensures { IfOk result (λ e. expr_view e ≡ spec.entity name.now) }
+{
+    Ok(Expr::TypeName(named(alloc, name)?))
+}
+
+/// `5`.
+#[tactic(auto, using(pc_tree::proofs::Views::view_number))]
+pub fn number(value: u64) -> Expr
+    ensures { expr_view result ≡ spec.number value }
+{
+    Expr::Number {
+        value,
+        span: NOWHERE,
+    }
+}
+
+/// `consume x`.
+#[tactic(auto, using(pc_tree::proofs::Views::view_consume))]
+pub fn consumed(alloc: Global, name: &[u8]) -> Result<Expr, AllocError>
+    ensures { IfOk result (λ e. expr_view e ≡ spec.consumed name.now) }
+{
+    Ok(Expr::Consume {
+        name: named(alloc, name)?,
+        span: NOWHERE,
+    })
+}
+
+/// `a + b`.
+#[tactic(auto, using(pc_tree::proofs::Views::view_infix))]
+pub fn operation(alloc: Global, op: Op, left: Expr, right: Expr) -> Result<Expr, AllocError>
+    ensures { IfOk result (λ e. expr_view e ≡ spec.operation op (expr_view left) (expr_view right)) }
+{
+    Ok(Expr::Infix {
+        op,
+        terms: List::from_vec(vec![in alloc; left, right]?),
+        span: NOWHERE,
+    })
+}
+
+/// `x = e`.
+#[tactic(auto, using(pc_tree::proofs::Views::view_assign))]
+pub fn assigned(alloc: Global, name: &[u8], value: Expr) -> Result<Expr, AllocError>
+    ensures { IfOk result (λ e. expr_view e ≡ spec.assigned name.now (expr_view value)) }
+{
+    let left = Box::new(alloc, variable(alloc, name)?)?;
+    let right = Box::new(alloc, value)?;
+    Ok(Expr::Assign {
+        left,
+        right,
+        span: NOWHERE,
+    })
+}
+
+/// `.m`.
+#[tactic(auto, using(pc_tree::proofs::Views::view_dot))]
+pub fn dot(alloc: Global, name: &[u8]) -> Result<Suffix, AllocError>
+    ensures { IfOk result (λ s. suffix_view s ≡ spec.dot name.now) }
+{
+    Ok(Suffix::Dot(named(alloc, name)?))
+}
+
+/// `(a, b)`.
+#[tactic(auto, using(pc_tree::proofs::Views::view_args))]
+pub fn arguments(args: List<Expr>) -> Suffix
+    ensures { suffix_view result ≡ spec.arguments (map expr_view args) }
+{
+    Suffix::Args {
+        args,
+        span: NOWHERE,
+    }
+}
+
+/// A chain of suffixes behind an expression.
+#[tactic(auto, using(pc_tree::proofs::Views::view_chain))]
+pub fn chained(alloc: Global, head: Expr, suffixes: Vec<Suffix>) -> Result<Expr, AllocError>
+    ensures { IfOk result (λ e. expr_view e ≡ spec.chained (expr_view head) (map suffix_view suffixes.items)) }
+{
+    Ok(Expr::Chain {
+        head: Box::new(alloc, head)?,
+        suffixes: List::from_vec(suffixes),
+        span: NOWHERE,
+    })
+}
+
+/// `x.m(a, b)`.
+pub fn call(alloc: Global, name: &[u8], method: &[u8], args: List<Expr>) -> Result<Expr, AllocError>
+    ensures { IfOk result (λ e. expr_view e ≡ spec.call name.now method.now (map expr_view args)) }
+{
+    let head = variable(alloc, name)?;
+    let method = dot(alloc, method)?;
+    let suffixes = vec![in alloc; method, arguments(args)]?;
+    chained(alloc, head, suffixes)
+}
+
+/// `C(a, b)`.
+pub fn construct(alloc: Global, name: &[u8], args: List<Expr>) -> Result<Expr, AllocError>
+    ensures { IfOk result (λ e. expr_view e ≡ spec.construct name.now (map expr_view args)) }
+{
+    let head = entity(alloc, name)?;
+    let suffixes = vec![in alloc; arguments(args)]?;
+    chained(alloc, head, suffixes)
+}
+
+/// A list of one value.
+pub fn one<T: Drop>(alloc: Global, item: T) -> Result<List<T>, AllocError>
+    ensures { IfOk result (λ list. list ≡ item ∷ []) }
+{
+    let mut list = List::new(alloc);
+    list.push(item)?;
+    Ok(list)
+}
+
+/// A sequence.
+#[tactic(auto, using(pc_tree::proofs::Views::view_seq))]
+pub fn sequence(items: List<Item>) -> Seq
+    ensures { seq_view result ≡ spec.sequence (map item_view items) }
+{
+    Seq {
+        items,
+        span: NOWHERE,
+    }
+}
+
+/// A sequence of one expression.
+#[tactic(auto, using(pc_tree::proofs::Views::view_plain))]
+pub fn alone(alloc: Global, e: Expr) -> Result<Seq, AllocError>
+    ensures { IfOk result (λ seq. seq_view seq ≡ spec.alone (expr_view e)) }
+{
+    let items = one(alloc, Item::Plain(e))?;
+    Ok(sequence(items))
+}
+
+/// `let x: T = e`, or `var` in place of `let`.
+#[tactic(auto, using(pc_tree::proofs::Views::view_local))]
+pub fn local(
+    alloc: Global,
+    fixed: bool,
+    name: &[u8],
+    ty: TypeRef,
+    value: Expr,
+) -> Result<Item, AllocError>
+    ensures { IfOk result (λ item. item_view item ≡ spec.local fixed name.now ty (expr_view value)) }
+{
+    Ok(Item::Local {
+        fixed,
+        name: named(alloc, name)?,
+        ty: Some(ty),
+        value,
+        span: NOWHERE,
+    })
+}
+
+// `c then a`.
+#[tactic(auto, using(pc_tree::proofs::Views::view_arm))]
+fn arm(cond: Seq, body: Seq) -> Arm
+    ensures { arm_view result ≡ t.arm_of (seq_view cond) (seq_view body) spec.nowhere }
+{
+    Arm {
+        cond,
+        body,
+        span: NOWHERE,
+    }
+}
+
+/// `if c then a else b end`.
+pub fn choice(alloc: Global, cond: Seq, body: Seq, other: Seq) -> Result<Expr, AllocError>
+    ensures { IfOk result (λ e. expr_view e ≡ spec.choice (seq_view cond) (seq_view body) (seq_view other)) }
+{
+    let arms = one(alloc, arm(cond, body))?;
+    let other = Box::new(alloc, other)?;
+    Ok(Expr::If {
+        arms,
+        other: Some(other),
+        span: NOWHERE,
+    })
+}
+
+/// `while c do a end`.
+#[tactic(auto, using(pc_tree::proofs::Views::view_while))]
+pub fn turns(alloc: Global, cond: Seq, body: Seq) -> Result<Expr, AllocError>
+    ensures { IfOk result (λ e. expr_view e ≡ spec.turns (seq_view cond) (seq_view body)) }
+{
+    let cond = Box::new(alloc, cond)?;
+    let body = Box::new(alloc, body)?;
+    Ok(Expr::While {
+        cond,
+        body,
+        span: NOWHERE,
+    })
+}
+
+/// `recover k a end`.
+#[tactic(auto, using(pc_tree::proofs::Views::view_recover))]
+pub fn recovered(alloc: Global, cap: Cap, body: Seq) -> Result<Expr, AllocError>
+    ensures { IfOk result (λ e. expr_view e ≡ spec.recovered cap (seq_view body)) }
+{
+    let body = Box::new(alloc, body)?;
+    Ok(Expr::Recover {
+        cap: Some(cap),
+        body,
+        span: NOWHERE,
+    })
+}
+
+/// `x: T`.
+pub fn param(alloc: Global, name: &[u8], ty: TypeRef) -> Result<ParamDef, AllocError>
+    ensures { IfOk result (λ param. param ≡ spec.param name.now ty) }
+{
+    Ok(ParamDef {
+        name: named(alloc, name)?,
+        ty,
+    })
+}
+
+/// A method with a body.
+pub fn method(
+    alloc: Global,
+    word: MethodWord,
+    cap: Option<Cap>,
+    name: &[u8],
+    params: List<ParamDef>,
+    gives: Option<TypeRef>,
+    body: Seq,
+) -> Result<MethodDef, AllocError>
+    ensures { IfOk result (λ m. method_view m ≡ spec.method word cap name.now params gives (seq_view body)) }
+{
+    Ok(MethodDef {
+        word,
+        cap,
+        name: named(alloc, name)?,
+        params,
+        result: gives,
+        body: Some(body),
+    })
+}
+
+/// `new create(x: T) => body`.
+pub fn create(alloc: Global, params: List<ParamDef>, body: Seq) -> Result<MethodDef, AllocError>
+    ensures { IfOk result (λ m. method_view m ≡ spec.create params (seq_view body)) }
+{
+    method(alloc, MethodWord::New, None, b"create", params, None, body)
+}
+
+/// An actor without fields, with one method.
+pub fn actor(alloc: Global, name: &[u8], method: MethodDef) -> Result<Entity, AllocError>
+    ensures { IfOk result (λ e. entity_view e ≡ spec.actor name.now (method_view method)) }
+{
+    let name = named(alloc, name)?;
+    let methods = one(alloc, method)?;
+    Ok(Entity {
+        kind: EntityKind::Actor,
+        cap: None,
+        name,
+        provides: List::new(alloc),
+        fields: List::new(alloc),
+        methods,
+    })
+}

@@ -1,0 +1,215 @@
+//! The made program.
+ghost use Rattle.std.specs.Prelude.{◌≡◌, [], ◌∷◌, ◌++◌, ◌<◌, ◌≤◌, ◌+◌, map, IfOk, OnOk};
+ghost use Rattle.std.specs.List.{range_with_len};
+ghost use Rattle.pc_tree.specs.View.{expr_view, item_view, maybe_expr, field_view, method_view, entity_view, file_view};
+ghost use Rattle.pc_gen.specs.Draws.{next, high};
+ghost use Rattle.pc_gen.specs.Program as spec;
+
+use crate::bodies::{push_task, tell};
+use crate::draws::Draws;
+use crate::parts::{
+    actor, alone, assigned, chained, construct, consumed, create, dot, entity, local, method,
+    named, number, one, operation, param, sequence, type_of, variable,
+};
+use crate::task::{Task, task_of};
+use pc_caps::{Cap, List};
+use pc_tree::{
+    Entity, EntityKind, Expr, FieldDef, File, Item, MethodDef, MethodWord, Op, ParamDef,
+};
+use std::alloc::{AllocError, Global};
+
+// `var _n: U64 = 0`
+fn count_field(alloc: Global) -> Result<FieldDef, AllocError>
+    ensures { IfOk result (λ f. field_view f ≡ spec.count_field) }
+{
+    let name = named(alloc, b"_n")?;
+    let ty = type_of(alloc, b"U64", None)?;
+    Ok(FieldDef {
+        fixed: false,
+        name,
+        ty,
+        value: Some(number(0)),
+    })
+}
+
+// `fun ref add(k: U64) => _n = _n + k`
+fn add_method(alloc: Global) -> Result<MethodDef, AllocError>
+    ensures { IfOk result (λ m. method_view m ≡ spec.add_method) }
+{
+    let left = variable(alloc, b"_n")?;
+    let right = variable(alloc, b"k")?;
+    let sum = operation(alloc, Op::Add, left, right)?;
+    let sets = assigned(alloc, b"_n", sum)?;
+    let body = alone(alloc, sets)?;
+    let ty = type_of(alloc, b"U64", None)?;
+    let amount = param(alloc, b"k", ty)?;
+    let params = one(alloc, amount)?;
+    let cap = Some(Cap::Ref);
+    method(alloc, MethodWord::Fun, cap, b"add", params, None, body)
+}
+
+// `fun value(): U64 => _n`
+fn value_method(alloc: Global) -> Result<MethodDef, AllocError>
+    ensures { IfOk result (λ m. method_view m ≡ spec.value_method) }
+{
+    let held = variable(alloc, b"_n")?;
+    let body = alone(alloc, held)?;
+    let ty = Some(type_of(alloc, b"U64", None)?);
+    let params = List::new(alloc);
+    method(alloc, MethodWord::Fun, None, b"value", params, ty, body)
+}
+
+// The class `Cell`.
+fn cell(alloc: Global) -> Result<Entity, AllocError>
+    ensures { IfOk result (λ e. entity_view e ≡ spec.cell) }
+{
+    let name = named(alloc, b"Cell")?;
+    let fields = one(alloc, count_field(alloc)?)?;
+    let add = add_method(alloc)?;
+    let value = value_method(alloc)?;
+    let methods = List::from_vec(vec![in alloc; add, value]?);
+    Ok(Entity {
+        kind: EntityKind::Class,
+        cap: None,
+        name,
+        provides: List::new(alloc),
+        fields,
+        methods,
+    })
+}
+
+// `Work5`
+fn worker_name(alloc: Global, i: u32) -> Result<List<u8>, AllocError>
+    ensures { IfOk result (λ name. name ≡ spec.worker_name i) }
+{
+    let digits = format!(in alloc; "{i}")?;
+    let mut name = Vec::from_slice(alloc, b"Work")?;
+    name.extend_from_slice(digits.as_bytes())?;
+    Ok(List::from_vec(name))
+}
+
+// `let c: Cell iso = consume cell`
+fn take_cell(alloc: Global) -> Result<Item, AllocError>
+    ensures { IfOk result (λ item. item_view item ≡ spec.take_cell) }
+{
+    let ty = type_of(alloc, b"Cell", Some(Cap::Iso))?;
+    let given = consumed(alloc, b"cell")?;
+    local(alloc, true, b"c", ty, given)
+}
+
+// `out: OutStream, cell: Cell iso`
+fn worker_params(alloc: Global) -> Result<List<ParamDef>, AllocError>
+    ensures { IfOk result (λ params. params ≡ spec.worker_params) }
+{
+    let ty = type_of(alloc, b"OutStream", None)?;
+    let out = param(alloc, b"out", ty)?;
+    let ty = type_of(alloc, b"Cell", Some(Cap::Iso))?;
+    let cell = param(alloc, b"cell", ty)?;
+    let params = vec![in alloc; out, cell]?;
+    Ok(List::from_vec(params))
+}
+
+// What a worker does last: the last one of all prints what the cell holds, each other hands the cell on.
+fn hand_on(alloc: Global, size: u32, i: u32) -> Result<Expr, AllocError>
+    requires { i < size }
+    ensures { IfOk result (λ e. expr_view e ≡ spec.hand_on size i) }
+{
+    if i + 1 == size {
+        return tell(alloc, b"c");
+    }
+    let name = worker_name(alloc, i + 1)?;
+    let out = variable(alloc, b"out")?;
+    let cell = consumed(alloc, b"c")?;
+    let args = vec![in alloc; out, cell]?;
+    construct(alloc, name.as_slice(), List::from_vec(args))
+}
+
+// What a worker does.
+fn work_items(
+    alloc: Global,
+    size: u32,
+    i: u32,
+    task: Task,
+    k: u64,
+) -> Result<List<Item>, AllocError>
+    requires { i < size }
+    ensures { IfOk result (λ items. map item_view items ≡ spec.work_items size i task k) }
+{
+    let first = take_cell(alloc)?;
+    let mut items = one(alloc, first)?;
+    push_task(alloc, &mut items, task, k)?;
+    let last = hand_on(alloc, size, i)?;
+    items.push(Item::Plain(last))?;
+    Ok(items)
+}
+
+// The worker of this number.
+fn work(alloc: Global, size: u32, i: u32, task: Task, k: u64) -> Result<Entity, AllocError>
+    requires { i < size }
+    ensures { IfOk result (λ e. entity_view e ≡ spec.work size i task k) }
+{
+    let items = work_items(alloc, size, i, task, k)?;
+    let params = worker_params(alloc)?;
+    let creates = create(alloc, params, sequence(items))?;
+    let name = worker_name(alloc, i)?;
+    actor(alloc, name.as_slice(), creates)
+}
+
+// The worker of this number, by the next two draws.
+fn next_worker(alloc: Global, draws: &mut Draws, size: u32, i: u32) -> Result<Entity, AllocError>
+    requires { i < size }
+    ensures state { draws.new.state ≡ next (next draws.old.state) }
+    ensures worker { IfOk result (λ e. entity_view e ≡ spec.work size i (spec.task_of (high (next draws.old.state) 4)) (high (next (next draws.old.state)) 1000)) }
+{
+    let task = task_of(draws.draw(4));
+    let k = u64::from(draws.draw(1000));
+    work(alloc, size, i, task, k)
+}
+
+// The workers, in order.
+fn push_workers(
+    alloc: Global,
+    entities: &mut List<Entity>,
+    seed: u64,
+    size: u32,
+) -> Result<(), AllocError>
+    ensures { OnOk result (map entity_view entities.new ≡ map entity_view entities.old ++ spec.workers seed size) }
+{
+    let mut draws = Draws::new(seed);
+    for i in 0..size {
+        let worker = next_worker(alloc, &mut draws, size, i)?;
+        entities.push(worker)?;
+    }
+    Ok(())
+}
+
+// The actor `Main`.
+fn main_actor(alloc: Global) -> Result<Entity, AllocError>
+    ensures { IfOk result (λ e. entity_view e ≡ spec.main) }
+{
+    let env = variable(alloc, b"env")?;
+    let out = dot(alloc, b"out")?;
+    let stream = chained(alloc, env, vec![in alloc; out]?)?;
+    let cell = entity(alloc, b"Cell")?;
+    let args = List::from_vec(vec![in alloc; stream, cell]?);
+    let begins = construct(alloc, b"Work0", args)?;
+    let body = alone(alloc, begins)?;
+    let ty = type_of(alloc, b"Env", None)?;
+    let env = param(alloc, b"env", ty)?;
+    let params = one(alloc, env)?;
+    let creates = create(alloc, params, body)?;
+    actor(alloc, b"Main", creates)
+}
+
+/// The program of a seed and a size.
+pub fn make(alloc: Global, seed: u64, size: u32) -> Result<File, AllocError>
+    requires some { 1 ≤ size }
+    requires few { size ≤ 900 }
+    ensures { IfOk result (λ file. file_view file ≡ spec.program seed size) }
+{
+    let mut entities = one(alloc, cell(alloc)?)?;
+    push_workers(alloc, &mut entities, seed, size)?;
+    let main = main_actor(alloc)?;
+    entities.push(main)?;
+    Ok(File { entities })
+}

@@ -1,0 +1,33 @@
+//! The schedule by which a made program is run.
+ghost use Rattle.std.specs.Prelude.{◌≡◌, ◌≤◌, IfOk};
+ghost use Rattle.pc_gen.specs.Schedule as spec;
+ghost use Rattle.pc_sched.specs.Limits.{turn_limit};
+ghost use Rattle.pc_sched.specs.Schedules.{total};
+
+use pc_caps::List;
+use pc_sched::Turn;
+use std::alloc::{AllocError, Global};
+
+/// How many turns each actor of a program takes.
+const OWN_TURNS: u32 = 400;
+
+/// The schedule of a program of this size: `Main` and the workers take 400 turns each, one after the other, and then the
+/// output stream takes one for each of them.
+pub fn schedule_of(alloc: Global, size: u32) -> Result<List<Turn>, AllocError>
+    requires { size ≤ 900 }
+    ensures turns { IfOk result (λ turns. turns ≡ spec.schedule size) }
+    ensures few { IfOk result (λ turns. total turns ≤ turn_limit) }
+{
+    let mut turns = List::new(alloc);
+    for i in 0..size + 1 {
+        turns.push(Turn {
+            actor: i + 1,
+            times: OWN_TURNS,
+        })?;
+    }
+    turns.push(Turn {
+        actor: 0,
+        times: size + 1,
+    })?;
+    Ok(turns)
+}

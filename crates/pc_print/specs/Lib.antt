@@ -1,0 +1,5 @@
+pub mod Escapes
+pub mod Printing
+pub mod Bare
+pub mod Laws
+pub mod Examples

@@ -1,0 +1,153 @@
+//! The parts of a tree that hold no expression, each put at the end of a text.
+ghost use Rattle.std.specs.Prelude.{◌≡◌, ◌++◌, ◌<◌, ◌/◌, ◌%◌, [], ◌∷◌, if◌then◌else◌, OnOk};
+ghost use Rattle.std.specs.Char.{digit_char};
+ghost use Rattle.std.specs.Fmt.{decimal};
+ghost use Rattle.pc_print.specs.Escapes.{escaped, all_escaped};
+ghost use Rattle.pc_print.specs.Printing as text;
+ghost use Rattle.pc_token.specs.Words.{word_text};
+ghost use Rattle.pc_grammar.specs.Asking.{local_word};
+
+use pc_caps::Cap;
+use pc_tree::{Op, TypeRef};
+use std::alloc::{AllocError, Global};
+
+// The digit of a number below 16.
+fn hex_digit(n: u8) -> u8
+    requires { n < 16 }
+    ensures { result ≡ digit_char n }
+{
+    if n < 10 { 48 + n } else { 87 + n }
+}
+
+// A byte by its two digits.
+fn push_digits(out: &mut Vec<u8>, b: u8) -> Result<(), AllocError>
+    ensures { OnOk result (out.new.items ≡ out.old.items ++ 92 ∷ 120 ∷ digit_char (b / 16) ∷ digit_char (b % 16) ∷ []) }
+{
+    out.extend_from_slice(&[b'\\', b'x', hex_digit(b / 16), hex_digit(b % 16)])
+}
+
+/// One byte of a text literal's value.
+#[tactic(auto, unfolding(crate::specs::Escapes::escaped))]
+pub fn push_escaped(out: &mut Vec<u8>, b: u8) -> Result<(), AllocError>
+    ensures { OnOk result (out.new.items ≡ out.old.items ++ escaped b) }
+{
+    if b == b'"' {
+        out.extend_from_slice(b"\\\"")
+    } else if b == b'\\' {
+        out.extend_from_slice(b"\\\\")
+    } else if b == b'\n' {
+        out.extend_from_slice(b"\\n")
+    } else if b == b'\r' {
+        out.extend_from_slice(b"\\r")
+    } else if b == b'\t' {
+        out.extend_from_slice(b"\\t")
+    } else if b == 0 {
+        out.extend_from_slice(b"\\0")
+    } else if b < 32 || b == 127 {
+        push_digits(out, b)
+    } else {
+        out.push(b)?;
+        Ok(())
+    }
+}
+
+/// A number, in decimal digits.
+pub fn push_number(alloc: Global, out: &mut Vec<u8>, n: u64) -> Result<(), AllocError>
+    ensures { OnOk result (out.new.items ≡ out.old.items ++ decimal n) }
+{
+    let digits = format!(in alloc; "{n}")?;
+    out.extend_from_slice(digits.as_bytes())
+}
+
+/// A capability with a blank before it, where one is written.
+pub fn push_cap(out: &mut Vec<u8>, cap: Option<Cap>) -> Result<(), AllocError>
+    ensures { OnOk result (out.new.items ≡ out.old.items ++ text.cap cap) }
+{
+    match cap {
+        Some(Cap::Iso) => out.extend_from_slice(b" iso"),
+        Some(Cap::Trn) => out.extend_from_slice(b" trn"),
+        Some(Cap::Ref) => out.extend_from_slice(b" ref"),
+        Some(Cap::Val) => out.extend_from_slice(b" val"),
+        Some(Cap::Box) => out.extend_from_slice(b" box"),
+        Some(Cap::Tag) => out.extend_from_slice(b" tag"),
+        None => Ok(()),
+    }
+}
+
+/// The word before a local or a field, with a blank.
+pub fn push_local(out: &mut Vec<u8>, fixed: bool) -> Result<(), AllocError>
+    ensures { OnOk result (out.new.items ≡ out.old.items ++ (word_text (local_word fixed) ++ 32 ∷ [])) }
+{
+    if fixed {
+        out.extend_from_slice(b"let ")
+    } else {
+        out.extend_from_slice(b"var ")
+    }
+}
+
+// `^`, where it is written.
+fn push_hat(out: &mut Vec<u8>, hat: bool) -> Result<(), AllocError>
+    ensures { OnOk result (out.new.items ≡ out.old.items ++ text.hat hat) }
+{
+    if hat {
+        out.push(b'^')?;
+    }
+    Ok(())
+}
+
+/// A type.
+pub fn push_type(out: &mut Vec<u8>, ty: &TypeRef) -> Result<(), AllocError>
+    ensures { OnOk result (out.new.items ≡ out.old.items ++ text.type_ref ty.now) }
+{
+    out.extend_from_slice(ty.name.text.as_slice())?;
+    push_cap(out, ty.cap)?;
+    push_hat(out, ty.hat)
+}
+
+/// A type with its `:`, where one is written.
+pub fn push_typed(out: &mut Vec<u8>, ty: &Option<TypeRef>) -> Result<(), AllocError>
+    ensures { OnOk result (out.new.items ≡ out.old.items ++ text.typed ty.now) }
+{
+    match ty {
+        Some(r) => {
+            out.extend_from_slice(b": ")?;
+            push_type(out, r)
+        }
+        None => Ok(()),
+    }
+}
+
+/// The spelling of an operator.
+pub fn op_text(op: Op) -> &'static [u8]
+    ensures { result.now ≡ text.op_text op }
+{
+    match op {
+        Op::Add => b"+",
+        Op::Sub => b"-",
+        Op::Mul => b"*",
+        Op::Div => b"/",
+        Op::Rem => b"%",
+        Op::Eq => b"==",
+        Op::Ne => b"!=",
+        Op::Lt => b"<",
+        Op::Le => b"<=",
+        Op::Gt => b">",
+        Op::Ge => b">=",
+        Op::And => b"and",
+        Op::Or => b"or",
+        Op::Xor => b"xor",
+        Op::Is => b"is",
+        Op::Isnt => b"isnt",
+    }
+}
+
+/// What stands between two parts, unless the first of them comes.
+pub fn push_between(out: &mut Vec<u8>, first: bool, between: &[u8]) -> Result<(), AllocError>
+    ensures { OnOk result (out.new.items ≡ out.old.items ++ (if first then [] else between.now)) }
+{
+    if first {
+        Ok(())
+    } else {
+        out.extend_from_slice(between)
+    }
+}
