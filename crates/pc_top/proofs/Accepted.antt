@@ -1,133 +1,131 @@
--- What is accepted has a derivation.
-use Rattle.std.proofs.Common.{◌≡◌, ℕ, List, Option, Some, None, Ok, Err, sym, ◌∙◌, subst, ap, arith}
+-- What is accepted has a derivation, and is safe.
+use Rattle.std.proofs.Common.{◌≡◌, ◌≤◌, ℕ, List, Option, Some, None, Ok, Err, inl, inr, subst, ap, arith}
 use Rattle.std.specs.Prelude.{IfSome, Result}
-use Rattle.pc_lex.specs.declared.fault.LexFault.{LexFault}
-use Rattle.pc_lex.specs.declared.fault.LexFault.TheVariants as fault
-use Rattle.pc_deriv.specs.declared.fault.DerivFault.{DerivFault}
-use Rattle.pc_deriv.specs.declared.fault.DerivFault.TheVariants as deriv
+use Rattle.std.specs.Io.KnownBytes.{Appends}
 use Rattle.pc_ann.specs.declared.annotation.Ann.{Ann}
 use Rattle.pc_rules.specs.Valid.{Valid}
-use Rattle.pc_top.specs.After.After.{stops, goes}
+use Rattle.pc_sound.specs.Laws.{ValidIsSafe}
+use Rattle.pc_words.specs.Asked.{Text, Asked, check, judge, run, show, make, command_of}
+use Rattle.pc_top.specs.Accepting.{AcceptedStage}
 use Rattle.pc_top.specs.Answer.{Answer}
-use Rattle.pc_top.specs.Answer.Answer.{told, file, out_failed, err_failed, file_err_failed, no_memory}
-use Rattle.pc_top.specs.Asked.{Files, IsVerdict, IsVerdictOf, FailedIn, Accepts, AcceptsOf, named}
-use Rattle.pc_top.specs.Check.{Deriving, CheckStage, IsCheck}
-use Rattle.pc_top.specs.Check.Deriving.{derives, declared, no_rule, unset}
-use Rattle.pc_words.specs.Asked.{Text, Asked, check, judge, command_of}
-use Rattle.pc_top.specs.Ends.{Change}
-use Rattle.pc_top.specs.Faults.{fault_status}
-use Rattle.pc_top.specs.CoreOf.{IsDerivable}
-use Rattle.pc_top.specs.Judge.{DerivationStage, JudgeStage, IsJudge, judged, text_status}
-use Rattle.pc_top.specs.Judge.Reads.{refuses}
+use Rattle.pc_top.specs.Answer.Answer.{told as answer_told, file as answer_file, out_failed, err_failed, file_err_failed, no_memory}
+use Rattle.pc_top.specs.Asked.{IsVerdict, IsVerdictOf, FailedIn, Accepts, IsMadeSafe, OfMade, OfSource}
+use Rattle.pc_top.specs.Check.{Derived}
+use Rattle.pc_top.specs.CoreOf.{CoresAreFormed, IsDerivable, HasSafeCore, DerivableIsSafe}
+use Rattle.pc_io.specs.Change.{Change}
+use Rattle.pc_top.specs.FromFile.{FromFile}
+use Rattle.pc_top.specs.FromFile.FromFile.{refuses, goes_on}
+use Rattle.pc_top.specs.Judge.{DerivationStage, Judged, Judging, IsJudge, derivation_limit, judged}
 use Rattle.pc_top.specs.Judge.Judging.{holds, fails}
-use Rattle.pc_top.specs.Judge.IsJudge.{source_stops, source_stands}
-use Rattle.pc_top.specs.Named.{Named, Reading, whole, Gives}
-use Rattle.pc_top.specs.Source.{CoreStage, SourceStage, source_limit}
-use Rattle.pc_top.specs.Source.Length.{fits, is_longer}
-use Rattle.pc_top.specs.Source.Lexing.{faulty}
-use Rattle.pc_top.specs.Source.Parsing.{astray, nested}
-use Rattle.pc_top.specs.Source.Elaborating.{misnamed, misused}
-use Rattle.pc_names.specs.declared.fault.NameFault.{NameFault}
-use Rattle.pc_names.specs.declared.fault.NameFault.TheVariants as names
-use Rattle.pc_top.specs.Names.{name_status}
-use Rattle.pc_top.specs.Source.TextStage.{has_none}
-use Rattle.pc_top.specs.Verdict.{Verdict, ended}
+use Rattle.pc_top.specs.Make.{IsMade, IsMake, MadeRun, made_name, made_text}
+use Rattle.pc_top.specs.Make.IsMake.{made, no_numbers}
+use Rattle.pc_top.specs.Named.{Files, Named, Reading, whole, Gives, named, text_as}
+use Rattle.pc_top.specs.Run.{Scheduled}
+use Rattle.pc_top.specs.Source.{SourceStage, source_limit}
+use Rattle.pc_top.specs.Verdict.{Verdict, IsAccepting}
+use Rattle.pc_top.specs.declared.accepting.Accepted.{Accepted}
 use Rattle.pc_top.specs.declared.source.Source.{Source}
-use Rattle.pc_top.proofs.Deriving.{source_says}
+use Rattle.pc_top.proofs.Deriving.{source_says, accepted_source}
+use Rattle.pc_top.proofs.Statuses.{accepted_refuses, derivation_other, source_other, other_refuses, six_refuses}
 
-fault_refuses : (f : LexFault) → fault_status f ≡ 0 → ⊥
-fault_refuses (fault.BadByte p) e = omega arith
-fault_refuses (fault.Unclosed p) e = omega arith
-fault_refuses (fault.BadNumber p) e = omega arith
-fault_refuses (fault.BadEscape p) e = omega arith
-fault_refuses (fault.TooMany p) e = omega arith
-fault_refuses fault.Memory e = omega arith
+-- what a file's stages gave, where none of their refusals accepts
+pub passed : {T : Type 0} (file : Named) (limit : ℕ) (Stages : Reading → Result T Verdict → Type 0) (Last : T → Verdict → Type 0) (v : Verdict)
+    → ((r : Reading) → Stages r (Err v) → ⊥) → FromFile file limit Stages Last v → (r : Reading) × (x : T) × Gives file limit r × Stages r (Ok x) × Last x v
+passed file limit Stages Last v never (refuses r g h) = absurd (never r h)
+passed file limit Stages Last v never (goes_on r x g h l) = (r, x, g, h, l)
 
-text_refuses : (f : DerivFault) → text_status f ≡ 0 → ⊥
-text_refuses (deriv.BadLine n) e = omega arith
-text_refuses deriv.TooMany e = omega arith
-text_refuses deriv.Memory e = omega arith
+-- what holds of the bytes that were read, holds of those that are told
+pub of_told : (Holds : Text → Type 0) (told : Option Text) (bytes : Text) → Holds bytes → IfSome told (λ b. bytes ≡ b) → IfSome told Holds
+of_told Holds None bytes h e = tt
+of_told Holds (Some b) bytes h e = subst Holds e h
 
-name_refuses : (f : NameFault) → name_status f ≡ 0 → ⊥
-name_refuses (names.Double s) e = omega arith
-name_refuses (names.Unknown s) e = omega arith
-name_refuses names.NoMain e = omega arith
-name_refuses (names.BadMain s) e = omega arith
-name_refuses (names.Cycle s) e = omega arith
-name_refuses (names.TooMany w s) e = omega arith
-name_refuses names.Memory e = omega arith
+-- a source that was read was read whole
+pub source_whole : (file : Named) (r : Reading) (s : Source) → Gives file source_limit r → SourceStage file.name r (Ok s) → Gives file source_limit (whole s.bytes)
+source_whole file r s g h = subst (λ (q : Reading). Gives file source_limit q) (source_says h).0 g
 
-core_refuses : {name bytes : Text} {v : Verdict} → CoreStage name bytes (Err v) → v.status ≡ 0 → ⊥
-core_refuses (stops (faulty f h)) e = fault_refuses f e
-core_refuses (goes t (stops (astray h))) e = omega arith
-core_refuses (goes t (stops (nested h))) e = omega arith
-core_refuses (goes t (goes tree (misnamed f o h))) e = name_refuses f e
-core_refuses (goes t (goes tree (misused f o h))) e = name_refuses f e
+derivable : (file : Named) (r : Reading) (s : Source) (ann : Ann) → Gives file source_limit r → SourceStage file.name r (Ok s) → Valid s.core ann → IfSome file.told IsDerivable
+derivable file r s ann g h v = of_told IsDerivable file.told s.bytes (s.core, (source_says h).1, (ann, v)) (source_whole file r s g h).1
 
-pub source_refuses : {name : Text} {r : Reading} {v : Verdict} → SourceStage name r (Err v) → v.status ≡ 0 → ⊥
-source_refuses (stops is_longer) e = omega arith
-source_refuses (goes fits (has_none h)) e = core_refuses h e
+-- a command that goes on with an accepted source
+pub accepted_derivable : (file : Named) (Last : Accepted → Verdict → Type 0) (v : Verdict) → FromFile file source_limit (AcceptedStage file.name) Last v → IsAccepting v.status
+    → IfSome file.told IsDerivable
+accepted_derivable file Last v is e =
+    let p = passed file source_limit (AcceptedStage file.name) Last v (λ r h. accepted_refuses h e) is in
+    let s = accepted_source p.3 in
+    derivable file p.0 p.1.source p.1.ann p.2 s.0 s.1
 
-derivation_refuses : {name : Text} {r : Reading} {v : Verdict} → DerivationStage name r (Err v) → v.status ≡ 0 → ⊥
-derivation_refuses (stops is_longer) e = omega arith
-derivation_refuses (goes fits (refuses f h)) e = text_refuses f e
+-- the judge says yes to what is valid
+pub judged_valid : {source_name name : Text} {s : Source} {ann : Ann} {end : Result (Unit {0}) Verdict} → Judging source_name name s ann end → IsAccepting (judged end).status → Valid s.core ann
+judged_valid (holds v) e = v
+judged_valid (fails f h) e = absurd (six_refuses e)
 
-pub judge_refuses : {source_name name : Text} {s : Source} {r : Reading} {v : Verdict} → JudgeStage source_name name s r (Err v) → v.status ≡ 0 → ⊥
-judge_refuses (stops h) e = derivation_refuses h e
-judge_refuses (goes {x = ann} h (fails f g)) e = omega arith
+judge_derivable : (file derivation : Named) (v : Verdict) → IsJudge file derivation v → IsAccepting v.status → IfSome file.told IsDerivable
+judge_derivable file derivation v is e =
+    let Next : Source → Verdict → Type 0 = λ s. FromFile derivation derivation_limit (DerivationStage derivation.name) (Judged file.name derivation.name s) in
+    let p = passed file source_limit (SourceStage file.name) Next v (λ r h. other_refuses v.status (source_other h) e) is in
+    let d = passed derivation derivation_limit (DerivationStage derivation.name) (Judged file.name derivation.name p.1) v (λ r h. other_refuses v.status (derivation_other h) e) p.4 in
+    derivable file p.0 p.1 d.1 p.2 p.3 (judged_valid d.4.1 (subst (λ (w : Verdict). IsAccepting w.status) d.4.2 e))
 
--- A source that all stages let pass, whose core has this valid annotation.
-abbrev pub Stands : Text → Reading → Source → Ann → Type 0
-Stands name r s ann = SourceStage name r (Ok s) × Valid s.core ann
+pub words_refuse : (v : Verdict) → v.status ≡ 2 → IsAccepting v.status → ⊥
+words_refuse v is (inl e) = omega (arith, is, e)
+words_refuse v is (inr e) = omega (arith, is, e)
 
-deriving_accepts : {name : Text} {s : Source} {end : Result Text Verdict} → Deriving name s end → (ended end).status ≡ 0 → (ann : Ann) × Valid s.core ann
-deriving_accepts (derives ann v t) e = (ann, v)
-deriving_accepts (declared f g) e = absurd (omega arith)
-deriving_accepts (no_rule ann n stop) e = absurd (omega arith)
-deriving_accepts (unset ann m left) e = absurd (omega arith)
+made_derivable : (a b : ℕ) (v : Verdict) → IsMade a b v → IsAccepting v.status → IsDerivable (made_text a b)
+made_derivable a b v is e = accepted_derivable (text_as made_name (made_text a b)) (MadeRun a b) v is e
 
-check_accepts : {name : Text} {r : Reading} {end : Result Text Verdict} → CheckStage name r end → (ended end).status ≡ 0 → (s : Source) × (ann : Ann) × Stands name r s ann
-check_accepts (stops s) e = absurd (source_refuses s e)
-check_accepts (goes {x = s} h d) e = let a = deriving_accepts d e in (s, a.0, (h, a.1))
+make_derivable : (seed size : Text) (v : Verdict) → IsMake seed size v → IsAccepting v.status → OfMade IsDerivable seed size
+make_derivable seed size v (made a b s t is) e = (a, b, s, t, made_derivable a b v is e)
+make_derivable seed size v (no_numbers n is) e = absurd (words_refuse v (ap (λ (x : Verdict). x.status) is) e)
 
-judge_accepts : {source_name name : Text} {s : Source} {r : Reading} {end : Result (Unit {0}) Verdict} → JudgeStage source_name name s r end → (judged end).status ≡ 0 → (ann : Ann) × Valid s.core ann
-judge_accepts (stops h) e = absurd (derivation_refuses h e)
-judge_accepts (goes {x = ann} h (holds v)) e = (ann, v)
-judge_accepts (goes {x = ann} h (fails f g)) e = absurd (omega arith)
-
-derivable_told : (told : Option Text) (bytes : Text) → IsDerivable bytes → IfSome told (λ b. bytes ≡ b) → IfSome told IsDerivable
-derivable_told None bytes s e = tt
-derivable_told (Some b) bytes s e = subst IsDerivable e s
-
-stands_derivable : (source : Named) (r : Reading) (s : Source) (ann : Ann) → Gives source source_limit r → Stands source.name r s ann → IfSome source.told IsDerivable
-stands_derivable source r s ann g h =
-    let c = source_says h.0 in
-    let read : Gives source source_limit (whole s.bytes) = subst (λ (q : Reading). Gives source source_limit q) c.0 g in
-    derivable_told source.told s.bytes (s.core, c.1, (ann, h.1)) read.1
-
-check_derivable : (source : Named) (v : Verdict) → IsCheck source v → v.status ≡ 0 → IfSome source.told IsDerivable
-check_derivable source v c e =
-    let zero : (ended c.1).status ≡ 0 = ap (λ (w : Verdict). w.status) (sym c.4) ∙ e in
-    let a = check_accepts c.3 zero in
-    stands_derivable source c.0 a.0 a.1 c.2 a.2
-
-judge_derivable : (source derivation : Named) (v : Verdict) → IsJudge source derivation v → v.status ≡ 0 → IfSome source.told IsDerivable
-judge_derivable source derivation v (source_stops r g h) e = absurd (source_refuses h e)
-judge_derivable source derivation v (source_stands r d s end g h gd hd is) e =
-    let zero : (judged end).status ≡ 0 = ap (λ (w : Verdict). w.status) (sym is) ∙ e in
-    let a = judge_accepts hd zero in
-    stands_derivable source r s a.0 g (h, a.1)
-
-verdict_accepts : (files : Files) (asked : Option Asked) (v : Verdict) → IsVerdictOf files asked v → v.status ≡ 0 → AcceptsOf files.told asked
-verdict_accepts files None v is e = let two : v.status ≡ 2 = ap (λ (x : Verdict). x.status) is in absurd (omega arith)
-verdict_accepts files (Some (check source)) v is e = check_derivable (named files source) v is e
+verdict_accepts : (files : Files) (asked : Option Asked) (v : Verdict) → IsVerdictOf files asked v → IsAccepting v.status → OfSource IsDerivable files.told asked
+verdict_accepts files None v is e = words_refuse v (ap (λ (x : Verdict). x.status) is) e
+verdict_accepts files (Some (check source)) v is e = accepted_derivable (named files source) Derived v is e
 verdict_accepts files (Some (judge source derivation)) v is e = judge_derivable (named files source) (named files derivation) v is e
+verdict_accepts files (Some (run source schedule)) v is e = accepted_derivable (named files source) (Scheduled (named files schedule)) v is e
+verdict_accepts files (Some (show source)) v is e = tt
+verdict_accepts files (Some (make seed size)) v is e = make_derivable seed size v is e
+
+-- no other answer than the verdict's accepts
+faults_refuse : (status n : ℕ) → status ≡ n → 9 ≤ n → n ≤ 11 → IsAccepting status → ⊥
+faults_refuse status n is low high (inl e) = omega (arith, is, low, high, e)
+faults_refuse status n is low high (inr e) = omega (arith, is, low, high, e)
+
+pub accepting : (files : Files) (words : List Text) (out err : Change) (status : ℕ) → Answer (IsVerdict files words) (FailedIn files words) out err status → IsAccepting status
+    → (v : Verdict) × IsVerdict files words v × IsAccepting v.status × Appends out.before out.now v.out
+accepting files words out err status (answer_told v is s o l) e = (v, is, subst IsAccepting s e, o)
+accepting files words out err status (answer_file n f s o l) e = absurd (faults_refuse status 9 s (omega arith) (omega arith) e)
+accepting files words out err status (out_failed s r t l) e = absurd (faults_refuse status 10 s (omega arith) (omega arith) e)
+accepting files words out err status (err_failed v is s r o l) e = absurd (faults_refuse status 10 s (omega arith) (omega arith) e)
+accepting files words out err status (file_err_failed n f s r o l) e = absurd (faults_refuse status 10 s (omega arith) (omega arith) e)
+accepting files words out err status (no_memory s o l) e = absurd (faults_refuse status 11 s (omega arith) (omega arith) e)
 
 pub answer_accepts : (files : Files) (words : List Text) (out err : Change) (status : ℕ)
-    → Answer (IsVerdict files words) (FailedIn files words) out err status → status ≡ 0 → Accepts files.told words
-answer_accepts files words out err status (told v is s o l) e = verdict_accepts files (command_of words) v is (sym s ∙ e)
-answer_accepts files words out err status (file n f s o l) e = absurd (omega arith)
-answer_accepts files words out err status (out_failed s r t l) e = absurd (omega arith)
-answer_accepts files words out err status (err_failed v is s r o l) e = absurd (omega arith)
-answer_accepts files words out err status (file_err_failed n f s r o l) e = absurd (omega arith)
-answer_accepts files words out err status (no_memory s o l) e = absurd (omega arith)
+    → Answer (IsVerdict files words) (FailedIn files words) out err status → IsAccepting status → Accepts files.told words
+answer_accepts files words out err status h e = let a = accepting files words out err status h e in verdict_accepts files (command_of words) a.0 a.1 a.2
+
+-- ---- safety
+
+pub derivable_safe : CoresAreFormed → ValidIsSafe → DerivableIsSafe
+derivable_safe formed never bytes d =
+    let core = d.0 in
+    let of_bytes = d.1 in
+    let ann = d.2.0 in
+    (core, of_bytes, never core ann (formed bytes core of_bytes).0 d.2.1)
+
+source_safe : DerivableIsSafe → (told : Option Text) → IfSome told IsDerivable → IfSome told HasSafeCore
+source_safe law None h = tt
+source_safe law (Some bytes) h = law bytes h
+
+made_safe : DerivableIsSafe → (seed size : Text) → OfMade IsDerivable seed size → OfMade HasSafeCore seed size
+made_safe law seed size h = (h.0, h.1, h.2, h.3, law (made_text h.0 h.1) h.4)
+
+asked_safe : DerivableIsSafe → (told : Text → Option Text) (asked : Option Asked) → OfSource IsDerivable told asked → OfSource HasSafeCore told asked
+asked_safe law told None h = h
+asked_safe law told (Some (check source)) h = source_safe law (told source) h
+asked_safe law told (Some (judge source derivation)) h = source_safe law (told source) h
+asked_safe law told (Some (run source schedule)) h = source_safe law (told source) h
+asked_safe law told (Some (show source)) h = tt
+asked_safe law told (Some (make seed size)) h = made_safe law seed size h
+
+pub accepted_safe : DerivableIsSafe → (told : Text → Option Text) (words : List Text) → Accepts told words → IsMadeSafe told words
+accepted_safe law told words h = asked_safe law told (command_of words) h

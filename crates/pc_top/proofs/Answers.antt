@@ -5,11 +5,13 @@ use Rattle.std.proofs.Math.Seq.{take-length}
 use Rattle.std.specs.Io.KnownBytes.{Appends, Keeps}
 use Rattle.pc_top.specs.Answer.{Answer, Finishes, LineEnds, IsWordsRefusal}
 use Rattle.pc_top.specs.Answer.Answer.{told, file, out_failed, err_failed, file_err_failed, no_memory}
-use Rattle.pc_top.specs.Asked.{Files, IsVerdict, IsVerdictOf, FailedIn, FailedOf}
+use Rattle.pc_top.specs.Asked.{IsVerdict, IsVerdictOf, FailedIn, FailedOf}
 use Rattle.pc_words.specs.Asked.{Text, Asked, command_of}
 use Rattle.pc_top.specs.Complete.{Completes}
-use Rattle.pc_top.specs.Ends.{Ends, Stops, Tells, Change, change}
+use Rattle.pc_io.specs.Change.{Change, change}
+use Rattle.pc_top.specs.Ends.{Ends, Stops, Tells}
 use Rattle.pc_top.specs.Lines.{usage_line}
+use Rattle.pc_top.specs.Named.{Files}
 use Rattle.pc_top.specs.Verdict.{Verdict, refused}
 use Rattle.pc_top.specs.declared.stop.Stop.{Stop}
 use Rattle.pc_top.specs.declared.stop.Stop.TheVariants.{Refused, File, Sink, Memory}

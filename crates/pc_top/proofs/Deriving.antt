@@ -1,5 +1,5 @@
--- From what the inference answers to the verdict of `check`.
-use Rattle.std.proofs.Common.{◌≡◌, ◌≤◌, ℕ, length, Option, Some, Ok, Err, refl, inl, arith}
+-- From what the inference answers to the stages of a source.
+use Rattle.std.proofs.Common.{◌≡◌, ◌≤◌, ℕ, List, length, Some, Ok, Err, refl, sym, subst, arith}
 use Rattle.pc_core.specs.CoreData.{CoreData}
 use Rattle.pc_check.specs.Faults.{Refuses}
 use Rattle.pc_check.specs.declared.fault.CheckFault.{CheckFault}
@@ -8,31 +8,32 @@ use Rattle.pc_ann.specs.declared.annotation.Ann.{Ann}
 use Rattle.pc_rules.specs.Valid.{Valid}
 use Rattle.pc_deriv.specs.Limits.{slot_limit, node_limit}
 use Rattle.pc_core.specs.Formed.{Formed}
+use Rattle.pc_run.specs.Ends.{NeverLacks}
+use Rattle.pc_sound.specs.Laws.{AcceptedNeverLacks}
 use Rattle.pc_order.specs.Laws.{TokensAscend}
 use Rattle.pc_elab.specs.Cores.{CoresAreFormed as FilesAreFormed}
 use Rattle.pc_top.specs.After.After.{goes}
-use Rattle.pc_top.specs.Check.{Deriving, IsCheck}
-use Rattle.pc_top.specs.Check.Deriving.{declared, no_rule, unset}
+use Rattle.pc_top.specs.Accepting.{AcceptedStage, Typing}
+use Rattle.pc_top.specs.Accepting.Typing.{typed, declared, no_rule, unset}
 use Rattle.pc_words.specs.Asked.{Text}
 use Rattle.pc_top.specs.CoreFaults.{IsCoreRefusal, IsSmall, node_start}
-use Rattle.pc_top.specs.Ends.{Stops, change}
 use Rattle.pc_top.specs.CoreOf.{CoreOf, CoresAreFormed}
-use Rattle.pc_top.specs.Named.{Named, Reading, whole, FailedAt}
-use Rattle.pc_top.specs.Source.{SourceStage, source_limit}
+use Rattle.pc_top.specs.Named.{Reading, whole, longer}
+use Rattle.pc_top.specs.Source.{SourceStage}
 use Rattle.pc_top.specs.Source.Length.{fits}
 use Rattle.pc_top.specs.Source.Lexing.{lexed}
 use Rattle.pc_top.specs.Source.Parsing.{parsed}
 use Rattle.pc_top.specs.Source.Elaborating.{elaborated}
 use Rattle.pc_top.specs.Source.TextStage.{has_core}
-use Rattle.pc_top.specs.Stages.{StageStops, PartGives}
+use Rattle.pc_top.specs.Stages.{StageStops}
 use Rattle.pc_top.specs.Verdict.{refused}
+use Rattle.pc_top.specs.declared.accepting.Accepted.{Accepted}
 use Rattle.pc_top.specs.declared.source.Source.{Source}
 use Rattle.pc_top.specs.declared.stop.Stop.{Stop}
 use Rattle.pc_top.specs.declared.stop.Stop.TheVariants.{Refused, File, Sink, Memory}
-use Rattle.pc_top.proofs.Parts.{unchanged, kept}
 
 refused_at : (name : Text) (source : Source) (f : CheckFault) (status : ℕ) (line : Text) → Refuses source.core f → IsCoreRefusal name source f (Refused status line)
-    → Deriving name source (Err (refused status line))
+    → Typing name source (Err (refused status line))
 refused_at name source (fault.Decl d) status line r h = rw (h.1, h.2) (declared d r)
 refused_at name source (fault.NoRule n l s ann) status line r h =
     let at : node_start (Some r.0.at) ≡ r.0.at.span.start = refl in
@@ -41,7 +42,7 @@ refused_at name source (fault.Unset m ann) status line r h = rw (h.1, h.2, r.0.i
 refused_at name source fault.Memory status line r h = absurd (h.0 refl)
 
 -- where the inference stops
-pub core_stops : (name : Text) (source : Source) (f : CheckFault) (s : Stop) → Refuses source.core f → IsCoreRefusal name source f s → StageStops (Deriving name source) s
+pub core_stops : (name : Text) (source : Source) (f : CheckFault) (s : Stop) → Refuses source.core f → IsCoreRefusal name source f s → StageStops (Typing name source) s
 core_stops name source f (Refused status line) r h = refused_at name source f status line r h
 core_stops name source f (File n) r h = h
 core_stops name source f Sink r h = h
@@ -49,7 +50,11 @@ core_stops name source f Memory r h = tt
 
 -- a source that all stages let pass
 pub source_says : {name : Text} {r : Reading} {s : Source} → SourceStage name r (Ok s) → (r ≡ whole s.bytes) × CoreOf s.bytes s.core
-source_says (goes (fits {bytes = b}) (has_core (goes (lexed {ts = t} l) (goes (parsed {file = f} tree) (elaborated stands))))) = (refl, (t, f, l.0, tree.0, stands))
+source_says (goes (fits {bytes = b} short) (has_core (goes (lexed {ts = t} l) (goes (parsed {file = f} tree) (elaborated stands))))) =
+    (refl, record { short = short; tokens = t; file = f; lexed = l; parsed = tree; stands = stands })
+
+pub core_passes : (name : Text) (bytes : List ℕ) (core : CoreData) → CoreOf bytes core → SourceStage name (whole bytes) (Ok (record { bytes = bytes; core = core }))
+core_passes name bytes core c = goes (fits c.short) (has_core (goes (lexed c.lexed) (goes (parsed c.parsed) (elaborated c.stands))))
 
 -- its core fits together and is small
 pub source_formed : CoresAreFormed → {name : Text} {r : Reading} {s : Source} → SourceStage name r (Ok s) → Formed s.core × IsSmall s.core
@@ -57,16 +62,30 @@ source_formed law {s = s} h = law s.bytes s.core (source_says h).1
 
 pub core_formed : TokensAscend → FilesAreFormed → CoresAreFormed
 core_formed ascend formed bytes core c =
-    let is = formed c.1 core (c.0, c.3, ascend bytes c.0 c.2) c.4 in
+    let is = formed c.file core (c.tokens, c.parsed.0, ascend bytes c.tokens c.lexed.0) c.stands in
     (is.0, (is.1, is.2))
 
--- the derivation stops behind the source's stages
-pub check_stops : (file : Named) (source : Source) (told : Option Text) (f g : ℕ) (s : Stop) → PartGives source_limit (SourceStage file.name) file source
-    → StageStops (Deriving file.name source) s → Stops (IsCheck file) (FailedAt file) (change told told f g) s
-check_stops file source told f g (Refused status line) p h = (refused status line, (p.0, Err (refused status line), p.1, goes p.2 h, refl), refl, refl, unchanged told)
-check_stops file source told f g (File n) p h = absurd h
-check_stops file source told f g Sink p h = absurd h
-check_stops file source told f g Memory p h = inl (kept told)
+-- a source that was read was read whole
+pub never_longer : (name : Text) (s : Source) → SourceStage name longer (Ok s) → ⊥
+never_longer name s (goes l t) = elim l [ ]
+
+pub accepted_whole : (name : Text) (a : Accepted) → AcceptedStage name longer (Ok a) → ⊥
+accepted_whole name a (goes {x = s} h t) = never_longer name s h
+
+-- the source of what was accepted, and its core
+typed_source : {name : Text} {s : Source} {a : Accepted} → Typing name s (Ok a) → (a.source ≡ s) × Valid s.core a.ann
+typed_source (typed ann v) = (refl, v)
+
+pub accepted_source : {name : Text} {r : Reading} {a : Accepted} → AcceptedStage name r (Ok a) → SourceStage name r (Ok a.source) × Valid a.source.core a.ann
+accepted_source {name = name} {r = r} {a = a} (goes {x = s} h t) =
+    let is = typed_source t in
+    (subst (λ (x : Source). SourceStage name r (Ok x)) (sym is.0) h, subst (λ (x : Source). Valid x.core a.ann) (sym is.0) is.1)
+
+-- Over it no step lacks anything.
+pub accepted_lacks_nothing : CoresAreFormed → AcceptedNeverLacks → {name : Text} {r : Reading} {a : Accepted} → AcceptedStage name r (Ok a) → NeverLacks a.source.core
+accepted_lacks_nothing formed never {a = a} h =
+    let s = accepted_source h in
+    never a.source.core a.ann (source_formed formed s.0).0 s.1
 
 -- A small core has small annotations.
 pub small_notes : (core : CoreData) (ann : Ann) → IsSmall core → Valid core ann → (length ann.slots ≤ slot_limit) × (length ann.notes ≤ node_limit)

@@ -1,5 +1,5 @@
 -- What calls tell of what they are shown.
-use Rattle.std.proofs.Common.{◌≡◌, ◌∙◌, ℕ, List, Ok, Err, refl, sym, ap, subst}
+use Rattle.std.proofs.Common.{◌≡◌, ◌∙◌, ◌<◌, ℕ, List, length, Ok, Err, refl, sym, ap, subst}
 use Rattle.std.specs.Prelude.{Result, codes}
 use Rattle.pc_core.specs.CoreData.{CoreData}
 use Rattle.pc_token.specs.declared.kinds.Token.{Token}
@@ -22,17 +22,19 @@ use Rattle.pc_program.specs.Cores.{IsElabFault}
 use Rattle.pc_grammar.specs.SpellsFile.{SpellsFile}
 use Rattle.pc_top.specs.After.After.{stops, goes}
 use Rattle.pc_words.specs.Asked.{Text}
-use Rattle.pc_top.specs.CoreFaults.{IsPlaceRefusal, offset_line}
+use Rattle.pc_top.specs.Refusal.{IsPlaceRefusal, offset_line}
 use Rattle.pc_top.specs.Faults.{IsFaultRefusal}
-use Rattle.pc_top.specs.Named.{Named, whole, Gives}
+use Rattle.pc_top.specs.Lines.{longer_line}
+use Rattle.pc_top.specs.Named.{Named, longer, whole, Gives, text_as}
+use Rattle.pc_top.specs.Show.{SyntaxStage}
 use Rattle.pc_top.specs.Source.{Lexing, Parsing, Elaborating, CoreStage, SourceStage, source_limit}
-use Rattle.pc_top.specs.Source.Length.{fits}
+use Rattle.pc_top.specs.Source.Length.{fits, is_longer}
 use Rattle.pc_top.specs.Source.Lexing.{lexed, faulty}
 use Rattle.pc_top.specs.Source.Parsing.{parsed, astray, nested}
 use Rattle.pc_top.specs.Source.Elaborating.{misnamed, misused}
 use Rattle.pc_top.specs.Names.{IsNameRefusal}
 use Rattle.pc_top.specs.Source.TextStage.{has_core, has_none}
-use Rattle.pc_top.specs.Stages.{StageStops, StageEnds, PartStops, PartGives}
+use Rattle.pc_top.specs.Stages.{StageStops, StageEnds, StageEndsAs, PartStops, PartGives}
 use Rattle.pc_top.specs.Verdict.{refused}
 use Rattle.pc_top.specs.declared.stop.Stop.{Stop}
 use Rattle.pc_top.specs.declared.stop.Stop.TheVariants.{Refused, File, Sink, Memory}
@@ -134,12 +136,32 @@ elaborating_ends name bytes ts f (Err s) l p h = elaborating_stops name bytes ts
 -- The stages behind the length of a source that was read whole.
 pub core_given : (file : Named) (bytes shown : Text) (core : CoreData) → Gives file source_limit (whole bytes) → shown ≡ bytes
     → CoreStage file.name shown (Ok core) → PartGives source_limit (SourceStage file.name) file (record { bytes = bytes; core = core })
-core_given file bytes shown core g same h = (whole bytes, g, goes fits (has_core (subst (λ (b : Text). CoreStage file.name b (Ok core)) same h)))
+core_given file bytes shown core g same h = (whole bytes, g, goes (fits g.0) (has_core (subst (λ (b : Text). CoreStage file.name b (Ok core)) same h)))
 
 pub core_stopped : (file : Named) (bytes shown : Text) (s : Stop) → Gives file source_limit (whole bytes) → shown ≡ bytes
     → StageStops (CoreStage file.name shown) s → PartStops source_limit (SourceStage file.name) file s
 core_stopped file bytes shown (Refused status line) g same h =
-    (whole bytes, g, goes fits (has_none (subst (λ (b : Text). CoreStage file.name b (Err (refused status line))) same h)))
+    (whole bytes, g, goes (fits g.0) (has_none (subst (λ (b : Text). CoreStage file.name b (Err (refused status line))) same h)))
 core_stopped file bytes shown (File n) g same h = absurd h
 core_stopped file bytes shown Sink g same h = absurd h
 core_stopped file bytes shown Memory g same h = tt
+
+-- The tokens and the tree of a source whose core is not asked for.
+pub syntax_stops : (name bytes : Text) (s : Stop) → StageStops (Lexing name bytes) s → StageStops (SyntaxStage name bytes) s
+syntax_stops name bytes (Refused status line) h = stops h
+syntax_stops name bytes (File n) h = h
+syntax_stops name bytes Sink h = h
+syntax_stops name bytes Memory h = tt
+
+pub syntax_ends : {S : Type 0} (view : S → t.File) (name bytes : Text) (shown ts : List Token) (r : Result S Stop) → shown ≡ ts → Lexing name bytes (Ok ts)
+    → StageEndsAs view (Parsing name bytes shown) r → StageEndsAs view (SyntaxStage name bytes) r
+syntax_ends view name bytes shown ts (Ok x) e l h = goes l (subst (λ (xs : List Token). Parsing name bytes xs (Ok (view x))) e h)
+syntax_ends view name bytes shown ts (Err (Refused status line)) e l h = goes l (subst (λ (xs : List Token). Parsing name bytes xs (Err (refused status line))) e h)
+syntax_ends view name bytes shown ts (Err (File n)) e l h = h
+syntax_ends view name bytes shown ts (Err Sink) e l h = h
+syntax_ends view name bytes shown ts (Err Memory) e l h = tt
+
+-- A text that stands in no file and is longer than a source may be.
+pub text_longer : (name bytes line : Text) → source_limit < length bytes → line ≡ longer_line name source_limit
+    → PartStops source_limit (SourceStage name) (text_as name bytes) (Refused 8 line)
+text_longer name bytes line long e = (longer, (long, λ same. long), rw e (stops is_longer))

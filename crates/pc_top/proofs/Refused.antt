@@ -1,125 +1,111 @@
 -- A source that is refused with status 1 has no derivation.
-use Rattle.std.proofs.Common.{◌≡◌, ◌≤◌, ℕ, List, Option, Some, None, Ok, Err, sym, ◌∙◌, subst, ap, arith}
+use Rattle.std.proofs.Common.{◌≡◌, ℕ, List, Option, Some, None, Err, refl, sym, ◌∙◌, ap, arith}
 use Rattle.std.specs.Prelude.{IfSome, Result}
-use Rattle.pc_lex.specs.declared.fault.LexFault.{LexFault}
-use Rattle.pc_lex.specs.declared.fault.LexFault.TheVariants as fault
+use Rattle.pc_ann.specs.declared.annotation.Ann.{Ann}
 use Rattle.pc_check.specs.Laws.{NoneWithoutRule, NoneWithUnset, NoneWithFault}
+use Rattle.pc_core.specs.CoreData.{CoreData}
 use Rattle.pc_core.specs.Formed.{Formed}
-use Rattle.pc_deriv.specs.declared.fault.DerivFault.{DerivFault}
-use Rattle.pc_deriv.specs.declared.fault.DerivFault.TheVariants as deriv
 use Rattle.pc_rules.specs.Valid.{Derivable}
+use Rattle.pc_words.specs.Asked.{Text, Asked, check, judge, run, show, make, command_of}
 use Rattle.pc_top.specs.After.After.{stops, goes}
+use Rattle.pc_top.specs.Accepting.{AcceptedStage, Typing}
+use Rattle.pc_top.specs.Accepting.Typing.{declared, no_rule, unset}
 use Rattle.pc_top.specs.Answer.{Answer}
-use Rattle.pc_top.specs.Answer.Answer.{told, file, out_failed, err_failed, file_err_failed, no_memory}
-use Rattle.pc_top.specs.Asked.{Files, IsVerdict, IsVerdictOf, FailedIn, LacksOf, Lacks, RefusedIsUnderivable, named}
-use Rattle.pc_top.specs.Check.{Deriving, CheckStage, IsCheck}
-use Rattle.pc_top.specs.Check.Deriving.{derives, declared, no_rule, unset}
-use Rattle.pc_words.specs.Asked.{Text, Asked, check, judge, command_of}
-use Rattle.pc_top.specs.Ends.{Change}
-use Rattle.pc_top.specs.Faults.{fault_status}
+use Rattle.pc_top.specs.Answer.Answer.{told as answer_told, file as answer_file, out_failed, err_failed, file_err_failed, no_memory}
+use Rattle.pc_top.specs.Asked.{IsVerdict, IsVerdictOf, FailedIn, LacksOf, Lacks, OfMade, RefusedIsUnderivable}
+use Rattle.pc_top.specs.Check.{Derived}
 use Rattle.pc_top.specs.CoreOf.{CoresAreFormed, IsUnderivable}
-use Rattle.pc_top.specs.Judge.{DerivationStage, JudgeStage, IsJudge, judged, text_status}
-use Rattle.pc_top.specs.Judge.Reads.{refuses}
+use Rattle.pc_io.specs.Change.{Change}
+use Rattle.pc_top.specs.FromFile.{FromFile}
+use Rattle.pc_top.specs.FromFile.FromFile.{refuses, goes_on}
+use Rattle.pc_top.specs.Judge.{Judging, IsJudge, judged}
 use Rattle.pc_top.specs.Judge.Judging.{holds, fails}
-use Rattle.pc_top.specs.Judge.IsJudge.{source_stops, source_stands}
-use Rattle.pc_top.specs.Named.{Named, Reading, whole, Gives}
-use Rattle.pc_top.specs.Source.{CoreStage, SourceStage, source_limit}
-use Rattle.pc_top.specs.Source.Length.{fits, is_longer}
-use Rattle.pc_top.specs.Source.Lexing.{faulty}
-use Rattle.pc_top.specs.Source.Parsing.{astray, nested}
-use Rattle.pc_top.specs.Source.Elaborating.{misnamed, misused}
-use Rattle.pc_names.specs.declared.fault.NameFault.{NameFault}
-use Rattle.pc_names.specs.declared.fault.NameFault.TheVariants as names
-use Rattle.pc_top.specs.Names.{name_status}
-use Rattle.pc_top.specs.Source.TextStage.{has_none}
-use Rattle.pc_top.specs.Verdict.{Verdict, ended}
+use Rattle.pc_top.specs.Make.{IsMake, MadeRun, made_name, made_text}
+use Rattle.pc_top.specs.Make.IsMake.{made, no_numbers}
+use Rattle.pc_top.specs.Named.{Files, Named, Reading, Gives, named, text_as}
+use Rattle.pc_top.specs.Run.{Ran, Scheduled}
+use Rattle.pc_top.specs.Run.Ran.{whole, cut}
+use Rattle.pc_top.specs.Show.{IsShow}
+use Rattle.pc_top.specs.Source.{source_limit}
+use Rattle.pc_top.specs.Verdict.{Verdict}
+use Rattle.pc_top.specs.declared.accepting.Accepted.{Accepted}
 use Rattle.pc_top.specs.declared.source.Source.{Source}
+use Rattle.pc_top.proofs.Accepted.{of_told, source_whole}
 use Rattle.pc_top.proofs.Deriving.{source_says, source_formed}
+use Rattle.pc_top.proofs.Statuses.{IsOther, derivation_other, file_other, schedule_other, source_other}
 
--- ---- the other refusals
+other_not_one : (status : ℕ) → IsOther status → status ≡ 1 → ⊥
+other_not_one status l e = let low = l.0 in omega (arith, low, e)
 
-fault_high : (f : LexFault) → 2 ≤ fault_status f
-fault_high (fault.BadByte p) = omega arith
-fault_high (fault.Unclosed p) = omega arith
-fault_high (fault.BadNumber p) = omega arith
-fault_high (fault.BadEscape p) = omega arith
-fault_high (fault.TooMany p) = omega arith
-fault_high fault.Memory = omega arith
+-- ---- no last part ends with 1
 
-text_high : (f : DerivFault) → 2 ≤ text_status f
-text_high (deriv.BadLine n) = omega arith
-text_high deriv.TooMany = omega arith
-text_high deriv.Memory = omega arith
+judging_not_one : {source_name name : Text} {s : Source} {ann : Ann} {end : Result (Unit {0}) Verdict} → Judging source_name name s ann end → (judged end).status ≡ 1 → ⊥
+judging_not_one (holds v) e = omega arith
+judging_not_one (fails f g) e = omega arith
 
-name_high : (f : NameFault) → 2 ≤ name_status f
-name_high (names.Double s) = omega arith
-name_high (names.Unknown s) = omega arith
-name_high names.NoMain = omega arith
-name_high (names.BadMain s) = omega arith
-name_high (names.Cycle s) = omega arith
-name_high (names.TooMany w s) = omega arith
-name_high names.Memory = omega arith
+ran_not_one : {name : Text} {core : CoreData} {list : List ℕ} {v : Verdict} → Ran name core list v → v.status ≡ 1 → ⊥
+ran_not_one (whole h) e = omega arith
+ran_not_one (cut n h) e = omega arith
 
-core_high : {name bytes : Text} {v : Verdict} → CoreStage name bytes (Err v) → 2 ≤ v.status
-core_high (stops (faulty f h)) = fault_high f
-core_high (goes t (stops (astray h))) = omega arith
-core_high (goes t (stops (nested h))) = omega arith
-core_high (goes t (goes tree (misnamed f o h))) = name_high f
-core_high (goes t (goes tree (misused f o h))) = name_high f
+pub derived_not_one : (a : Accepted) (v : Verdict) → Derived a v → v.status ≡ 1 → ⊥
+derived_not_one a v d e = let zero : v.status ≡ 0 = ap (λ (w : Verdict). w.status) d.2 in omega (arith, zero, e)
 
-source_high : {name : Text} {r : Reading} {v : Verdict} → SourceStage name r (Err v) → 2 ≤ v.status
-source_high (stops is_longer) = omega arith
-source_high (goes fits (has_none h)) = core_high h
+pub scheduled_not_one : (schedule : Named) (a : Accepted) (v : Verdict) → Scheduled schedule a v → v.status ≡ 1 → ⊥
+scheduled_not_one schedule a v (refuses r g h) e = other_not_one v.status (schedule_other h) e
+scheduled_not_one schedule a v (goes_on r x g h l) e = ran_not_one l e
 
-derivation_high : {name : Text} {r : Reading} {v : Verdict} → DerivationStage name r (Err v) → 2 ≤ v.status
-derivation_high (stops is_longer) = omega arith
-derivation_high (goes fits (refuses f h)) = text_high f
+pub made_not_one : (seed size : ℕ) (a : Accepted) (v : Verdict) → MadeRun seed size a v → v.status ≡ 1 → ⊥
+made_not_one seed size a v (w, r, is) e = ran_not_one r (sym (ap (λ (x : Verdict). x.status) is) ∙ e)
 
-judge_not_one : {source_name name : Text} {s : Source} {r : Reading} {end : Result (Unit {0}) Verdict} → JudgeStage source_name name s r end → (judged end).status ≡ 1 → ⊥
-judge_not_one (stops h) e = let l = derivation_high h in omega (arith, l, e)
-judge_not_one (goes {x = ann} h (holds v)) e = omega arith
-judge_not_one (goes {x = ann} h (fails f g)) e = omega arith
+judge_not_one : (source derivation : Named) (v : Verdict) → IsJudge source derivation v → v.status ≡ 1 → ⊥
+judge_not_one source derivation v (refuses r g h) e = other_not_one v.status (source_other h) e
+judge_not_one source derivation v (goes_on r s g h (refuses d i k)) e = other_not_one v.status (derivation_other k) e
+judge_not_one source derivation v (goes_on r s g h (goes_on d ann i k l)) e = judging_not_one l.1 (ap (λ (w : Verdict). w.status) (sym l.2) ∙ e)
 
-judge_one : (source derivation : Named) (v : Verdict) → IsJudge source derivation v → v.status ≡ 1 → ⊥
-judge_one source derivation v (source_stops r g h) e = let l = source_high h in omega (arith, l, e)
-judge_one source derivation v (source_stands r d s end g h gd hd is) e = judge_not_one hd (ap (λ (w : Verdict). w.status) (sym is) ∙ e)
+show_not_one : (source : Named) (v : Verdict) → IsShow source v → v.status ≡ 1 → ⊥
+show_not_one source v (refuses r g h) e = other_not_one v.status (file_other h) e
+show_not_one source v (goes_on r f g h l) e = let zero : v.status ≡ 0 = ap (λ (w : Verdict). w.status) l in omega (arith, zero, e)
 
 -- ---- status 1
 
-underivable_told : (given : Option Text) (bytes : Text) → IsUnderivable bytes → IfSome given (λ b. bytes ≡ b) → IfSome given IsUnderivable
-underivable_told None bytes s e = tt
-underivable_told (Some b) bytes s e = subst IsUnderivable e s
-
 module _ (formed : CoresAreFormed) (ruleless : NoneWithoutRule) (setless : NoneWithUnset) (failing : NoneWithFault) where
-  deriving_refuses : {name : Text} {s : Source} {end : Result Text Verdict} → Formed s.core → Deriving name s end → (ended end).status ≡ 1 → Derivable s.core → ⊥
-  deriving_refuses is (derives ann v t) e d = absurd (omega arith)
-  deriving_refuses {s = s} is (declared f g) e d = failing s.core f is g d
-  deriving_refuses {s = s} is (no_rule ann n h) e d = ruleless s.core ann n is h d
-  deriving_refuses {s = s} is (unset ann m left) e d = setless s.core ann m is left d
+  pub typing_refuses : {name : Text} {s : Source} {v : Verdict} → Formed s.core → Typing name s (Err v) → Derivable s.core → ⊥
+  typing_refuses {s = s} is (declared f g) d = failing s.core f is g d
+  typing_refuses {s = s} is (no_rule ann n h) d = ruleless s.core ann n is h d
+  typing_refuses {s = s} is (unset ann m left) d = setless s.core ann m is left d
 
-  check_refuses : {name : Text} {r : Reading} {end : Result Text Verdict} → CheckStage name r end → (ended end).status ≡ 1 → (s : Source) × SourceStage name r (Ok s) × (Derivable s.core → ⊥)
-  check_refuses (stops h) e = let l = source_high h in absurd (omega (arith, l, e))
-  check_refuses (goes {x = s} h d) e = (s, h, deriving_refuses (source_formed formed h).0 d e)
+  refused_underived : (file : Named) (r : Reading) (v : Verdict) → Gives file source_limit r → AcceptedStage file.name r (Err v) → v.status ≡ 1 → IfSome file.told IsUnderivable
+  refused_underived file r v g (stops h) e = absurd (other_not_one v.status (source_other h) e)
+  refused_underived file r v g (goes {x = s} h t) e =
+      of_told IsUnderivable file.told s.bytes (s.core, (source_says h).1, typing_refuses (source_formed formed h).0 t) (source_whole file r s g h).1
 
-  check_underivable : (source : Named) (v : Verdict) → IsCheck source v → v.status ≡ 1 → IfSome source.told IsUnderivable
-  check_underivable source v c e =
-      let a = check_refuses c.3 (ap (λ (w : Verdict). w.status) (sym c.4) ∙ e) in
-      let says = source_says a.1 in
-      let read : Gives source source_limit (whole a.0.bytes) = subst (λ (q : Reading). Gives source source_limit q) says.0 c.2 in
-      underivable_told source.told a.0.bytes (a.0.core, says.1, a.2) read.1
+  -- a command that goes on with an accepted source
+  pub underivable : (file : Named) (Last : Accepted → Verdict → Type 0) (v : Verdict) → ((a : Accepted) → Last a v → v.status ≡ 1 → ⊥)
+      → FromFile file source_limit (AcceptedStage file.name) Last v → v.status ≡ 1 → IfSome file.told IsUnderivable
+  underivable file Last v never (refuses r g h) e = refused_underived file r v g h e
+  underivable file Last v never (goes_on r a g h l) e = absurd (never a l e)
+
+  -- the program that is made
+  make_underivable : (seed size : Text) (v : Verdict) → IsMake seed size v → v.status ≡ 1 → OfMade IsUnderivable seed size
+  make_underivable seed size v (made a b s t is) e =
+      (a, b, s, t, underivable (text_as made_name (made_text a b)) (MadeRun a b) v (λ x l. made_not_one a b x v l) is e)
+  make_underivable seed size v (no_numbers n is) e = let two : v.status ≡ 2 = ap (λ (x : Verdict). x.status) is in absurd (omega (arith, two, e))
 
   verdict_refuses : (files : Files) (asked : Option Asked) (v : Verdict) → IsVerdictOf files asked v → v.status ≡ 1 → LacksOf files.told asked
-  verdict_refuses files None v is e = let two : v.status ≡ 2 = ap (λ (x : Verdict). x.status) is in absurd (omega arith)
-  verdict_refuses files (Some (check source)) v is e = check_underivable (named files source) v is e
-  verdict_refuses files (Some (judge source derivation)) v is e = absurd (judge_one (named files source) (named files derivation) v is e)
+  verdict_refuses files None v is e = let two : v.status ≡ 2 = ap (λ (x : Verdict). x.status) is in absurd (omega (arith, two, e))
+  verdict_refuses files (Some (check source)) v is e = (refl, underivable (named files source) Derived v (λ a l. derived_not_one a v l) is e)
+  verdict_refuses files (Some (judge source derivation)) v is e = absurd (judge_not_one (named files source) (named files derivation) v is e)
+  verdict_refuses files (Some (run source schedule)) v is e = (refl, underivable (named files source) (Scheduled (named files schedule)) v (λ a l. scheduled_not_one (named files schedule) a v l) is e)
+  verdict_refuses files (Some (show source)) v is e = absurd (show_not_one (named files source) v is e)
+  verdict_refuses files (Some (make seed size)) v is e = (refl, make_underivable seed size v is e)
 
   pub refused_underivable : RefusedIsUnderivable
   refused_underivable files words v is e = verdict_refuses files (command_of words) v is e
 
 pub answer_refuses : RefusedIsUnderivable → (files : Files) (words : List Text) (out err : Change) (status : ℕ)
     → Answer (IsVerdict files words) (FailedIn files words) out err status → status ≡ 1 → Lacks files.told words
-answer_refuses law files words out err status (told v is s o l) e = law files words v is (sym s ∙ e)
-answer_refuses law files words out err status (file n f s o l) e = absurd (omega arith)
+answer_refuses law files words out err status (answer_told v is s o l) e = law files words v is (sym s ∙ e)
+answer_refuses law files words out err status (answer_file n f s o l) e = absurd (omega arith)
 answer_refuses law files words out err status (out_failed s r t l) e = absurd (omega arith)
 answer_refuses law files words out err status (err_failed v is s r o l) e = absurd (omega arith)
 answer_refuses law files words out err status (file_err_failed n f s r o l) e = absurd (omega arith)

@@ -3,7 +3,7 @@ use Rattle.std.specs.Prelude.{ℕ, ◌≡◌, ◌⊎◌}
 use Rattle.std.specs.Io.KnownBytes.{Appends}
 use Rattle.pc_io.specs.Sink.{Rose}
 use Rattle.pc_words.specs.Asked.{Text}
-use Rattle.pc_top.specs.Ends.{Change}
+use Rattle.pc_io.specs.Change.{Change}
 use Rattle.pc_top.specs.Verdict.{Verdict}
 
 -- Where no name of the command failed, and neither out nor err, the status is that of a verdict, its text is on out and its

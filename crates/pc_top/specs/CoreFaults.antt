@@ -1,5 +1,5 @@
 -- What is wrong with a core that has no derivation, with its place in the source.
-use Rattle.std.specs.Prelude.{ℕ, ◌≡◌, ◌≤◌, length, Option, Some, None, take, slice_get, codes}
+use Rattle.std.specs.Prelude.{ℕ, ◌≡◌, ◌≤◌, length, Option, Some, None, slice_get, codes}
 use Rattle.pc_core.specs.declared.declarations.EntityDef.{EntityDef}
 use Rattle.pc_core.specs.declared.declarations.Method.{Method}
 use Rattle.pc_core.specs.declared.declarations.ParamInfo.{ParamInfo}
@@ -11,22 +11,10 @@ use Rattle.pc_check.specs.declared.fault.CheckFault.{CheckFault}
 use Rattle.pc_check.specs.declared.fault.CheckFault.TheVariants as fault
 use Rattle.pc_deriv.specs.Limits.{slot_limit, node_limit}
 use Rattle.pc_words.specs.Asked.{Text}
-use Rattle.pc_top.specs.Lines.{place_line}
-use Rattle.pc_top.specs.Place.{line_behind, column_behind}
+use Rattle.pc_top.specs.Refusal.{offset_line}
 use Rattle.pc_top.specs.declared.source.Source.{Source}
 use Rattle.pc_top.specs.declared.stop.Stop.{Stop}
 use Rattle.pc_top.specs.declared.stop.Stop.TheVariants as stop
-
--- The line that names the byte at an offset, and what is wrong there.
-abbrev pub offset_line : Text → Text → ℕ → Text → Text
-offset_line name bytes at what = place_line name (line_behind (take at bytes)) (column_behind (take at bytes)) what
-
--- The refusal that names that byte with this status, or want of memory.
-abbrev pub IsPlaceRefusal : Text → Text → ℕ → ℕ → Text → Stop → Type 0
-IsPlaceRefusal name bytes wanted at what (stop.Refused status line) = (status ≡ wanted) × (line ≡ offset_line name bytes at what)
-IsPlaceRefusal name bytes wanted at what (stop.File n) = ⊥
-IsPlaceRefusal name bytes wanted at what stop.Sink = ⊥
-IsPlaceRefusal name bytes wanted at what stop.Memory = Unit {0}
 
 -- Where a part of the core starts in the source. What is not there starts at 0.
 abbrev pub entity_start : Option EntityDef → ℕ

@@ -1,18 +1,26 @@
 -- What sources say.
-use Rattle.std.specs.Prelude.{ℕ, List}
+use Rattle.std.specs.Prelude.{ℕ, ◌≤◌, List, length}
 use Rattle.pc_core.specs.CoreData.{CoreData}
 use Rattle.pc_core.specs.Formed.{Formed}
-use Rattle.pc_token.specs.declared.kinds.Token.{Token}
-use Rattle.pc_tree.specs.Tree as t
-use Rattle.pc_lex.specs.Pieces.{Tokens}
-use Rattle.pc_grammar.specs.SpellsFile.{SpellsFile}
+use Rattle.pc_grammar.specs.FileAnswers.{IsFileAnswer, spelled}
+use Rattle.pc_lex.specs.Answers.{TokenList}
 use Rattle.pc_program.specs.Cores.{Stands}
 use Rattle.pc_rules.specs.Valid.{Derivable}
+use Rattle.pc_semantics.specs.Safety.{Safe}
+use Rattle.pc_token.specs.declared.kinds.Token.{Token}
+use Rattle.pc_tree.specs.Tree as t
 use Rattle.pc_top.specs.CoreFaults.{IsSmall}
+use Rattle.pc_top.specs.Source.{source_limit}
 
--- The core of a source: the one that stands for the file that its tokens spell.
-abbrev pub CoreOf : List ℕ → CoreData → Type 0
-CoreOf bytes core = (ts : List Token) × (file : t.File) × Tokens bytes ts × SpellsFile file ts × Stands file core
+-- The core of a source: the one that stands for the file that its tokens spell. The source, the tokens and the file's levels
+-- are within their limits.
+pub record CoreOf (bytes : List ℕ) (core : CoreData) : Type 0 where
+  pub short : length bytes ≤ source_limit
+  pub tokens : List Token
+  pub file : t.File
+  pub lexed : TokenList bytes tokens
+  pub parsed : IsFileAnswer tokens (spelled file)
+  pub stands : Stands file core
 
 -- The core of a source fits together, and is so small that its annotations have a text.
 abbrev pub CoresAreFormed : Type 0
@@ -25,3 +33,14 @@ IsDerivable bytes = (core : CoreData) × CoreOf bytes core × Derivable core
 -- The source has a core, and the core has no derivation.
 abbrev pub IsUnderivable : List ℕ → Type 0
 IsUnderivable bytes = (core : CoreData) × CoreOf bytes core × (Derivable core → ⊥)
+
+-- ---- what a derivation is for
+
+-- The source has a core, and the core is safe: behind every list of actors, of every length, no two of them race, what waits
+-- in messages is let alone, and no step lacks anything.
+abbrev pub HasSafeCore : List ℕ → Type 0
+HasSafeCore bytes = (core : CoreData) × CoreOf bytes core × Safe core
+
+-- A source whose core has a derivation is safe.
+abbrev pub DerivableIsSafe : Type 0
+DerivableIsSafe = (bytes : List ℕ) → IsDerivable bytes → HasSafeCore bytes

@@ -1,22 +1,12 @@
 -- How a command ended, by its verdict, by the names whose faults rose and by what happened to out.
-use Rattle.std.specs.Prelude.{ℕ, ◌≡◌, ◌⊎◌, [], Option, Result, MatchResult}
+use Rattle.std.specs.Prelude.{ℕ, ◌≡◌, ◌⊎◌, [], Result, MatchResult}
 use Rattle.std.specs.Io.KnownBytes.{Appends, Keeps}
+use Rattle.pc_io.specs.Change.{Change}
 use Rattle.pc_io.specs.Sink.{Rose, GrowsByPrefix}
 use Rattle.pc_words.specs.Asked.{Text}
 use Rattle.pc_top.specs.Verdict.{Verdict}
 use Rattle.pc_top.specs.declared.stop.Stop.{Stop}
 use Rattle.pc_top.specs.declared.stop.Stop.TheVariants.{Refused, File, Sink, Memory}
-
--- What out told and how often it failed, before and after a call.
-pub record Change : Type 0 where
-  pub before : Option Text
-  pub now : Option Text
-  pub faults_before : ℕ
-  pub faults_now : ℕ
-
-abbrev pub change : Option Text → Option Text → ℕ → ℕ → Change
-change before now faults_before faults_now =
-    record { before = before; now = now; faults_before = faults_before; faults_now = faults_now }
 
 -- The verdict's text went to out, and the rest of it is this.
 abbrev pub Tells : (Verdict → Type 0) → Change → ℕ → Text → Type 0

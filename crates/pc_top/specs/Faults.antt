@@ -1,10 +1,9 @@
 -- The refusals of a source that has no tokens.
-use Rattle.std.specs.Prelude.{ℕ, ◌≡◌, take, codes}
+use Rattle.std.specs.Prelude.{ℕ, ◌≡◌, codes}
 use Rattle.pc_lex.specs.declared.fault.LexFault.{LexFault}
 use Rattle.pc_lex.specs.declared.fault.LexFault.TheVariants as fault
 use Rattle.pc_words.specs.Asked.{Text}
-use Rattle.pc_top.specs.Lines.{place_line}
-use Rattle.pc_top.specs.Place.{line_behind, column_behind}
+use Rattle.pc_top.specs.Refusal.{offset_line}
 use Rattle.pc_top.specs.declared.stop.Stop.{Stop}
 use Rattle.pc_top.specs.declared.stop.Stop.TheVariants as stop
 
@@ -33,7 +32,7 @@ fault_text fault.Memory = codes ""
 
 -- The line of a fault, with its place.
 abbrev pub fault_line : Text → Text → LexFault → Text
-fault_line name bytes f = place_line name (line_behind (take (fault_offset f) bytes)) (column_behind (take (fault_offset f) bytes)) (fault_text f)
+fault_line name bytes f = offset_line name bytes (fault_offset f) (fault_text f)
 
 -- The refusal of a fault, or want of memory.
 abbrev pub IsFaultRefusal : Text → Text → LexFault → Stop → Type 0

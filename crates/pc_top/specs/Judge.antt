@@ -10,9 +10,11 @@ use Rattle.pc_judge.specs.declared.faults.JudgeFault.{JudgeFault}
 use Rattle.pc_judge.specs.declared.faults.JudgeFault.TheVariants as fault
 use Rattle.pc_top.specs.After.{After}
 use Rattle.pc_words.specs.Asked.{Text}
-use Rattle.pc_top.specs.CoreFaults.{offset_line, decl_offset, decl_text}
+use Rattle.pc_top.specs.CoreFaults.{decl_offset, decl_text}
+use Rattle.pc_top.specs.FromFile.{FromFile}
 use Rattle.pc_top.specs.Lines.{line_end, bad_line, many_line, shape_line, slot_line, node_line, unset_line}
-use Rattle.pc_top.specs.Named.{Named, Reading, Gives}
+use Rattle.pc_top.specs.Named.{Named, Reading}
+use Rattle.pc_top.specs.Refusal.{offset_line}
 use Rattle.pc_top.specs.Source.{Length, SourceStage, source_limit}
 use Rattle.pc_top.specs.Verdict.{Verdict, refused, done}
 use Rattle.pc_top.specs.declared.source.Source.{Source}
@@ -32,9 +34,9 @@ abbrev pub text_line : Text → DerivFault → Text
 text_line name (deriv.BadLine n) = bad_line name n
 text_line name f = many_line name
 
-pub data Reads (name bytes : Text) : Result Ann Verdict → Type 0 where
-  reads : {ann : Ann} → IsText bytes ann → Reads name bytes (Ok ann)
-  refuses : (f : DerivFault) → IsFault bytes f → Reads name bytes (Err (refused (text_status f) (text_line name f)))
+pub data Deriving (name bytes : Text) : Result Ann Verdict → Type 0 where
+  reads : {ann : Ann} → IsText bytes ann → Deriving name bytes (Ok ann)
+  garbled : (f : DerivFault) → IsFault bytes f → Deriving name bytes (Err (refused (text_status f) (text_line name f)))
 
 -- The refusal of bytes that are no derivation's text, or want of memory.
 abbrev pub IsTextRefusal : Text → DerivFault → Stop → Type 0
@@ -45,7 +47,7 @@ IsTextRefusal name f stop.Memory = Unit {0}
 
 -- The stages of the derivation: the annotation of its text.
 abbrev pub DerivationStage : Text → Reading → Result Ann Verdict → Type 0
-DerivationStage name reading = After (Length derivation_limit name reading) (Reads name)
+DerivationStage name reading = After (Length derivation_limit name reading) (Deriving name)
 
 -- The annotation: 6 at its first fault. That of a declaration is named in the source.
 abbrev pub judge_line : Text → Text → Source → JudgeFault → Text
@@ -59,17 +61,18 @@ pub data Judging (source_name name : Text) (source : Source) (ann : Ann) : Resul
   holds : Valid source.core ann → Judging source_name name source ann (Ok tt)
   fails : (f : JudgeFault) → FirstFault source.core ann f → Judging source_name name source ann (Err (refused 6 (judge_line source_name name source f)))
 
--- The stages of the derivation, and then those of its annotation.
-abbrev pub JudgeStage : Text → Text → Source → Reading → Result (Unit {0}) Verdict → Type 0
-JudgeStage source_name name source reading = After (DerivationStage name reading) (Judging source_name name source)
+-- `accepted`, or the verdict of the fault.
+abbrev pub accepted_text : Text
+accepted_text = codes "accepted" ++ line_end
 
--- `accepted`, or the verdict of the stage that refused.
 abbrev pub judged : Result (Unit {0}) Verdict → Verdict
-judged (Ok x) = done (codes "accepted" ++ line_end)
+judged (Ok x) = done accepted_text
 judged (Err v) = v
 
+abbrev pub Judged : Text → Text → Source → Ann → Verdict → Type 0
+Judged source_name name source ann v = (end : Result (Unit {0}) Verdict) × Judging source_name name source ann end × (v ≡ judged end)
+
 -- The verdict of `judge` on this source and this derivation. The derivation is not looked at where the source is refused.
-pub data IsJudge (source derivation : Named) (v : Verdict) : Type 0 where
-  source_stops : (r : Reading) → Gives source source_limit r → SourceStage source.name r (Err v) → IsJudge source derivation v
-  source_stands : (r d : Reading) (s : Source) (end : Result (Unit {0}) Verdict) → Gives source source_limit r → SourceStage source.name r (Ok s)
-      → Gives derivation derivation_limit d → JudgeStage source.name derivation.name s d end → v ≡ judged end → IsJudge source derivation v
+abbrev pub IsJudge : Named → Named → Verdict → Type 0
+IsJudge source derivation = FromFile source source_limit (SourceStage source.name) (λ s.
+    FromFile derivation derivation_limit (DerivationStage derivation.name) (Judged source.name derivation.name s))

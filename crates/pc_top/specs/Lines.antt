@@ -1,4 +1,4 @@
--- The lines on err.
+-- The lines on err, and the first line of `make`.
 use Rattle.std.specs.Prelude.{ℕ, [], ◌∷◌, ◌++◌, codes, decimal}
 use Rattle.pc_words.specs.Asked.{Text}
 
@@ -20,6 +20,14 @@ no_main_line name = name ++ (codes ": no Main" ++ line_end)
 -- A place in a file, by its line and column, and what is wrong there.
 abbrev pub place_line : Text → ℕ → ℕ → Text → Text
 place_line name line column what = name ++ (codes ":" ++ (decimal line ++ (codes ":" ++ (decimal column ++ (codes ": " ++ (what ++ line_end))))))
+
+-- The step of a run that would make a text that is too long.
+abbrev pub too_long_line : Text → ℕ → Text
+too_long_line name n = name ++ (codes ": text too long at step " ++ (decimal n ++ line_end))
+
+-- A made program: its seed, its size and how many nodes its core has.
+abbrev pub counts_line : ℕ → ℕ → ℕ → Text
+counts_line seed size nodes = codes "seed " ++ (decimal seed ++ (codes " size " ++ (decimal size ++ (codes " nodes " ++ (decimal nodes ++ line_end)))))
 
 -- What is wrong with a derivation: a line that is not of its form, too many of them, other counts than the source's, a slot,
 -- a node, and a constructor that leaves a field unset.

@@ -1,5 +1,5 @@
--- A file of a command, and what reading it gives.
-use Rattle.std.specs.Prelude.{ℕ, ◌≡◌, ◌<◌, ◌≤◌, List, length, Option, IfSome}
+-- The files of a command, and what reading one gives.
+use Rattle.std.specs.Prelude.{ℕ, ◌≡◌, ◌<◌, ◌≤◌, ◌⊎◌, List, [], ◌∷◌, length, Option, Some, IfSome, IsSome}
 use Rattle.pc_words.specs.Asked.{Text}
 
 -- A file by its name: the bytes that are told, and how often its reading had failed before and after a call.
@@ -15,6 +15,10 @@ pub record Named : Type 0 where
 abbrev pub file_at : (Text → Option Text) → (Text → ℕ) → (Text → ℕ) → ℕ → Text → Named
 file_at told before now taken name =
     record { name = name; told = told name; before = before name; now = now name; taken = taken }
+
+-- A text that stands in no file, seen as a file of this name that tells it and is read without a failure.
+abbrev pub text_as : Text → Text → Named
+text_as name text = record { name = name; told = Some text; before = 0; now = 0; taken = length text }
 
 -- What reading up to a limit gives: all bytes of the file, or that there are more.
 pub data Reading : Type 0 where
@@ -33,3 +37,27 @@ Gives file limit reading = IsReading limit file.told file.before file.now file.t
 -- This is the file's name, and its failures rose.
 abbrev pub FailedAt : Named → Text → Type 0
 FailedAt file name = (name ≡ file.name) × (file.before < file.now)
+
+-- What files tell, how often reading each name had failed before and after a call, and how many bytes its last reading
+-- took.
+pub record Files : Type 0 where
+  pub told : Text → Option Text
+  pub before : Text → ℕ
+  pub now : Text → ℕ
+  pub taken : ℕ
+
+abbrev pub files_change : (Text → Option Text) → (Text → ℕ) → (Text → ℕ) → ℕ → Files
+files_change told before now taken = record { told = told; before = before; now = now; taken = taken }
+
+abbrev pub named : Files → Text → Named
+named files name = file_at files.told files.before files.now files.taken name
+
+-- The name is one of these, and its failures rose.
+abbrev pub FailedAmong : Files → List Text → Text → Type 0
+FailedAmong files [] name = ⊥
+FailedAmong files (n ∷ ns) name = FailedAt (named files n) name ⊎ FailedAmong files ns name
+
+-- All of these tell their bytes.
+abbrev pub AllTold : (Text → Option Text) → List Text → Type 0
+AllTold told [] = Unit {0}
+AllTold told (n ∷ ns) = IsSome (told n) × AllTold told ns

@@ -15,6 +15,6 @@ NotRead name limit told before now taken (File failed) = (failed ≡ name) × (b
 NotRead name limit told before now taken Sink = ⊥
 NotRead name limit told before now taken Memory = Unit {0}
 
-abbrev pub Reads : Text → ℕ → Option (List ℕ) → ℕ → ℕ → ℕ → Result Bytes Stop → Type 0
-Reads name limit told before now taken result =
+abbrev pub ReadsFile : Text → ℕ → Option (List ℕ) → ℕ → ℕ → ℕ → Result Bytes Stop → Type 0
+ReadsFile name limit told before now taken result =
     MatchResult result (λ b. IsReading limit told before now taken (whole b)) (NotRead name limit told before now taken)

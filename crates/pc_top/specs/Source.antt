@@ -1,5 +1,5 @@
 -- The stages of a source, which every command goes through first.
-use Rattle.std.specs.Prelude.{ℕ, ◌∷◌, Result, Ok, Err, List, codes}
+use Rattle.std.specs.Prelude.{ℕ, ◌≤◌, ◌∷◌, Result, Ok, Err, List, length, codes}
 use Rattle.pc_tree.specs.Tree as t
 use Rattle.pc_token.specs.declared.kinds.Token.{Token}
 use Rattle.pc_grammar.specs.FileAnswers.{IsFileAnswer, spelled, unexpected, too_deep}
@@ -13,7 +13,7 @@ use Rattle.pc_names.specs.declared.fault.NameFault.{NameFault}
 use Rattle.pc_program.specs.Cores.{Stands, IsElabFault}
 use Rattle.pc_top.specs.After.{After}
 use Rattle.pc_words.specs.Asked.{Text}
-use Rattle.pc_top.specs.CoreFaults.{offset_line}
+use Rattle.pc_top.specs.Refusal.{offset_line}
 use Rattle.pc_top.specs.Faults.{fault_status, fault_line}
 use Rattle.pc_top.specs.Lines.{longer_line}
 use Rattle.pc_top.specs.Named.{Reading, whole, longer}
@@ -27,7 +27,7 @@ source_limit = 1048576
 
 -- The length of a file: 8 where it has more bytes than its limit.
 pub data Length (limit : ℕ) (name : Text) : Reading → Result Text Verdict → Type 0 where
-  fits : {bytes : Text} → Length limit name (whole bytes) (Ok bytes)
+  fits : {bytes : Text} → length bytes ≤ limit → Length limit name (whole bytes) (Ok bytes)
   is_longer : Length limit name longer (Err (refused 8 (longer_line name limit)))
 
 -- Its tokens: 3, or 8 where there are too many, at the first fault.

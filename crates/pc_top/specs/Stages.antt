@@ -3,7 +3,7 @@ use Rattle.std.specs.Prelude.{ℕ, Result, Ok, Err, MatchResult}
 use Rattle.std.specs.Io.KnownBytes.{Appends, Keeps}
 use Rattle.pc_io.specs.Sink.{Rose, GrowsByPrefix}
 use Rattle.pc_words.specs.Asked.{Text}
-use Rattle.pc_top.specs.Ends.{Change}
+use Rattle.pc_io.specs.Change.{Change}
 use Rattle.pc_top.specs.Named.{Reading, Named, Gives, FailedAt}
 use Rattle.pc_top.specs.Verdict.{Verdict, refused}
 use Rattle.pc_top.specs.declared.stop.Stop.{Stop}

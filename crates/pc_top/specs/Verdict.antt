@@ -1,5 +1,5 @@
 -- What a command answers where no file or sink fails and memory suffices.
-use Rattle.std.specs.Prelude.{ℕ, [], Result, Ok, Err}
+use Rattle.std.specs.Prelude.{ℕ, ◌≡◌, ◌⊎◌, [], ◌++◌}
 use Rattle.pc_words.specs.Asked.{Text}
 
 -- The exit status, the text on out and the line on err.
@@ -16,7 +16,14 @@ done text = record { status = 0; out = text; err = [] }
 abbrev pub refused : ℕ → Text → Verdict
 refused status line = record { status = status; out = []; err = line }
 
--- What stages end in: a text, or the verdict of the stage that refused.
-abbrev pub ended : Result Text Verdict → Verdict
-ended (Ok text) = done text
-ended (Err v) = v
+-- Stopped, with this text on out and this line on err.
+abbrev pub stopped : ℕ → Text → Text → Verdict
+stopped status text line = record { status = status; out = text; err = line }
+
+-- The same, with this text first on out.
+abbrev pub headed : Text → Verdict → Verdict
+headed text v = record { status = v.status; out = text ++ v.out; err = v.err }
+
+-- The status of a command that went through all its stages: 0, or 12 of a run that a text ended.
+abbrev pub IsAccepting : ℕ → Type 0
+IsAccepting status = (status ≡ 0) ⊎ (status ≡ 12)

@@ -1,18 +1,16 @@
 //! The refusals of a core that has no derivation.
-ghost use Rattle.std.specs.Prelude.{◌≡◌, IfOk, slice_get};
+ghost use Rattle.std.specs.Prelude.{◌≡◌, slice_get};
 ghost use Rattle.std.specs.Bool.{Decides};
 ghost use Rattle.pc_check.specs.declared.fault.CheckFault.TheVariants.{Memory as OutOfMemory};
 ghost use Rattle.pc_top.specs.CoreFaults as spec;
 
-use crate::lines::make_place_line;
-use crate::place::place_of;
+use crate::refusal::make_offset_line;
 use crate::source::Source;
 use crate::stop::Stop;
 use pc_check::CheckFault;
 use pc_core::{Core, Method};
-use pc_io::Bytes;
 use pc_sub::DeclFault;
-use std::alloc::{AllocError, Global};
+use std::alloc::Global;
 
 // Where an entity's name starts.
 fn entity_start(core: &Core, entity: u32) -> u32
@@ -115,19 +113,6 @@ fn is_memory(fault: &CheckFault) -> bool
     ensures { Decides result (fault.now ≡ OutOfMemory) }
 {
     matches!(fault, CheckFault::Memory)
-}
-
-/// The line that names a byte of the source of this name, and what is wrong there.
-pub fn make_offset_line(
-    alloc: Global,
-    name: &str,
-    bytes: &[u8],
-    offset: u32,
-    what: &str,
-) -> Result<Bytes, AllocError>
-    ensures { IfOk result (λ line. line ≡ spec.offset_line name.now bytes.now offset what.now) }
-{
-    make_place_line(alloc, name, place_of(bytes, offset as usize), what)
 }
 
 /// The refusal of the source of this name, at whose core the inference stops.

@@ -2,7 +2,7 @@
 ghost use Rattle.std.specs.Prelude.{◌≡◌, ◌≤◌, ℕ, List as Sequence};
 ghost use Rattle.std.specs.Bool.{Decides};
 ghost use Rattle.pc_deriv.specs.declared.fault.DerivFault.TheVariants.{Memory as OutOfMemory};
-ghost use Rattle.pc_top.specs.Judge.{DerivationStage, IsTextRefusal, Reads, derivation_limit};
+ghost use Rattle.pc_top.specs.Judge.{DerivationStage, Deriving, IsTextRefusal, derivation_limit};
 ghost use Rattle.pc_top.specs.Named.{file_at};
 ghost use Rattle.pc_top.specs.Stages.{PartEnds, StageEnds};
 
@@ -28,7 +28,7 @@ pub fn read_derivation<F: Files>(alloc: Global, files: &mut F, name: &str) -> Re
 
 // The annotation of these bytes of the derivation of this name.
 fn read_ann(alloc: Global, name: &str, bytes: &[u8]) -> Result<Ann, Stop>
-    ensures { StageEnds (Reads name.now bytes.now) result }
+    ensures { StageEnds (Deriving name.now bytes.now) result }
 {
     match read(alloc, bytes) {
         Ok(ann) => Ok(ann),

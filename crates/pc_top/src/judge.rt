@@ -1,13 +1,15 @@
 //! `judge SRC DERIV`.
-ghost use Rattle.std.specs.Prelude.{◌≡◌, ◌≤◌, ◌⊎◌, ℕ, List as Sequence, IfOk};
-ghost use Rattle.pc_top.specs.Ends.{Ends, change};
+ghost use Rattle.std.specs.Prelude.{◌≡◌, ◌≤◌, ℕ, List as Sequence, [], ◌∷◌, IfOk};
+ghost use Rattle.pc_io.specs.Change.{change};
+ghost use Rattle.pc_top.specs.Ends.{Ends};
 ghost use Rattle.pc_top.specs.Judge.{IsJudge, Judging, judge_line};
-ghost use Rattle.pc_top.specs.Named.{FailedAt, file_at};
+ghost use Rattle.pc_top.specs.Named.{FailedAmong, files_change, named};
 ghost use Rattle.pc_top.specs.Stages.{StageEnds};
 
-use crate::core_faults::{declaration_offset, declaration_text, make_offset_line};
+use crate::core_faults::{declaration_offset, declaration_text};
 use crate::derivation::read_derivation;
 use crate::lines::{make_node_line, make_shape_line, make_slot_line, make_unset_line};
+use crate::refusal::make_offset_line;
 use crate::source::{Source, read_source};
 use crate::stop::Stop;
 use crate::writing::put_text;
@@ -70,9 +72,8 @@ pub fn run_judge<F: Files, O: Sink>(
 ) -> Result<(), Stop>
     ensures later { (n : Sequence ℕ) → F.faults files.old n ≤ F.faults files.new n }
     ensures out_later { O.faults out.old ≤ O.faults out.new }
-    ensures ends { let source = file_at (F.bytes files.old) (F.faults files.old) (F.faults files.new) (F.taken files.new) source.now in
-        let derivation = file_at (F.bytes files.old) (F.faults files.old) (F.faults files.new) (F.taken files.new) derivation.now in
-        Ends (IsJudge source derivation) (λ name. FailedAt source name ⊎ FailedAt derivation name)
+    ensures ends { let files = files_change (F.bytes files.old) (F.faults files.old) (F.faults files.new) (F.taken files.new) in
+        Ends (IsJudge (named files source.now) (named files derivation.now)) (FailedAmong files (source.now ∷ derivation.now ∷ []))
         (change (O.written out.old) (O.written out.new) (O.faults out.old) (O.faults out.new)) result }
 {
     let read = read_source(alloc, files, source)?;

@@ -1,6 +1,6 @@
-//! The lines on err.
+//! The lines on err, and the first line of `make`.
 ghost use Rattle.std.specs.Prelude.{◌≡◌, IfOk};
-ghost use Rattle.pc_top.specs.Lines.{bad_line, longer_line, many_line, no_main_line, node_line, place_line, shape_line, slot_line, unread_line, unset_line, usage_line};
+ghost use Rattle.pc_top.specs.Lines.{bad_line, counts_line, longer_line, many_line, no_main_line, node_line, place_line, shape_line, slot_line, too_long_line, unread_line, unset_line, usage_line};
 
 use crate::place::Place;
 use pc_io::Bytes;
@@ -49,6 +49,27 @@ pub fn make_place_line(
 {
     let Place { line, column } = place;
     let text = format!(in alloc; "{name}:{line}:{column}: {what}\n")?;
+    Bytes::copy_of(alloc, text.as_bytes())
+}
+
+/// `NAME: text too long at step N`, with a line end.
+pub fn make_too_long_line(alloc: Global, name: &str, step: u32) -> Result<Bytes, AllocError>
+    ensures { IfOk result (λ line. line ≡ too_long_line name.now step) }
+{
+    let text = format!(in alloc; "{name}: text too long at step {step}\n")?;
+    Bytes::copy_of(alloc, text.as_bytes())
+}
+
+/// `seed A size B nodes C`, with a line end.
+pub fn make_counts_line(
+    alloc: Global,
+    seed: u64,
+    size: u32,
+    nodes: usize,
+) -> Result<Bytes, AllocError>
+    ensures { IfOk result (λ line. line ≡ counts_line seed size nodes) }
+{
+    let text = format!(in alloc; "seed {seed} size {size} nodes {nodes}\n")?;
     Bytes::copy_of(alloc, text.as_bytes())
 }
 

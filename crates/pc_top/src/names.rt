@@ -3,8 +3,8 @@ ghost use Rattle.std.specs.Prelude.{◌≡◌, IfOk};
 ghost use Rattle.pc_names.specs.Laws.{fault_start};
 ghost use Rattle.pc_top.specs.Names as spec;
 
-use crate::core_faults::make_offset_line;
 use crate::lines::make_no_main_line;
+use crate::refusal::make_offset_line;
 use crate::stop::Stop;
 use pc_io::Bytes;
 use pc_names::{NameFault, Which};

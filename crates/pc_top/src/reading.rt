@@ -1,6 +1,6 @@
 //! The reading of a command's files.
 ghost use Rattle.std.specs.Prelude.{◌≡◌, ◌≤◌, ℕ, List};
-ghost use Rattle.pc_top.specs.Reading.{Reads};
+ghost use Rattle.pc_top.specs.Reading.{ReadsFile};
 
 use crate::lines::make_longer_line;
 use crate::stop::Stop;
@@ -16,7 +16,7 @@ pub fn read_file<F: Files>(
 ) -> Result<Bytes, Stop>
     ensures later { (n : List ℕ) → F.faults files.old n ≤ F.faults files.new n }
     ensures same { (n : List ℕ) → F.bytes files.new n ≡ F.bytes files.old n }
-    ensures reads { Reads name.now limit (F.bytes files.old name.now) (F.faults files.old name.now) (F.faults files.new name.now) (F.taken files.new) result }
+    ensures reads { ReadsFile name.now limit (F.bytes files.old name.now) (F.faults files.old name.now) (F.faults files.new name.now) (F.taken files.new) result }
 {
     match files.read(alloc, name, limit) {
         Ok(bytes) => Ok(bytes),

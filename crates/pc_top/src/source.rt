@@ -3,11 +3,12 @@ ghost use Rattle.std.specs.Prelude.{◌≡◌, ◌≤◌, ℕ, List as Sequence,
 ghost use Rattle.pc_elab.specs.Cores.{Spelled};
 ghost use Rattle.pc_lex.specs.Limits.{text_limit};
 ghost use Rattle.pc_tree.specs.View.{file_view};
-ghost use Rattle.pc_top.specs.Named.{file_at};
+ghost use Rattle.pc_top.specs.Named.{file_at, text_as};
 ghost use Rattle.pc_top.specs.Source.{CoreStage, Elaborating, Lexing, SourceStage, source_limit};
 ghost use Rattle.pc_top.specs.Stages.{PartEnds, StageEnds};
 
 use crate::faults::refuse_fault;
+use crate::lines::make_longer_line;
 use crate::names::refuse_name;
 use crate::reading::read_file;
 use crate::stop::Stop;
@@ -24,7 +25,7 @@ use pc_tree::File;
 use std::alloc::Global;
 
 /// How many bytes a source may have.
-const SOURCE_LIMIT: u32 = 1_048_576;
+pub const SOURCE_LIMIT: u32 = 1_048_576;
 
 /// A source that all stages let pass.
 #[derive(Debug, Drop)]
@@ -41,6 +42,20 @@ pub fn read_source<F: Files>(alloc: Global, files: &mut F, name: &str) -> Result
     ensures stage { PartEnds source_limit (SourceStage name.now) (file_at (F.bytes files.old) (F.faults files.old) (F.faults files.new) (F.taken files.new) name.now) result }
 {
     let bytes = read_file(alloc, files, name, SOURCE_LIMIT)?;
+    let core = read_core(alloc, name, bytes.as_slice())?;
+    Ok(Source { bytes, core })
+}
+
+/// Takes a text that stands in no file as the source of this name, and goes through its stages.
+pub fn take_source(alloc: Global, name: &str, bytes: Bytes) -> Result<Source, Stop>
+    ensures { PartEnds source_limit (SourceStage name.now) (text_as name.now bytes) result }
+{
+    if bytes.len() > SOURCE_LIMIT as usize {
+        return Err(Stop::Refused {
+            status: 8,
+            line: make_longer_line(alloc, name, SOURCE_LIMIT)?,
+        });
+    }
     let core = read_core(alloc, name, bytes.as_slice())?;
     Ok(Source { bytes, core })
 }
@@ -71,8 +86,8 @@ fn elaborate_tree(alloc: Global, name: &str, bytes: &[u8], file: &File) -> Resul
     }
 }
 
-// The tokens of the source of this name with these bytes.
-fn read_tokens(alloc: Global, name: &str, bytes: &[u8]) -> Result<List<Token>, Stop>
+/// The tokens of the source of this name with these bytes.
+pub fn read_tokens(alloc: Global, name: &str, bytes: &[u8]) -> Result<List<Token>, Stop>
     requires { length bytes.now ≤ text_limit }
     ensures { StageEnds (Lexing name.now bytes.now) result }
 {

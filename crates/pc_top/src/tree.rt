@@ -1,26 +1,15 @@
 //! The tree of a source's tokens.
 ghost use Rattle.pc_expr.specs.Gives.{EndsWithEnd};
 ghost use Rattle.pc_tree.specs.View.{file_view};
-ghost use Rattle.pc_top.specs.CoreFaults.{IsPlaceRefusal};
 ghost use Rattle.pc_top.specs.Source.{Parsing};
 ghost use Rattle.pc_top.specs.Stages.{StageEndsAs};
 
-use crate::core_faults::make_offset_line;
+use crate::refusal::refuse_at;
 use crate::stop::Stop;
 use pc_parse::{ParseFault, file};
 use pc_token::Token;
 use pc_tree::File;
 use std::alloc::Global;
-
-// The refusal of a source of this name with these bytes, at one of them.
-fn refuse_at(alloc: Global, name: &str, bytes: &[u8], status: u8, offset: u32, what: &str) -> Stop
-    ensures { IsPlaceRefusal name.now bytes.now status offset what.now result }
-{
-    match make_offset_line(alloc, name, bytes, offset, what) {
-        Ok(line) => Stop::Refused { status, line },
-        Err(_) => Stop::Memory,
-    }
-}
 
 /// The tree of the source of this name with these bytes, whose tokens these are.
 pub fn read_tree(alloc: Global, name: &str, bytes: &[u8], tokens: &[Token]) -> Result<File, Stop>

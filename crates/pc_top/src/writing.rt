@@ -1,6 +1,6 @@
 //! The writing of a command's text.
 ghost use Rattle.std.specs.Prelude.{◌≤◌};
-ghost use Rattle.pc_top.specs.Ends.{change};
+ghost use Rattle.pc_io.specs.Change.{change};
 ghost use Rattle.pc_top.specs.Stages.{Wrote};
 
 use crate::stop::Stop;

@@ -1,4 +1,5 @@
 mod Forms
+mod Known
 mod Missing
 pub mod Refusals
 mod Rows

@@ -1,5 +1,5 @@
 -- Words without a subcommand have a fault, and are not taken.
-use Rattle.std.proofs.Common.{◌≡◌, Bool, true, false, List, [], ◌∷◌, Option, Some, None, refl, is_some, option_map, ap, subst, not, ◌&&◌, ◌||◌}
+use Rattle.std.proofs.Common.{◌≡◌, Bool, true, false, List, [], ◌∷◌, Option, Some, None, refl, is_some, ap, subst, not, ◌&&◌, ◌||◌}
 use Rattle.clap.specs.Kinds.{Kinds, or_else, check_kinds}
 use Rattle.clap.specs.Faults.{check_fault, defaults_fault, entered_fault, level_fault, settle_fault, walk_fault}
 use Rattle.clap.specs.Takes.{default_passes, entered_passes, is_given, is_valid, level_passes, settle_passes, walk_passes}
@@ -8,7 +8,6 @@ use Rattle.std.specs.List.{list_all, list_any}
 use Rattle.clap.specs.Simple.{Shape, built, is_simple, argument_words, names_of}
 use Rattle.clap.specs.Walk.{Held, Names, finished, nothing_held, settled, walk, walk_from}
 use Rattle.clap.specs.Words.{Row, Text, fault_of, subcommand_of, takes}
-use Rattle.pc_words.specs.Asked.{named}
 use Rattle.pc_words.specs.Line.{rcap}
 
 or_else_nil : (a b : Kinds) → or_else a b ≡ [] → b ≡ []
@@ -41,10 +40,6 @@ missing words e f =
     let P : Bool → Type 0 = λ b. level_fault a.top (names_of a) nothing_held (argument_words a words) b (entered_fault a stop) ≡ [] in
     no_subcommand a.top (names_of a) nothing_held (argument_words a words) (entered_fault a stop) refl
     (subst P (ap is_some e) f)
-
-pub nothing_named : (o : Option (Text × List Row)) → None ≡ option_map named o → o ≡ None
-nothing_named None e = refl
-nothing_named (Some p) e = cc
 
 -- ---- the same by what the command line takes
 

@@ -14,8 +14,30 @@ check = with_rule (new_app (codes "check")) (positional (codes "SRC"))
 abbrev pub judge : App
 judge = with_rule (with_rule (new_app (codes "judge")) (positional (codes "SRC"))) (positional (codes "DERIV"))
 
+-- `run SRC SCHED`
+abbrev pub run : App
+run = with_rule (with_rule (new_app (codes "run")) (positional (codes "SRC"))) (positional (codes "SCHED"))
+
+-- `show SRC`
+abbrev pub show : App
+show = with_rule (new_app (codes "show")) (positional (codes "SRC"))
+
+-- `make SEED SIZE`
+abbrev pub make : App
+make = with_rule (with_rule (new_app (codes "make")) (positional (codes "SEED"))) (positional (codes "SIZE"))
+
 -- The words begin behind the program's name, and no `help` is added as a subcommand.
+abbrev pub bare : App
+bare = on_top (λ s. record s { no_binary_name = true; disable_help_subcommand = true; subcommand_required = true }) (new_app (codes "rcap"))
+
+-- with the subcommands that derivations are made and judged by
+abbrev pub judging : App
+judging = with_subcommand (with_subcommand bare check.top) judge.top
+
+-- with all subcommands that read a source
+abbrev pub reading : App
+reading = with_subcommand (with_subcommand judging run.top) show.top
+
+-- with all subcommands
 abbrev pub rcap : App
-rcap = with_subcommand (with_subcommand
-    (on_top (λ s. record s { no_binary_name = true; disable_help_subcommand = true; subcommand_required = true }) (new_app (codes "rcap")))
-    check.top) judge.top
+rcap = with_subcommand reading make.top

@@ -32,18 +32,66 @@ fn make_judge<'a>(alloc: Global) -> Result<Command<'a>, AllocError>
     source.arg(make_positional(alloc, "DERIV"))
 }
 
+fn make_run<'a>(alloc: Global) -> Result<Command<'a>, AllocError>
+    ensures app { IfOk result (λ c. app_of c ≡ line.run) }
+    ensures local { IfOk result (λ c. (fields_of c).has_globals ≡ false) }
+{
+    let source = Command::new(alloc, "run").arg(make_positional(alloc, "SRC"))?;
+    source.arg(make_positional(alloc, "SCHED"))
+}
+
+fn make_show<'a>(alloc: Global) -> Result<Command<'a>, AllocError>
+    ensures app { IfOk result (λ c. app_of c ≡ line.show) }
+    ensures local { IfOk result (λ c. (fields_of c).has_globals ≡ false) }
+{
+    Command::new(alloc, "show").arg(make_positional(alloc, "SRC"))
+}
+
+fn make_make<'a>(alloc: Global) -> Result<Command<'a>, AllocError>
+    ensures app { IfOk result (λ c. app_of c ≡ line.make) }
+    ensures local { IfOk result (λ c. (fields_of c).has_globals ≡ false) }
+{
+    let seed = Command::new(alloc, "make").arg(make_positional(alloc, "SEED"))?;
+    seed.arg(make_positional(alloc, "SIZE"))
+}
+
+// The command line without a subcommand.
+fn make_bare<'a>(alloc: Global) -> Command<'a>
+    ensures app { app_of result ≡ line.bare }
+    ensures local { (fields_of result).has_globals ≡ false }
+{
+    Command::new(alloc, "rcap")
+        .no_binary_name(true)
+        .disable_help_subcommand(true)
+        .subcommand_required(true)
+}
+
+// With the subcommands that derivations are made and judged by.
+fn make_judging<'a>(alloc: Global) -> Result<Command<'a>, AllocError>
+    ensures app { IfOk result (λ c. app_of c ≡ line.judging) }
+    ensures local { IfOk result (λ c. (fields_of c).has_globals ≡ false) }
+{
+    make_bare(alloc)
+        .subcommand(make_check(alloc)?)?
+        .subcommand(make_judge(alloc)?)
+}
+
+// With all subcommands that read a source.
+fn make_reading<'a>(alloc: Global) -> Result<Command<'a>, AllocError>
+    ensures app { IfOk result (λ c. app_of c ≡ line.reading) }
+    ensures local { IfOk result (λ c. (fields_of c).has_globals ≡ false) }
+{
+    make_judging(alloc)?
+        .subcommand(make_run(alloc)?)?
+        .subcommand(make_show(alloc)?)
+}
+
 // The whole command line, its words not yet read.
 fn make_rcap<'a>(alloc: Global) -> Result<Command<'a>, AllocError>
     ensures app { IfOk result (λ c. app_of c ≡ line.rcap) }
     ensures local { IfOk result (λ c. (fields_of c).has_globals ≡ false) }
 {
-    let command = Command::new(alloc, "rcap")
-        .no_binary_name(true)
-        .disable_help_subcommand(true)
-        .subcommand_required(true);
-    command
-        .subcommand(make_check(alloc)?)?
-        .subcommand(make_judge(alloc)?)
+    make_reading(alloc)?.subcommand(make_make(alloc)?)
 }
 
 /// The matches of the words, or why clap refuses them.

@@ -1,5 +1,5 @@
 //! What the words of a command line ask for.
-ghost use Rattle.std.specs.Prelude.{◌≡◌, option_map};
+ghost use Rattle.std.specs.Prelude.{◌≡◌, option_and_then, option_map};
 ghost use Rattle.clap.specs.Words.{found_of, rows_of, subcommand_rows_of};
 ghost use Rattle.pc_words.specs.Asked.{asked_by, named, texts, value};
 ghost use Rattle.pc_words.specs.Reads.{Reads};
@@ -9,7 +9,7 @@ use clap::ArgMatches;
 use clap::error::ErrorKind;
 use std::alloc::Global;
 
-/// What words ask for, with the names as given.
+/// What words ask for, with the names and numbers as given.
 #[derive(Clone, Copy, Debug)]
 pub enum Command<'a> {
     /// To check a source.
@@ -20,6 +20,20 @@ pub enum Command<'a> {
     Judge {
         source: &'a str,
         derivation: &'a str,
+    },
+    /// To run a source by a schedule.
+    Run {
+        source: &'a str,
+        schedule: &'a str,
+    },
+    /// To print a source.
+    Show {
+        source: &'a str,
+    },
+    /// To make a program from a number, and to run it.
+    Make {
+        seed: &'a str,
+        size: &'a str,
     },
 }
 
@@ -49,15 +63,30 @@ pub fn read_words<'a>(alloc: Global, words: &'a [&'a str]) -> Result<Command<'a>
 
 // The command that matches name.
 fn command_in<'a>(matches: &ArgMatches<'a>) -> Option<Command<'a>>
-    ensures { option_map asked_by result ≡ option_map named (subcommand_rows_of matches.now) }
+    ensures { option_map asked_by result ≡ option_and_then named (subcommand_rows_of matches.now) }
 {
     let (name, own) = matches.subcommand()?;
-    let source = value_of(own, "SRC");
-    if name == "judge" {
-        let derivation = value_of(own, "DERIV");
-        return Some(Command::Judge { source, derivation });
+    match name {
+        "check" => Some(Command::Check {
+            source: value_of(own, "SRC"),
+        }),
+        "judge" => Some(Command::Judge {
+            source: value_of(own, "SRC"),
+            derivation: value_of(own, "DERIV"),
+        }),
+        "run" => Some(Command::Run {
+            source: value_of(own, "SRC"),
+            schedule: value_of(own, "SCHED"),
+        }),
+        "show" => Some(Command::Show {
+            source: value_of(own, "SRC"),
+        }),
+        "make" => Some(Command::Make {
+            seed: value_of(own, "SEED"),
+            size: value_of(own, "SIZE"),
+        }),
+        _ => None,
     }
-    Some(Command::Check { source })
 }
 
 // The value of an argument, or the empty text.

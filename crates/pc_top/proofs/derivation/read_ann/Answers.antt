@@ -1,4 +1,4 @@
-use Rattle.pc_top.specs.Judge.Reads.{reads}
+use Rattle.pc_top.specs.Judge.Deriving.{reads}
 use Rattle.pc_top.proofs.Judged.{text_stops}
 use Rattle.pc_top.proofs.derivation.read_ann.Goals as goal
 

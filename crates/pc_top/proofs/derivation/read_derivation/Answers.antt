@@ -1,10 +1,9 @@
 use Rattle.std.proofs.lemmas.Result.{err_from_is_err_and}
 use Rattle.pc_top.specs.After.After.{stops}
-use Rattle.pc_top.specs.Judge.{DerivationStage, derivation_limit}
+use Rattle.pc_top.specs.Judge.{DerivationStage, Deriving, derivation_limit}
 use Rattle.pc_top.specs.Named.{file_at}
 use Rattle.pc_top.specs.Source.Length.{is_longer}
-use Rattle.pc_top.proofs.Judged.{text_part}
-use Rattle.pc_top.proofs.Parts.{not_read}
+use Rattle.pc_top.proofs.Parts.{not_read, whole_ends}
 use Rattle.pc_top.proofs.derivation.read_derivation.Goals as goal
 
 pub returns-in_err-bytes-clause-stage : goal.returns-in_err-bytes-clause-stage
@@ -16,4 +15,4 @@ returns-in_err-bytes-clause-stage g c =
 pub returns-clause-stage : goal.returns-clause-stage
 returns-clause-stage g c =
     let file = file_at (g.F.Files.bytes c.args.files.now) (g.F.Files.faults c.args.files.now) (g.F.Files.faults c.read_file.new.files) (g.F.Files.taken c.read_file.new.files) c.args.name.now in
-    text_part file c.in_ok-bytes.bytes c.as_slice.result.now c.read_ann.result c.in_ok-bytes.ensures.reads c.as_slice.ensures c.read_ann.ensures
+    whole_ends derivation_limit (Deriving c.args.name.now) file c.in_ok-bytes.bytes c.as_slice.result.now c.read_ann.result c.in_ok-bytes.ensures.reads c.as_slice.ensures c.read_ann.ensures

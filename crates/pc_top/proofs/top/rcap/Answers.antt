@@ -1,7 +1,8 @@
-use Rattle.pc_top.specs.Asked.{files_change, IsVerdict, FailedIn}
+use Rattle.pc_top.specs.Asked.{IsVerdict, FailedIn}
 use Rattle.pc_words.specs.Asked.{texts}
-use Rattle.pc_top.specs.Ends.{change}
-use Rattle.pc_top.proofs.Accepted.{answer_accepts}
+use Rattle.pc_io.specs.Change.{change}
+use Rattle.pc_top.specs.Named.{files_change}
+use Rattle.pc_top.proofs.Accepted.{accepted_safe, answer_accepts}
 use Rattle.pc_top.proofs.Answers.{answer_of, completes}
 use Rattle.pc_top.proofs.Refused.{answer_refuses}
 use Rattle.pc_top.proofs.Written.{answer_writes}
@@ -19,6 +20,10 @@ pub returns-clause-accepted : goal.returns-clause-accepted
 returns-clause-accepted g c =
     let files = files_change (g.F.Files.bytes c.args.files.now) (g.F.Files.faults c.args.files.now) (g.F.Files.faults c.run_words-ended.new.files) (g.F.Files.taken c.run_words-ended.new.files) in
     answer_accepts files (texts c.args.words.now) _ _ _ (returns-clause-answers g c)
+
+pub returns-clause-safe : goal.returns-clause-safe
+returns-clause-safe g c e =
+    accepted_safe c.derivable_sources_are_safe.ensures (g.F.Files.bytes c.args.files.now) (texts c.args.words.now) (returns-clause-accepted g c e)
 
 pub returns-clause-completes : goal.returns-clause-completes
 returns-clause-completes g c =

@@ -1,19 +1,23 @@
-use Rattle.std.proofs.Common.{rules, ◌≡◌, ◌∙◌, ap, sym, true, [], List, Option, option_map}
+use Rattle.std.proofs.Common.{rules, ◌≡◌, ◌∙◌, ap, sym, true, [], List, Option}
+use Rattle.std.specs.Prelude.{option_and_then}
 use Rattle.clap.specs.Words.{Row, Text, fault_of, takes}
 use Rattle.pc_words.specs.Asked.{named, texts}
 use Rattle.pc_words.specs.Line.{rcap}
-use Rattle.pc_words.proofs.Missing.{missing, nothing_named}
+use Rattle.pc_words.proofs.Known.{nothing_asked}
+use Rattle.pc_words.proofs.Missing.{missing}
 use Rattle.pc_words.proofs.Refusals.{asks, refuses}
 use Rattle.pc_words.proofs.words.read_words.Goals as goal
 
 pub returns-in-Some : goal.returns-in-Some
 returns-in-Some c =
     asks (texts c.args.words.now) _ c.in-Ok.ensures.kinds
-    (sym (c.in-Some.ensures ∙ ap (λ (o : Option (Text × List Row)). option_map named o) c.in-Ok.ensures.ok))
+    (sym (c.in-Some.ensures ∙ ap (λ (o : Option (Text × List Row)). option_and_then named o) c.in-Ok.ensures.ok))
 
 pub returns-in-Ok : goal.returns-in-Ok
 returns-in-Ok c =
-    absurd (missing (texts c.args.words.now) (sym c.in-Ok.ensures.ok ∙ nothing_named _ c.in-None.ensures) c.in-Ok.ensures.kinds)
+    let words = texts c.args.words.now in
+    let none = nothing_asked words (sym (c.in-None.ensures ∙ ap (λ (o : Option (Text × List Row)). option_and_then named o) c.in-Ok.ensures.ok)) in
+    absurd (missing words none c.in-Ok.ensures.kinds)
 
 pub returns : goal.returns
 returns c =

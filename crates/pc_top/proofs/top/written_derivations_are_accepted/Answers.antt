@@ -1,5 +1,0 @@
-use Rattle.pc_top.proofs.Written.{written_accepted}
-use Rattle.pc_top.proofs.top.written_derivations_are_accepted.Goals as goal
-
-pub returns : goal.returns
-returns c = written_accepted

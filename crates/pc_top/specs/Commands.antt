@@ -1,0 +1,27 @@
+-- What each command reads.
+use Rattle.std.specs.Prelude.{Bool, true, false, List, [], ◌∷◌, Option, Some, None}
+use Rattle.pc_words.specs.Asked.{Text, Asked, check, judge, make, run, show}
+
+-- The files that a command reads, in this order.
+abbrev pub files_of : Asked → List Text
+files_of (check source) = source ∷ []
+files_of (judge source derivation) = source ∷ derivation ∷ []
+files_of (run source schedule) = source ∷ schedule ∷ []
+files_of (show source) = source ∷ []
+files_of (make seed size) = []
+
+-- The file among them whose core has to have a derivation, where there is one. The program of `make` stands in none.
+abbrev pub source_of : Asked → Option Text
+source_of (check source) = Some source
+source_of (judge source derivation) = Some source
+source_of (run source schedule) = Some source
+source_of (show source) = None
+source_of (make seed size) = None
+
+-- Whether the command looks for that derivation itself.
+abbrev pub infers : Asked → Bool
+infers (check source) = true
+infers (judge source derivation) = false
+infers (run source schedule) = true
+infers (show source) = false
+infers (make seed size) = true

@@ -1,0 +1,28 @@
+-- What the statuses 0 and 1 say of a source, exactly.
+use Rattle.std.specs.Prelude.{ℕ, ◌≡◌, ◌↔◌, Some, List, IsTrue}
+use Rattle.pc_gen.specs.Numbers.{IsSeed, IsSize}
+use Rattle.pc_words.specs.Asked.{Text, Asked, check, make, command_of}
+use Rattle.pc_top.specs.Asked.{IsVerdict}
+use Rattle.pc_top.specs.Commands.{infers, source_of}
+use Rattle.pc_top.specs.CoreOf.{IsDerivable, IsUnderivable}
+use Rattle.pc_top.specs.Make.{made_text}
+use Rattle.pc_top.specs.Named.{Files}
+use Rattle.pc_top.specs.Verdict.{Verdict}
+
+-- The words ask for this, and this verdict is theirs. The source of the command tells these bytes, and no reading of it failed.
+pub record ReadsSource (files : Files) (words : List Text) (asked : Asked) (source bytes : Text) (v : Verdict) : Type 0 where
+  pub asks : command_of words ≡ Some asked
+  pub is_source : source_of asked ≡ Some source
+  pub tells : files.told source ≡ Some bytes
+  pub unfailed : files.now source ≡ files.before source
+  pub verdict : IsVerdict files words v
+
+-- `check` answers 0 exactly where the source has a core with a derivation. A command that looks for the derivation itself
+-- answers 1 exactly where the source has a core without one, `make` where the program that it makes has.
+pub record StatusesAreExact : Type 0 where
+  pub accepted : (files : Files) (words : List Text) (source bytes : Text) (v : Verdict) → ReadsSource files words (check source) source bytes v
+      → (v.status ≡ 0) ↔ IsDerivable bytes
+  pub refused : (files : Files) (words : List Text) (asked : Asked) (source bytes : Text) (v : Verdict) → ReadsSource files words asked source bytes v
+      → IsTrue (infers asked) → (v.status ≡ 1) ↔ IsUnderivable bytes
+  pub made : (files : Files) (words : List Text) (seed size : Text) (a b : ℕ) (v : Verdict) → command_of words ≡ Some (make seed size) → IsSeed seed a → IsSize size b
+      → IsVerdict files words v → (v.status ≡ 1) ↔ IsUnderivable (made_text a b)

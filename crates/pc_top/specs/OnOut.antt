@@ -1,0 +1,71 @@
+-- What stands on out where a command went through all its stages.
+use Rattle.std.specs.Prelude.{ℕ, ◌≡◌, ◌++◌, Option, Some, None, List, length, IfSome}
+use Rattle.std.specs.Io.KnownBytes.{Appends}
+use Rattle.pc_core.specs.CoreData.{CoreData}
+use Rattle.pc_grammar.specs.FileAnswers.{IsFileAnswer, spelled}
+use Rattle.pc_lex.specs.Answers.{TokenList}
+use Rattle.pc_print.specs.Printing.{printed}
+use Rattle.pc_token.specs.declared.kinds.Token.{Token}
+use Rattle.pc_tree.specs.Tree as t
+use Rattle.pc_ann.specs.declared.annotation.Ann.{Ann}
+use Rattle.pc_gen.specs.Numbers.{IsSeed, IsSize}
+use Rattle.pc_gen.specs.Schedule.{schedule}
+use Rattle.pc_rules.specs.Valid.{Valid}
+use Rattle.pc_run.specs.Spreading.{spread}
+use Rattle.pc_sched.specs.Schedules.{TurnList}
+use Rattle.pc_sched.specs.declared.turns.Turn.{Turn}
+use Rattle.pc_semantics.specs.Text.{run_text}
+use Rattle.pc_deriv.specs.Faults.{IsText}
+use Rattle.pc_words.specs.Asked.{Text, Asked, check, judge, run, show, make, command_of}
+use Rattle.pc_top.specs.Asked.{IsVerdict}
+use Rattle.pc_top.specs.CoreOf.{CoreOf}
+use Rattle.pc_io.specs.Change.{Change}
+use Rattle.pc_top.specs.Judge.{accepted_text}
+use Rattle.pc_top.specs.Lines.{counts_line}
+use Rattle.pc_top.specs.Make.{made_text}
+use Rattle.pc_top.specs.Named.{Files}
+use Rattle.pc_top.specs.Verdict.{done}
+
+-- Out grew by the text of a valid annotation of the source's core.
+abbrev pub WritesDerivation : Change → Text → Type 0
+WritesDerivation out bytes =
+    (core : CoreData) × CoreOf bytes core × (ann : Ann) × Valid core ann × (text : Text) × IsText text ann × Appends out.before out.now text
+
+-- Out grew by the text of the run of the source's core by the schedule.
+abbrev pub WritesRun : Change → Text → Text → Type 0
+WritesRun out source schedule =
+    (core : CoreData) × CoreOf source core × (turns : List Turn) × TurnList schedule turns × Appends out.before out.now (run_text core (spread turns))
+
+-- Out grew by the printed text of the file that the source's tokens spell.
+abbrev pub WritesTree : Change → Text → Type 0
+WritesTree out bytes =
+    (tokens : List Token) × TokenList bytes tokens × (file : t.File) × IsFileAnswer tokens (spelled file) × Appends out.before out.now (printed file)
+
+-- Out grew by the line of the made program's numbers and the text of its run.
+abbrev pub WritesMade : Change → ℕ → ℕ → Type 0
+WritesMade out seed size =
+    (core : CoreData) × CoreOf (made_text seed size) core
+    × Appends out.before out.now (counts_line seed size (length core.nodes) ++ run_text core (spread (schedule size)))
+
+abbrev pub OnOutOf : (Text → Option Text) → Option Asked → Change → Type 0
+OnOutOf told None out = ⊥
+OnOutOf told (Some (check source)) out = IfSome (told source) (WritesDerivation out)
+OnOutOf told (Some (judge source derivation)) out = Appends out.before out.now accepted_text
+OnOutOf told (Some (run source schedule)) out = IfSome (told source) (λ bytes. IfSome (told schedule) (WritesRun out bytes))
+OnOutOf told (Some (show source)) out = IfSome (told source) (WritesTree out)
+OnOutOf told (Some (make seed size)) out = (a b : ℕ) × IsSeed seed a × IsSize size b × WritesMade out a b
+
+-- What the command of the words writes: the source's derivation, `accepted`, the text of the run or the printed tree, where
+-- the files that say it are told; or the numbers of the program that it makes, and the text of its run.
+abbrev pub OnOut : (Text → Option Text) → List Text → Change → Type 0
+OnOut told words out = OnOutOf told (command_of words) out
+
+-- ---- from one command to the other
+
+-- What `check` is done with for a source, `judge` accepts for the same source, wherever it is read from. Which words ask for
+-- `check`, and which for `judge`, plays no part.
+abbrev pub WrittenIsAccepted : Type 0
+WrittenIsAccepted =
+    (files later : Files) (words later_words : List Text) (source derivation text : Text) → command_of words ≡ Some (check source)
+    → command_of later_words ≡ Some (judge source derivation) → later.told source ≡ files.told source → later.told derivation ≡ Some text
+    → IsVerdict files words (done text) → IsVerdict later later_words (done accepted_text)

@@ -1,0 +1,95 @@
+//! What is proved of the verdict. Each call does nothing, and its contract is the law.
+ghost use Rattle.pc_top.specs.Asked.{RefusedIsUnderivable};
+ghost use Rattle.pc_top.specs.CoreOf.{CoresAreFormed, DerivableIsSafe};
+ghost use Rattle.pc_top.specs.Exact.{StatusesAreExact};
+ghost use Rattle.pc_top.specs.OnOut.{WrittenIsAccepted};
+ghost use Rattle.pc_top.specs.One.{VerdictIsOne};
+
+use pc_check::{
+    nothing_is_derivable_with_a_declaration_that_fails, nothing_is_derivable_with_a_field_unset,
+    nothing_is_derivable_without_a_rule,
+};
+use pc_deriv::annotations_are_one;
+use pc_elab::cores_are_formed;
+use pc_grammar::files_are_read;
+use pc_judge::{faulted_is_not_valid, one_fault_is_first};
+use pc_lex::{faults_are_told, tokens_are_one};
+use pc_names::names_are_one;
+use pc_order::tokens_are_in_order;
+use pc_program::cores_are_one;
+use pc_rules::one_annotation_is_valid;
+use pc_sched::turns_are_one;
+use pc_sound::valid_is_safe;
+use pc_sub::no_fault_where_declarations_fit;
+
+/// The core of a source fits together, and is so small that its annotations have a text.
+pub fn cores_of_sources_are_formed()
+    ensures { CoresAreFormed }
+{
+    tokens_are_in_order();
+    cores_are_formed();
+}
+
+/// There is one verdict for the words and for what the files tell.
+pub fn verdict_is_one()
+    ensures { VerdictIsOne }
+{
+    tokens_are_one();
+    faults_are_told();
+    files_are_read();
+    names_are_one();
+    cores_are_one();
+    cores_of_sources_are_formed();
+    no_fault_where_declarations_fit();
+    one_annotation_is_valid();
+    nothing_is_derivable_without_a_rule();
+    nothing_is_derivable_with_a_field_unset();
+    nothing_is_derivable_with_a_declaration_that_fails();
+    pc_check::faults_are_one();
+    annotations_are_one();
+    pc_deriv::faults_are_one();
+    one_fault_is_first();
+    faulted_is_not_valid();
+    turns_are_one();
+    pc_sched::faults_are_told();
+}
+
+/// `check` answers 0 exactly where the source has a core with a derivation, and what looks for a derivation answers 1
+/// exactly where the source has a core without one.
+pub fn statuses_are_exact()
+    ensures { StatusesAreExact }
+{
+    tokens_are_one();
+    faults_are_told();
+    files_are_read();
+    names_are_one();
+    cores_are_one();
+    cores_of_sources_are_formed();
+    nothing_is_derivable_without_a_rule();
+    nothing_is_derivable_with_a_field_unset();
+    nothing_is_derivable_with_a_declaration_that_fails();
+}
+
+/// What `check` writes for a source, `judge` accepts for the same source.
+pub fn written_derivations_are_accepted()
+    ensures { WrittenIsAccepted }
+{}
+
+/// A source that is refused with status 1 has a core, and the core has no derivation.
+pub fn refused_sources_have_no_derivation()
+    ensures { RefusedIsUnderivable }
+{
+    cores_of_sources_are_formed();
+    nothing_is_derivable_without_a_rule();
+    nothing_is_derivable_with_a_field_unset();
+    nothing_is_derivable_with_a_declaration_that_fails();
+}
+
+/// A source whose core has a derivation is safe: over every schedule no two actors race, what waits in messages is let alone,
+/// and no step lacks anything.
+pub fn derivable_sources_are_safe()
+    ensures { DerivableIsSafe }
+{
+    cores_of_sources_are_formed();
+    valid_is_safe();
+}
