@@ -4,6 +4,7 @@ use Rattle.pc_caps.specs.Order.{pairs, StandsIn, IsBelow, is_below}
 use Rattle.pc_caps.specs.Order.IsBelow.{same, step}
 use Rattle.pc_caps.specs.declared.capability.Form.{Form}
 use Rattle.pc_caps.specs.declared.capability.Form.TheVariants.{IsoE, TrnE, Iso, Trn, Ref, Val, Box, Tag}
+use Rattle.pc_lists.proofs.Bools.{first_true, second_true}
 
 -- reflexivity
 reflexive : (a : Form) → is_below a a ≡ true
@@ -31,14 +32,6 @@ keeps_all Val = refl
 keeps_all Box = refl
 keeps_all Tag = refl
 
-and_left : (x y : Bool) → (x && y) ≡ true → x ≡ true
-and_left true y e = refl
-and_left false y e = cc
-
-and_right : (x y : Bool) → (x && y) ≡ true → y ≡ true
-and_right true y e = e
-and_right false y e = cc
-
 implied : (x y : Bool) → (not x || y) ≡ true → x ≡ true → y ≡ true
 implied true y e h = e
 implied false y e h = cc
@@ -47,10 +40,10 @@ implied false y e h = cc
 kept : (ps : List (Form × Form)) (a b c : Form) → keeps ps c ≡ true → StandsIn ps a b → is_below b c ≡ true → is_below a c ≡ true
 kept [] a b c e s h = absurd s
 kept (p ∷ ps) a b c e (inl s) h =
-    let here = implied (is_below p.1 c) (is_below p.0 c) (and_left _ _ e) in
+    let here = implied (is_below p.1 c) (is_below p.0 c) (first_true _ _ e) in
     let there : is_below p.1 c ≡ true = rw s.1 h in
     rw s.0 at (here there)
-kept (p ∷ ps) a b c e (inr s) h = kept ps a b c (and_right _ _ e) s h
+kept (p ∷ ps) a b c e (inr s) h = kept ps a b c (second_true _ _ e) s h
 
 complete : {a b : Form} → IsBelow a b → is_below a b ≡ true
 complete (same {a = a}) = reflexive a

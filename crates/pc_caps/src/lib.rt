@@ -1,5 +1,8 @@
 //! Reference capabilities, their forms, the order on forms and the tables on them; and the two small types that every
 //! layer shares, `Span` and `List`.
+//!
+//! Proved: `below` is the closure of the ten pairs; `plain`, `unalias`, `stored`, `fits`, `view`, `taken`, `may_write`,
+//! `lift`, `sendable` and `sendable_form` are their tables. `List<T>` is a list, and may stand inside recursive types.
 #![tactic(auto)]
 
 mod capability;

@@ -9,7 +9,7 @@ use std::mem;
 /// A list of values in order, which contracts see as a list. It may stand inside a recursive type.
 #[derive(Debug, Drop)]
 pub struct List<T> {
-    items: Vec<T>,
+    values: Vec<T>,
 }
 
 impl<T> Model for List<T> {
@@ -20,7 +20,7 @@ impl<T> Model for List<T> {
 
     ghost coded = { coded_list T.code };
 
-    ghost view = { λ list. list.items.items };
+    ghost view = { λ list. list.values.items };
 }
 
 impl<T> List<T> {
@@ -29,44 +29,44 @@ impl<T> List<T> {
         ensures { result ≡ [] }
     {
         List {
-            items: Vec::new(alloc),
+            values: Vec::new(alloc),
         }
     }
 
     /// The list of a vector's values.
-    pub fn from_vec(items: Vec<T>) -> List<T>
-        ensures { result ≡ items.items }
+    pub fn from_vec(values: Vec<T>) -> List<T>
+        ensures { result ≡ values.items }
     {
-        List { items }
+        List { values }
     }
 
     /// The vector of the list's values.
     pub fn into_vec(self) -> Vec<T>
         ensures { result.items ≡ self }
     {
-        let List { items } = self;
-        items
+        let List { values } = self;
+        values
     }
 
     /// The values, in order.
     pub fn as_slice(&self) -> &[T]
         ensures { result.now ≡ self.now }
     {
-        self.items.as_slice()
+        self.values.as_slice()
     }
 
     /// How many values there are.
     pub fn len(&self) -> usize
         ensures { result ≡ length self.now }
     {
-        self.items.len()
+        self.values.len()
     }
 
     /// Whether there is no value.
     pub fn is_empty(&self) -> bool
         ensures { IsTrue result ↔ (self.now ≡ []) }
     {
-        self.items.is_empty()
+        self.values.is_empty()
     }
 
     /// The value at a place, counted from 0. `None` exactly where there is none.
@@ -74,7 +74,7 @@ impl<T> List<T> {
         ensures value { option_copied result ≡ slice_get self.now at }
         ensures within { OnSome result (at < length self.now) }
     {
-        self.items.get(at)
+        self.values.get(at)
     }
 
     /// Puts another value in a place, and answers the one before.
@@ -83,34 +83,34 @@ impl<T> List<T> {
         ensures new { self.new ≡ slice_set self.old place value }
         ensures old { slice_get self.old place ≡ Some result }
     {
-        replace_at(&mut self.items, place, value)
+        replace_at(&mut self.values, place, value)
     }
 
     /// Takes the last value out. `None` exactly where the list is empty.
     pub fn pop(&mut self) -> Option<T>
         ensures { MatchOption result ((self.old ≡ []) × (self.new ≡ [])) (λ last. self.old ≡ self.new ++ last ∷ []) }
     {
-        self.items.pop()
+        self.values.pop()
     }
 }
 
 impl<T: Copy> List<T> {
     /// A list of these values.
-    pub fn from_slice(alloc: Global, items: &[T]) -> Result<List<T>, AllocError>
-        ensures { IfOk result (λ list. list ≡ items.now) }
+    pub fn from_slice(alloc: Global, values: &[T]) -> Result<List<T>, AllocError>
+        ensures { IfOk result (λ list. list ≡ values.now) }
     {
-        let items = Vec::from_slice(alloc, items)?;
-        Ok(List { items })
+        let values = Vec::from_slice(alloc, values)?;
+        Ok(List { values })
     }
 }
 
 impl<T: Drop> List<T> {
     /// Puts a value behind the last one. A refusal leaves the list as it was.
-    pub fn push(&mut self, item: T) -> Result<(), AllocError>
-        ensures ok { OnOk result (self.new ≡ self.old ++ item ∷ []) }
+    pub fn push(&mut self, value: T) -> Result<(), AllocError>
+        ensures ok { OnOk result (self.new ≡ self.old ++ value ∷ []) }
         ensures err { OnErr result (self.new ≡ self.old) }
     {
-        self.items.push(item)?;
+        self.values.push(value)?;
         Ok(())
     }
 
@@ -118,7 +118,7 @@ impl<T: Drop> List<T> {
     pub fn truncate(&mut self, len: usize)
         ensures { self.new ≡ take len self.old }
     {
-        self.items.truncate(len);
+        self.values.truncate(len);
     }
 }
 
@@ -130,22 +130,22 @@ impl<T: PartialEq> PartialEq for List<T> {
     ghost laws = { lists_per T.laws };
 
     fn eq(&self, other: &Self) -> bool {
-        self.items.as_slice() == other.items.as_slice()
+        self.values.as_slice() == other.values.as_slice()
     }
 }
 
 impl<T: Clone> Clone for List<T> {
     fn clone(&self) -> Result<Self, AllocError> {
-        let items = self.items.clone()?;
-        Ok(List { items })
+        let values = self.values.clone()?;
+        Ok(List { values })
     }
 }
 
 // `replace` on the vector itself.
-fn replace_at<T>(items: &mut Vec<T>, place: usize, value: T) -> T
-    requires { place < length items.old.items }
-    ensures new { items.new.items ≡ slice_set items.old.items place value }
-    ensures old { slice_get items.old.items place ≡ Some result }
+fn replace_at<T>(values: &mut Vec<T>, place: usize, value: T) -> T
+    requires { place < length values.old.items }
+    ensures new { values.new.items ≡ slice_set values.old.items place value }
+    ensures old { slice_get values.old.items place ≡ Some result }
 {
-    mem::replace(&mut items[place], value)
+    mem::replace(&mut values[place], value)
 }

@@ -1,3 +1,5 @@
+//! Pieces of a text, by their bytes.
+
 /// A piece of a text, in byte offsets counted from 0.
 #[derive(Clone, Copy, Debug, PartialEq, Eq)]
 pub struct Span {

@@ -9,9 +9,12 @@ use Rattle.pc_ann.specs.declared.annotation.Rule.{Rule}
 use Rattle.pc_ann.specs.declared.annotation.Note.{Note}
 use Rattle.pc_deriv.specs.Names.{rule_name, cap_name, form_name}
 use Rattle.pc_deriv.specs.Text.{line_end, blank, head_line, slot_line, type_text, mask_text, masks_text, note_line, CountsFit, SlotFits, TypeFits, MaskFits, NoteFits}
-use Rattle.pc_deriv.specs.Reading.{◌>>=◌, digit_of, after, or_else, beside, rule_at, cap_at, form_at, number_at, decimal_at, mask_at, head_at, slot_at, some_type_at, type_at, masks_at, note_at}
+use Rattle.pc_deriv.specs.Reading.{digit_of, after, or_else, beside, rule_at, cap_at, form_at, number_at, decimal_at, mask_at, head_at, slot_at, some_type_at, type_at, masks_at, note_at}
+use Rattle.pc_lists.specs.Options.{◌>>=◌}
 use Rattle.pc_deriv.proofs.Digits.{ten, sixteen}
-use Rattle.pc_deriv.proofs.NumberReading.{none_some, some_one, bind_some, bind_own, number_sound, number_own}
+use Rattle.pc_deriv.proofs.NumberReading.{bind_own, number_sound, number_own}
+use Rattle.std.proofs.lemmas.Option.{same_Some}
+use Rattle.pc_lists.proofs.Options.{none_some, bind_some}
 use Rattle.pc_deriv.proofs.NameReading.{after_sound, after_own, rule_sound, rule_own, cap_sound, cap_own, form_sound, form_own}
 
 -- What is read from the front of a text is what stands there, and what stands there is read.
@@ -38,7 +41,7 @@ both_sound {p = p} {s = s} {q = q} {t = t} make first second bytes z rest e =
     let k = bind_some (q h.0.1) (made make h.0.0) (z, rest) h.2 in
     let a = first.sound bytes h.0.0 h.0.1 h.1 in
     let b = second.sound h.0.1 k.0.0 k.0.1 k.1 in
-    let same : (make h.0.0 k.0.0, k.0.1) ≡ (z, rest) = some_one (make h.0.0 k.0.0, k.0.1) (z, rest) k.2 in
+    let same : (make h.0.0 k.0.0, k.0.1) ≡ (z, rest) = same_Some (make h.0.0 k.0.0, k.0.1) (z, rest) k.2 in
     (h.0.0, k.0.0, ap (λ x. x.0) same, a.0, b.0, a.1 ∙ ap (λ l. s h.0.0 l) (b.1 ∙ ap (λ r. t k.0.0 r) (ap (λ x. x.1) same)))
 
 both_own : {A B C : Type 0} {p : List ℕ → Option (A × List ℕ)} {s : A → List ℕ → List ℕ} {F : A → Type 0} {q : List ℕ → Option (B × List ℕ)} {t : B → List ℕ → List ℕ} {G : B → Type 0} (make : A → B → C)
@@ -60,7 +63,7 @@ mask_reads end apart = record {
   sound = λ bytes m rest e.
       let h = bind_some (number_at 16 (2 ^ 64 - 1) end bytes) (λ n. Some (mask_of n.0, n.1)) (m, rest) e in
       let r = number_sound 16 (2 ^ 64 - 1) end sixteen (omega arith) bytes h.0.0 h.0.1 (omega arith) h.1 in
-      let same : (mask_of h.0.0, h.0.1) ≡ (m, rest) = some_one (mask_of h.0.0, h.0.1) (m, rest) h.2 in
+      let same : (mask_of h.0.0, h.0.1) ≡ (m, rest) = same_Some (mask_of h.0.0, h.0.1) (m, rest) h.2 in
       let number : h.0.0 ≡ m.0 = ap (λ x. x.0.0) same in
       (omega (arith, r.0, number), r.1 ∙ (λ i. mask_text (same i).0 ++ (end ∷ (same i).1)));
   own = λ m rest small.
@@ -115,7 +118,7 @@ type_by : (bytes : List ℕ) (ty : Option (ℕ × Form)) (rest : List ℕ) (o : 
 type_by bytes ty rest None p e = some_sound bytes ty rest e
 type_by bytes ty rest (Some found) p e =
     let none : Option (ℕ × Form) = None in
-    let same : (none, found) ≡ (ty, rest) = some_one (none, found) (ty, rest) e in
+    let same : (none, found) ≡ (ty, rest) = same_Some (none, found) (ty, rest) e in
     (subst TypeFits (ap (λ x. x.0) same) tt, after_sound (codes "- ") bytes found p ∙ (λ i. type_text (same i).0 ++ (32 ∷ (same i).1)))
 
 type_own_by : (entity : ℕ) (form : Form) (rest : List ℕ) (o : Option (List ℕ)) → entity < 2 ^ 32 → after (codes "- ") (type_text (Some (entity, form)) ++ (32 ∷ rest)) ≡ o

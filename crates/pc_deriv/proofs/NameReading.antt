@@ -2,7 +2,7 @@
 use Rattle.std.proofs.Common.{◌≡◌, ℕ, Bool, true, false, cond, List, [], ◌∷◌, ◌++◌, Option, Some, None, length, drop, refl, sym, ap, ap₂, ◌∙◌}
 use Rattle.std.specs.Prelude.{nat_eq}
 use Rattle.std.specs.List.{starts_with}
-use Rattle.std.proofs.lemmas.Bool.{and_parts, true≢false, eq-eqb, eqb-true}
+use Rattle.std.proofs.lemmas.Bool.{and_parts, true≢false, eqb-true}
 use Rattle.pc_caps.specs.declared.capability.Cap.{Cap}
 use Rattle.pc_caps.specs.declared.capability.Cap.TheVariants as cap
 use Rattle.pc_caps.specs.declared.capability.Form.{Form}
@@ -11,8 +11,12 @@ use Rattle.pc_ann.specs.declared.annotation.Rule.{Rule}
 use Rattle.pc_ann.specs.declared.annotation.Rule.TheVariants as rule
 use Rattle.pc_deriv.specs.declared.names.TheConstants.{RULES, CAPS, FORMS}
 use Rattle.pc_deriv.specs.Names.{rule_name, cap_name, form_name}
-use Rattle.pc_deriv.specs.Reading.{◌>>=◌, after, after_word, or_else, beside, named_at, rule_at, cap_at, form_at}
-use Rattle.pc_deriv.proofs.NumberReading.{none_some, some_one, bind_some, bind_own}
+use Rattle.pc_deriv.specs.Reading.{after, after_word, or_else, beside, named_at, rule_at, cap_at, form_at}
+use Rattle.pc_lists.specs.Options.{◌>>=◌}
+use Rattle.pc_deriv.proofs.NumberReading.{bind_own}
+use Rattle.std.proofs.lemmas.Option.{same_Some}
+use Rattle.pc_lists.proofs.Options.{none_some, bind_some}
+use Rattle.pc_lists.proofs.Prefixes.{begins_own}
 
 begins_cut : (text word : List ℕ) → starts_with nat_eq text word ≡ true → text ≡ word ++ drop (length word) text
 begins_cut text [] e = refl
@@ -22,16 +26,12 @@ begins_cut (a ∷ text) (b ∷ word) e =
     ap₂ (λ h t. h ∷ t) (sym (eqb-true b a here)) (begins_cut text word more)
 
 after_by : (word text rest : List ℕ) (t : Bool) → starts_with nat_eq text word ≡ t → cond t (Some (drop (length word) text)) None ≡ Some rest → text ≡ word ++ rest
-after_by word text rest true p e = begins_cut text word p ∙ ap (λ l. word ++ l) (some_one (drop (length word) text) rest e)
+after_by word text rest true p e = begins_cut text word p ∙ ap (λ l. word ++ l) (same_Some (drop (length word) text) rest e)
 after_by word text rest false p e = absurd (none_some e)
 
 pub after_sound : (word text rest : List ℕ) → after word text ≡ Some rest → text ≡ word ++ rest
 unfolding after
 after_sound word text rest e = after_by word text rest (starts_with nat_eq text word) refl e
-
-begins_own : (word rest : List ℕ) → starts_with nat_eq (word ++ rest) word ≡ true
-begins_own [] rest = refl
-begins_own (b ∷ word) rest = rw (eq-eqb b b refl) (begins_own word rest)
 
 drop_own : (word rest : List ℕ) → drop (length word) (word ++ rest) ≡ rest
 drop_own [] rest = refl
@@ -51,7 +51,7 @@ named_by : {A : Type 0} (name : A → List ℕ) (end : ℕ) (y : A) (ys : List A
     → or_else (beside y o) (named_at name end ys text) ≡ Some (x, rest) → (named_at name end ys text ≡ Some (x, rest) → text ≡ name x ++ (end ∷ rest)) → text ≡ name x ++ (end ∷ rest)
 named_by name end y ys text x rest None p e more = more e
 named_by name end y ys text x rest (Some found) p e more =
-    let same : (y, found) ≡ (x, rest) = some_one (y, found) (x, rest) e in
+    let same : (y, found) ≡ (x, rest) = same_Some (y, found) (x, rest) e in
     word_sound (name y) end text found p ∙ (λ i. name (same i).0 ++ (end ∷ (same i).1))
 
 named_sound : {A : Type 0} (name : A → List ℕ) (end : ℕ) (xs : List A) (text : List ℕ) (x : A) (rest : List ℕ) → named_at name end xs text ≡ Some (x, rest) → text ≡ name x ++ (end ∷ rest)

@@ -6,19 +6,11 @@ use Rattle.std.proofs.lemmas.Bool.Decides.{nat_tests}
 use Rattle.std.proofs.lemmas.Nat.{div-add-mod'}
 use Rattle.std.specs.Char.{is_ascii_digit, is_ascii_lowercase}
 use Rattle.std.specs.Fmt.{digit_glyph, digits}
-use Rattle.pc_deriv.specs.Reading.{◌>>=◌, digit_of, at_most, with_digit, digits_on, number_at}
+use Rattle.pc_deriv.specs.Reading.{digit_of, at_most, with_digit, digits_on, number_at}
+use Rattle.pc_lists.specs.Options.{◌>>=◌}
 use Rattle.pc_deriv.proofs.Digits.{Base}
-
-pub none_some : {A : Type 0} {x : A} → None ≡ Some x → ⊥
-none_some e = cc
-
-pub some_one : {A : Type 0} (x y : A) → Some x ≡ Some y → x ≡ y
-some_one x y e = cc
-
--- the two parts of a reading of two steps
-pub bind_some : {A B : Type 0} (o : Option A) (f : A → Option B) (y : B) → (o >>= f) ≡ Some y → (x : A) × (o ≡ Some x) × (f x ≡ Some y)
-bind_some None f y e = absurd (none_some e)
-bind_some (Some x) f y e = (x, refl, e)
+use Rattle.pc_lists.proofs.Options.{none_some, bind_some}
+use Rattle.std.proofs.lemmas.Option.{same_Some}
 
 pub bind_own : {A B : Type 0} (o : Option A) (f : A → Option B) (x : A) (y : Option B) → o ≡ Some x → f x ≡ y → (o >>= f) ≡ y
 bind_own {A = A} o f x y e h = ap (λ (p : Option A). p >>= f) e ∙ h
@@ -26,12 +18,12 @@ bind_own {A = A} o f x y e h = ap (λ (p : Option A). p >>= f) e ∙ h
 digit_by : (base b d : ℕ) (s t : Bool) → base ≤ 16 → (is_ascii_digit b && nat_lt (b - 48) base) ≡ s → (is_ascii_lowercase b && nat_lt (b - 97 + 10) base) ≡ t
     → cond s (Some (b - 48)) (cond t (Some (b - 97 + 10)) None) ≡ Some d → (d < base) × (b ≡ digit_glyph false d)
 digit_by base b d true t small p q e =
-    let is : b - 48 ≡ d = some_one (b - 48) d e in
+    let is : b - 48 ≡ d = same_Some (b - 48) d e in
     let low : d < base = grind (arith, nat_tests) in
     let same : b ≡ digit_glyph false d = grind (arith, nat_tests) in
     (low, same)
 digit_by base b d false true small p q e =
-    let is : b - 97 + 10 ≡ d = some_one (b - 97 + 10) d e in
+    let is : b - 97 + 10 ≡ d = same_Some (b - 97 + 10) d e in
     let low : d < base = grind (arith, nat_tests) in
     let same : b ≡ digit_glyph false d = grind (arith, nat_tests) in
     (low, same)
@@ -44,7 +36,7 @@ digit_own : (base d : ℕ) → base ≤ 16 → d < base → digit_of base (digit
 digit_own base d small h = grind (arith, nat_tests)
 
 at_most_by : (most n v : ℕ) (t : Bool) → nat_le n most ≡ t → cond t (Some n) None ≡ Some v → (v ≡ n) × (n ≤ most)
-at_most_by most n v true p e = (sym (some_one n v e), grind (arith, nat_tests))
+at_most_by most n v true p e = (sym (same_Some n v e), grind (arith, nat_tests))
 at_most_by most n v false p e = absurd (none_some e)
 
 at_most_own : (most n : ℕ) → n ≤ most → at_most most n ≡ Some n
@@ -71,7 +63,7 @@ module _ (base most end : ℕ) (is : Base base) (fits : most < 2 ^ 64) where
       → ((w : ℕ) → w ≤ most → digits_on base most end w bs ≡ Some (n, rest) → (n ≤ most) × (digits base false w ++ bs ≡ digits base false n ++ (end ∷ rest)))
       → (n ≤ most) × (digits base false value ++ (b ∷ bs) ≡ digits base false n ++ (end ∷ rest))
   on_by value b bs n rest true low p e more =
-      let same : (value, bs) ≡ (n, rest) = some_one (value, bs) (n, rest) e in
+      let same : (value, bs) ≡ (n, rest) = same_Some (value, bs) (n, rest) e in
       let number : value ≡ n = ap (λ x. x.0) same in
       let after : bs ≡ rest = ap (λ x. x.1) same in
       let ends : b ≡ end = eqb-true b end p in

@@ -13,7 +13,7 @@ use Rattle.pc_deriv.specs.Text.{head_line, slot_line, note_line, lines, deriv_te
 use Rattle.pc_deriv.specs.Reading.{head_at, slot_at, note_at}
 use Rattle.pc_deriv.specs.Faults.{Within, IsText, Begins, NoLine, BeginsHead, IsBadLine, bad_head, bad_slot, bad_node, bad_end, IsTooMany, IsFault, Refuses}
 use Rattle.pc_deriv.specs.Answers.{Answers}
-use Rattle.pc_deriv.proofs.NumberReading.{none_some}
+use Rattle.pc_lists.proofs.Options.{none_some}
 use Rattle.pc_deriv.proofs.LineReading.{Reads, head_reads, slot_reads, note_reads}
 
 -- one more, and those behind it

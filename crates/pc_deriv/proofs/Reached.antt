@@ -9,8 +9,8 @@ use Rattle.pc_deriv.specs.Reading.{head_at, slot_at, note_at}
 use Rattle.pc_deriv.specs.Faults.{Within, IsText, Begins, NoLine, BeginsHead, IsBadLine, bad_head, bad_slot, bad_node, bad_end, IsTooMany, Refuses}
 use Rattle.pc_deriv.specs.declared.fault.DerivFault.{DerivFault}
 use Rattle.pc_deriv.specs.declared.fault.DerivFault.TheVariants as fault
-use Rattle.pc_deriv.specs.Stops.{Stops, SlotsStop, NotesStop}
-use Rattle.pc_deriv.proofs.NumberReading.{none_some}
+use Rattle.pc_deriv.specs.Stops.{StopsEarly, SlotsStop, NotesStop}
+use Rattle.pc_lists.proofs.Options.{none_some}
 use Rattle.pc_deriv.proofs.LineReading.{Reads, head_reads, slot_reads, note_reads}
 
 lines_app : {A : Type 0} (line : A → List ℕ) (xs : List A) (x : A) (rest : List ℕ) → lines line (xs ++ x ∷ []) ++ rest ≡ lines line xs ++ (line x ++ rest)
@@ -34,7 +34,7 @@ module _ {A : Type 0} (read : List ℕ → Option (A × List ℕ)) (line : A →
   no_line : (text : List ℕ) → read text ≡ None → NoLine line Fits text
   no_line text h x rest f e = none_some (sym h ∙ ap read e ∙ reads.own x rest f)
 
-  stops_so : (text : List ℕ) (xs : List A) (rest : List ℕ) (before wanted n : ℕ) → Begins line Fits text xs rest → length xs < wanted → read rest ≡ None → n ≡ before + length xs + 2 → Stops line Fits text before wanted n
+  stops_so : (text : List ℕ) (xs : List A) (rest : List ℕ) (before wanted n : ℕ) → Begins line Fits text xs rest → length xs < wanted → read rest ≡ None → n ≡ before + length xs + 2 → StopsEarly line Fits text before wanted n
   stops_so text xs rest before wanted n so less h e = record { read = xs; rest = rest; begins = so; fewer = less; ends = no_line rest h; number = e }
 
 pub no_slot : (text : List ℕ) → Begins slot_line SlotFits text [] text
@@ -43,7 +43,7 @@ no_slot = starts_so slot_at slot_line SlotFits slot_reads
 pub slot_more : (text : List ℕ) (xs : List (ℕ × Cap)) (mid : List ℕ) (x : ℕ × Cap) (rest : List ℕ) → Begins slot_line SlotFits text xs mid → slot_at mid ≡ Some (x, rest) → Begins slot_line SlotFits text (xs ++ x ∷ []) rest
 slot_more = goes_on slot_at slot_line SlotFits slot_reads
 
-pub slot_stops : (text : List ℕ) (xs : List (ℕ × Cap)) (rest : List ℕ) (before wanted n : ℕ) → Begins slot_line SlotFits text xs rest → length xs < wanted → slot_at rest ≡ None → n ≡ before + length xs + 2 → Stops slot_line SlotFits text before wanted n
+pub slot_stops : (text : List ℕ) (xs : List (ℕ × Cap)) (rest : List ℕ) (before wanted n : ℕ) → Begins slot_line SlotFits text xs rest → length xs < wanted → slot_at rest ≡ None → n ≡ before + length xs + 2 → StopsEarly slot_line SlotFits text before wanted n
 slot_stops = stops_so slot_at slot_line SlotFits slot_reads
 
 pub no_note : (text : List ℕ) → Begins note_line NoteFits text [] text
@@ -52,7 +52,7 @@ no_note = starts_so note_at note_line NoteFits note_reads
 pub note_more : (text : List ℕ) (xs : List Note) (mid : List ℕ) (x : Note) (rest : List ℕ) → Begins note_line NoteFits text xs mid → note_at mid ≡ Some (x, rest) → Begins note_line NoteFits text (xs ++ x ∷ []) rest
 note_more = goes_on note_at note_line NoteFits note_reads
 
-pub note_stops : (text : List ℕ) (xs : List Note) (rest : List ℕ) (before wanted n : ℕ) → Begins note_line NoteFits text xs rest → length xs < wanted → note_at rest ≡ None → n ≡ before + length xs + 2 → Stops note_line NoteFits text before wanted n
+pub note_stops : (text : List ℕ) (xs : List Note) (rest : List ℕ) (before wanted n : ℕ) → Begins note_line NoteFits text xs rest → length xs < wanted → note_at rest ≡ None → n ≡ before + length xs + 2 → StopsEarly note_line NoteFits text before wanted n
 note_stops = stops_so note_at note_line NoteFits note_reads
 
 -- whether something follows
@@ -75,7 +75,7 @@ module _ (bytes : List ℕ) where
     pub too_many : (Within (a, b) → ⊥) → IsTooMany bytes
     too_many h = ((a, b), text, begins_head, h)
 
-    bad_slots : (n : ℕ) → Within (a, b) → Stops slot_line SlotFits text 0 a n → IsBadLine bytes n
+    bad_slots : (n : ℕ) → Within (a, b) → StopsEarly slot_line SlotFits text 0 a n → IsBadLine bytes n
     bad_slots n w s = bad_slot begins_head w s.begins s.fewer s.ends (omega (arith, s.number))
 
     pub slots_refused : (f : DerivFault) → Within (a, b) → SlotsStop text a f → Refuses bytes f
@@ -84,7 +84,7 @@ module _ (bytes : List ℕ) where
     slots_refused fault.Memory w s = tt
 
     module _ (slots : List (ℕ × Cap)) (mid : List ℕ) (w : Within (a, b)) (so : Begins slot_line SlotFits text slots mid) (full : length slots ≡ a) where
-      bad_notes : (n : ℕ) → Stops note_line NoteFits mid a b n → IsBadLine bytes n
+      bad_notes : (n : ℕ) → StopsEarly note_line NoteFits mid a b n → IsBadLine bytes n
       bad_notes n s = bad_node begins_head w so full s.begins s.fewer s.ends (omega (arith, s.number))
 
       pub notes_refused : (f : DerivFault) → NotesStop mid a b f → Refuses bytes f

@@ -9,12 +9,7 @@ use Rattle.pc_ann.specs.declared.annotation.Rule.{Rule}
 use Rattle.pc_ann.specs.declared.annotation.Note.{Note}
 use Rattle.pc_deriv.specs.declared.names.TheConstants.{RULES, CAPS, FORMS}
 use Rattle.pc_deriv.specs.Names.{rule_name, cap_name, form_name}
-
--- one reading behind the other
-infixl 10 ◌>>=◌
-abbrev pub ◌>>=◌ : {A B : Type 0} → Option A → (A → Option B) → Option B
-None >>= f = None
-(Some x) >>= f = f x
+use Rattle.pc_lists.specs.Options.{◌>>=◌}
 
 -- what follows these bytes
 unfoldable pub after : List ℕ → List ℕ → Option (List ℕ)
@@ -57,15 +52,15 @@ abbrev pub at_most : ℕ → ℕ → Option ℕ
 at_most most n = if nat_le n most then Some n else None
 
 -- the number with one digit more
-abbrev pub with_digit : ℕ → ℕ → ℕ → ℕ → Option ℕ
+abbrev pub with_digit : (base most value byte : ℕ) → Option ℕ
 with_digit base most value b = if value == 0 then None else (digit_of base b >>= (λ d. at_most most (value * base + d)))
 
 -- the number whose first digits have been read, and what follows its end
-abbrev pub digits_on : ℕ → ℕ → ℕ → ℕ → List ℕ → Option (ℕ × List ℕ)
+abbrev pub digits_on : (base most end value : ℕ) → List ℕ → Option (ℕ × List ℕ)
 digits_on base most end value [] = None
 digits_on base most end value (b ∷ bs) = if b == end then Some (value, bs) else (with_digit base most value b >>= (λ v. digits_on base most end v bs))
 
-abbrev pub number_at : ℕ → ℕ → ℕ → List ℕ → Option (ℕ × List ℕ)
+abbrev pub number_at : (base most end : ℕ) → List ℕ → Option (ℕ × List ℕ)
 number_at base most end [] = None
 number_at base most end (b ∷ bs) = digit_of base b >>= (λ d. digits_on base most end d bs)
 

@@ -8,7 +8,7 @@ use Rattle.pc_deriv.specs.declared.fault.DerivFault.{DerivFault}
 use Rattle.pc_deriv.specs.declared.fault.DerivFault.TheVariants as fault
 
 -- Behind some lines, fewer than wanted, no further one stands.
-pub record Stops {A : Type 0} (line : A → List ℕ) (Fits : A → Type 0) (text : List ℕ) (before wanted n : ℕ) : Type 0 where
+pub record StopsEarly {A : Type 0} (line : A → List ℕ) (Fits : A → Type 0) (text : List ℕ) (before wanted n : ℕ) : Type 0 where
   pub read : List A
   pub rest : List ℕ
   pub begins : Begins line Fits text read rest
@@ -17,11 +17,11 @@ pub record Stops {A : Type 0} (line : A → List ℕ) (Fits : A → Type 0) (tex
   pub number : n ≡ before + length read + 2
 
 abbrev pub SlotsStop : List ℕ → ℕ → DerivFault → Type 0
-SlotsStop text wanted (fault.BadLine n) = Stops slot_line SlotFits text 0 wanted n
+SlotsStop text wanted (fault.BadLine n) = StopsEarly slot_line SlotFits text 0 wanted n
 SlotsStop text wanted fault.TooMany = ⊥
 SlotsStop text wanted fault.Memory = ⊤
 
-abbrev pub NotesStop : List ℕ → ℕ → ℕ → DerivFault → Type 0
-NotesStop text slots wanted (fault.BadLine n) = Stops note_line NoteFits text slots wanted n
+abbrev pub NotesStop : List ℕ → (slots wanted : ℕ) → DerivFault → Type 0
+NotesStop text slots wanted (fault.BadLine n) = StopsEarly note_line NoteFits text slots wanted n
 NotesStop text slots wanted fault.TooMany = ⊥
 NotesStop text slots wanted fault.Memory = ⊤

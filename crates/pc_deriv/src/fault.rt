@@ -1,3 +1,4 @@
+//! Why bytes are no derivation's text.
 ghost use Rattle.std.specs.Prelude.{◌≡◌};
 
 use std::alloc::AllocError;

@@ -1,8 +1,12 @@
 //! The derivation text: an annotation as lines of bytes, written and read back.
+//!
+//! Proved: `write` gives the derivation text of an annotation, which `read` takes back, and `read` is Ok with exactly
+//! the annotation whose text the bytes are, or else names the first line that is not of its form, or that a count
+//! passes its limit; no bytes are two annotations' text or have two faults.
+//!
+//! Only tested: that it is linear; the example's text, its cuts and variants.
 #![tactic(auto)]
 
-#[cfg(test)]
-mod cases;
 mod fault;
 mod laws;
 mod lines;

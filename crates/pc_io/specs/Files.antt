@@ -6,11 +6,11 @@ use Rattle.pc_io.specs.declared.files.FileFault.TheVariants.{TooLong, Memory, Fa
 use Rattle.pc_io.specs.declared.bytes.Bytes.{Bytes}
 
 -- where the bytes are told and the faults of the name did not rise, the bytes are more than the limit
-abbrev pub TooLongOnly : ℕ → Option (List ℕ) → ℕ → ℕ → Type 0
+abbrev pub TooLongOnly : (limit : ℕ) → Option (List ℕ) → (before now : ℕ) → Type 0
 TooLongOnly limit bytes before now = now ≡ before → IfSome bytes (λ told. limit < length told)
 
 -- a read of these bytes took `taken` of them, and gives them all, or refuses more than the limit
-abbrev pub IsCopy : List ℕ → ℕ → ℕ → Result Bytes FileFault → Type 0
+abbrev pub IsCopy : List ℕ → (limit taken : ℕ) → Result Bytes FileFault → Type 0
 IsCopy bytes limit taken (Ok copy) = (copy ≡ bytes) × (length bytes ≤ limit) × (taken ≡ length bytes)
 IsCopy bytes limit taken (Err TooLong) = (limit < length bytes) × (taken ≡ limit + 1)
 IsCopy bytes limit taken (Err Memory) = (length bytes ≤ limit) × (taken ≡ 0)

@@ -1,12 +1,14 @@
 -- Comments end where they are read to end.
-use Rattle.std.proofs.Common.{◌≡◌, ℕ, zero, suc, ◌+◌, ◌-◌, ◌<◌, ◌≤◌, Bool, true, false, cond, ◌&&◌, ◌==◌, List, [], ◌∷◌, ◌++◌, length, take, drop, Some, None, refl, sym, ap, ap₂, ◌∙◌, subst, inl, inr, arith, length-append, append_assoc, drop_at, take-append-drop}
+use Rattle.std.proofs.Common.{◌≡◌, ℕ, zero, suc, ◌+◌, ◌-◌, ◌<◌, ◌≤◌, Bool, true, false, cond, ◌&&◌, ◌==◌, List, [], ◌∷◌, ◌++◌, length, take, drop, Some, refl, sym, ap, ap₂, ◌∙◌, subst, inl, inr, arith, length-append, append_assoc, drop_at, take-append-drop}
 use Rattle.std.proofs.lemmas.Bool.{and_parts, eqb-true}
 use Rattle.std.proofs.lemmas.Bool.Decides.{nat_tests}
 use Rattle.std.specs.List.{prefix_len}
 use Rattle.pc_lex.specs.Bytes.{is_line, begins, open_mark, line_mark}
 use Rattle.pc_lex.specs.Pieces.{Closes, close, inner, other, AtLineEnd, IsGap}
 use Rattle.pc_lex.specs.Reading.{behind}
-use Rattle.pc_lex.proofs.Runs.{run_all, begins_cut}
+use Rattle.pc_lex.proofs.Runs.{begins_cut}
+use Rattle.pc_lists.proofs.Prefixes.{run_all}
+use Rattle.pc_lists.proofs.Options.{none_some}
 
 eq_sym : (a b : ℕ) → (a == b) ≡ (b == a)
 eq_sym a b = grind (arith, nat_tests)
@@ -54,9 +56,6 @@ all_step n b c bs rest false true e1 closes e deep out more =
 all_step n b c bs rest false false e1 e2 e deep out more =
     let h = more e in
     (h.0, other (pair b c 47 42 bs ∙ e1) (pair b c 42 47 bs ∙ e2) h.1, h.2)
-
-pub none_some : {A : Type 0} {x : A} → None ≡ Some x → ⊥
-none_some e = cc
 
 pub behind_closes : (n : ℕ) (text rest : List ℕ) → behind n text ≡ Some rest → ClosesAll n text rest
 unfolding behind

@@ -1,7 +1,7 @@
 -- No longer prefix is a token.
 use Rattle.std.proofs.Common.{◌≡◌, ℕ, ◌^◌, ◌<◌, ◌≤◌, Bool, true, false, not, cond, ◌&&◌, ◌||◌, ◌==◌, List, [], ◌∷◌, ◌++◌, length, Some, refl, sym, ap, ◌∙◌, subst, inl, inr, ◌⊎◌, arith, length-append}
 use Rattle.std.specs.Prelude.{nat_eq, nat_lt}
-use Rattle.std.proofs.lemmas.Bool.{and_parts, true≢false, not-true, ltb-true}
+use Rattle.std.proofs.lemmas.Bool.{and_parts, true≢false, not-true, ltb-true, or_parts}
 use Rattle.std.proofs.lemmas.Bool.Decides.{nat_tests}
 use Rattle.std.specs.List.{starts_with}
 use Rattle.std.specs.Char.{is_ascii_lowercase, is_ascii_uppercase, is_ascii_digit}
@@ -13,7 +13,7 @@ use Rattle.pc_lex.specs.Bytes.{is_letter, first_test}
 use Rattle.pc_lex.specs.Pieces.{NameText, Spells, NumberText}
 use Rattle.pc_lex.specs.Texts.{is_quote, TextBytes, DocBytes}
 use Rattle.pc_lex.specs.Reading.{letter_len, under_len, name_len}
-use Rattle.pc_lex.proofs.Runs.{begins_own}
+use Rattle.pc_lists.proofs.Prefixes.{begins_own}
 use Rattle.pc_token.proofs.SignFacts.{each_sign, sign_max}
 use Rattle.pc_lex.proofs.WordReading.{spelled_word}
 use Rattle.pc_lex.proofs.NumberReading.{number_starts, number_some}
@@ -39,10 +39,6 @@ name_starts (b ∷ bs) some = start_step b bs (b == 95) refl some
 
 abbrev pub sign_test : Sign → Bool
 sign_test s = not (first_test is_start (sign_text s) || first_test is_ascii_digit (sign_text s)) && (not (first_test is_quote (sign_text s)) && nat_lt 0 (length (sign_text s)))
-
-pub or_none : (s t : Bool) → (s || t) ≡ false → (s ≡ false) × (t ≡ false)
-or_none true t e = absurd (true≢false e)
-or_none false t e = (refl, e)
 
 pub sign_some : (b : List ℕ) (s : Sign) → b ≡ sign_text s → ((first_test is_start b || first_test is_ascii_digit b) ≡ false) × (0 < length b) × (first_test is_quote b ≡ false)
 sign_some b s e =
@@ -93,7 +89,7 @@ name_longest text some (kinds.Text v) more after e h = absurd (not_quoted is_sta
 name_longest text some kinds.Doc more after e h = absurd (not_quoted is_start text more after refl (name_starts text some) e (doc_quoted more h))
 name_longest text some (kinds.Sign s) more after e h =
     let (other, nonempty, unquoted) = sign_some more s h in
-    absurd (true≢false (sym (name_starts text some) ∙ ap (first_test is_start) e ∙ first_app is_start more after nonempty ∙ (or_none _ _ other).0))
+    absurd (true≢false (sym (name_starts text some) ∙ ap (first_test is_start) e ∙ first_app is_start more after nonempty ∙ (or_parts _ _ other).0))
 name_longest text some kinds.End more after e h = absurd h
 
 -- where no name begins, a token is a sign
@@ -140,7 +136,7 @@ digit_only text digit (kinds.Text v) more after e h = absurd (not_quoted is_asci
 digit_only text digit kinds.Doc more after e h = absurd (not_quoted is_ascii_digit text more after refl digit e (doc_quoted more h))
 digit_only text digit (kinds.Sign s) more after e h =
     let (other, nonempty, unquoted) = sign_some more s h in
-    absurd (true≢false (sym digit ∙ ap (first_test is_ascii_digit) e ∙ first_app is_ascii_digit more after nonempty ∙ (or_none _ _ other).1))
+    absurd (true≢false (sym digit ∙ ap (first_test is_ascii_digit) e ∙ first_app is_ascii_digit more after nonempty ∙ (or_parts _ _ other).1))
 digit_only text digit kinds.End more after e h = absurd h
 
 quote_start : (b : ℕ) → is_quote b ≡ true → is_start b ≡ false

@@ -8,7 +8,7 @@ use Rattle.pc_lex.specs.Bytes.{is_letter, is_tail, is_prime}
 use Rattle.pc_lex.specs.Pieces.{NameText}
 use Rattle.pc_lex.specs.Reading.{tail_len, letter_len, under_len, name_len, is_type}
 use Rattle.std.proofs.lemmas.List.Sums.{prefix_len-le-length}
-use Rattle.pc_lex.proofs.Runs.{run_app, run_all}
+use Rattle.pc_lists.proofs.Prefixes.{run_app, run_all}
 
 run_none : (p : ℕ → Bool) (x : ℕ) (xs : List ℕ) → p x ≡ false → prefix_len p (x ∷ xs) ≡ 0
 run_none p x xs e = rw e refl

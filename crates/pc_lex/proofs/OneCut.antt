@@ -1,6 +1,6 @@
 -- A text is cut into pieces in one way.
-use Rattle.std.proofs.Common.{◌≡◌, ℕ, ◌+◌, ◌-◌, ◌<◌, Bool, true, false, not, cond, ◌==◌, List, [], ◌∷◌, ◌++◌, length, take, drop, Option, Some, None, Result, Ok, Err, refl, sym, ap, ap₂, ◌∙◌, subst, inl, inr, ◌⊎◌, arith, length-append, append-nil, take_at, drop_at, take-append-drop, length-take-le}
-use Rattle.std.proofs.lemmas.Bool.{true≢false, not-true}
+use Rattle.std.proofs.Common.{◌≡◌, ℕ, ◌+◌, ◌-◌, ◌<◌, Bool, true, false, not, cond, ◌==◌, List, [], ◌∷◌, ◌++◌, length, take, drop, Option, Some, None, Result, Ok, Err, refl, sym, ap, ap₂, ◌∙◌, subst, inl, inr, ◌⊎◌, arith, length-append, append-nil, take_at, take-append-drop, length-take-le}
+use Rattle.std.proofs.lemmas.Bool.{true≢false, not-true, or_parts}
 use Rattle.std.proofs.lemmas.Bool.Decides.{nat_tests}
 use Rattle.std.specs.List.{prefix_len}
 use Rattle.std.specs.Char.{is_ascii_lowercase, is_ascii_uppercase, is_ascii_digit}
@@ -12,14 +12,14 @@ use Rattle.pc_token.specs.Words.{word_of}
 use Rattle.pc_token.specs.Signs.{sign_at, sign_text}
 use Rattle.pc_lex.specs.declared.pieces.Found.{Found}
 use Rattle.pc_lex.specs.declared.pieces.Found.TheVariants as found
-use Rattle.pc_lex.specs.declared.pieces.Stop.{Stop}
-use Rattle.pc_lex.specs.declared.pieces.Stop.TheVariants as stop
+use Rattle.pc_lex.specs.declared.pieces.LexStop.{LexStop}
+use Rattle.pc_lex.specs.declared.pieces.LexStop.TheVariants as stop
 use Rattle.pc_lex.specs.Bytes.{first_test, is_blank, is_line, is_letter, begins_comment}
 use Rattle.pc_lex.specs.Texts.{is_quote, begins_doc, TextBytes}
 use Rattle.pc_lex.specs.TextReading.{unescape}
-use Rattle.pc_lex.specs.Pieces.{NameText, Spells, Piece, gap, token, bytes_of, Stands, IsToken, NoPiece, IsGap, AtLineEnd, Pieces, tokens_of, Tokens}
+use Rattle.pc_lex.specs.Pieces.{NameText, Spells, Piece, gap, token, bytes_of, IsPiece, IsToken, NoPiece, IsGap, AtLineEnd, Pieces, tokens_of, Tokens}
 use Rattle.pc_lex.specs.Reading.{is_type, name_kind, behind, value_of, digits_len, base_at, between, piece_at}
-use Rattle.pc_lex.proofs.Runs.{run_app}
+use Rattle.pc_lists.proofs.Prefixes.{run_app}
 use Rattle.pc_lex.proofs.CommentSteps.{behind_all}
 use Rattle.pc_token.proofs.SignFacts.{each_sign, sign_own}
 use Rattle.pc_token.proofs.WordFacts.{word_found, none_found}
@@ -27,18 +27,13 @@ use Rattle.pc_lex.proofs.WordReading.{spelled_word}
 use Rattle.pc_lex.proofs.NameReading.{type_plain}
 use Rattle.pc_lex.proofs.CommentEnds.{closes_suffix, closes_behind}
 use Rattle.pc_lex.proofs.NumberReading.{Based, based, digits, total, number_max, total_within, number_starts}
-use Rattle.pc_lex.proofs.Longest.{small_letter, capital_letter, is_start, apart, sign_some, or_none, spelled_some, Quoted, text_quoted, doc_quoted, quoted_first, quote_none}
+use Rattle.pc_lex.proofs.Longest.{small_letter, capital_letter, is_start, apart, sign_some, spelled_some, Quoted, text_quoted, doc_quoted, quoted_first, quote_none}
 use Rattle.pc_lex.proofs.PieceRight.{piece_of, Right}
 use Rattle.pc_lex.proofs.PieceReading.{piece_right}
 use Rattle.pc_lex.proofs.QuotedBytes.{whole, doc_begins}
 use Rattle.pc_lex.proofs.QuoteReading.{short_text}
 use Rattle.pc_lex.proofs.TextValues.{value_read}
-
-pub same_cut : (b r c s : List ℕ) → b ++ r ≡ c ++ s → length b ≡ length c → (b ≡ c) × (r ≡ s)
-same_cut b r c s e len = (
-  sym (take_at b r (length b) refl) ∙ ap₂ (λ n l. take n l) len e ∙ take_at c s (length c) refl,
-  sym (drop_at b r (length b) refl) ∙ ap₂ (λ n l. drop n l) len e ∙ drop_at c s (length c) refl,
-)
+use Rattle.pc_lists.proofs.Cuts.{same_cut}
 
 -- a gap is read with its length
 line_none : (rest : List ℕ) → AtLineEnd rest → prefix_len is_line rest ≡ 0
@@ -162,7 +157,7 @@ kind_is kinds.Doc b h =
     rw (digit, start, quote, doc) refl
 kind_is (kinds.Sign s) b h =
     let (other, some, unquoted) = sign_some b s h in
-    let (start, digit) = or_none (first_test is_start b) (first_test is_ascii_digit b) other in
+    let (start, digit) = or_parts (first_test is_start b) (first_test is_ascii_digit b) other in
     rw (digit, start, unquoted) (sign_kind_is b s h)
 kind_is kinds.End b h = absurd h
 
@@ -217,7 +212,7 @@ token_found kind b r (found.Token other) n h e right =
     let kinds : other ≡ kind = kind_one other kind b (subst (λ l. Spells other l) (sym bytes) right.2.spelled) h.spelled in
     (found.Token other, e ∙ ap (λ n. Ok (found.Token other, n)) (sym equal), ap (λ x. token x b) kinds)
 
-token_read : (kind : TokenKind) (b r : List ℕ) (o : Result (Found × ℕ) Stop) → IsToken kind b r → piece_at (b ++ r) ≡ o → Right (b ++ r) o → Read (token kind b) r
+token_read : (kind : TokenKind) (b r : List ℕ) (o : Result (Found × ℕ) LexStop) → IsToken kind b r → piece_at (b ++ r) ≡ o → Right (b ++ r) o → Read (token kind b) r
 token_read kind b r (Ok x) h e right = token_found kind b r x.0 x.1 h e right
 token_read kind b r (Err stop.BadByte) h e right = absurd (right.0 (token kind b) r refl h)
 token_read kind b r (Err stop.BadNumber) h e right = absurd (right.0 (token kind b) r refl h)
@@ -225,13 +220,13 @@ token_read kind b r (Err stop.Unclosed) h e right = absurd (right.0 (token kind 
 token_read kind b r (Err (stop.BadEscape offset)) h e right = absurd (right.0 (token kind b) r refl h)
 token_read kind b r (Err stop.Memory) h e right = absurd right
 
-pub piece_read : (p : Piece) (r : List ℕ) → Stands p r → Read p r
+pub piece_read : (p : Piece) (r : List ℕ) → IsPiece p r → Read p r
 piece_read (gap b) r h = (found.Gap, gap_read b r h, refl)
 piece_read (token kind b) r h =
     let some = spelled_some kind b h.spelled in
     token_read kind b r (piece_at (b ++ r)) h refl (piece_right (b ++ r) (omega (arith, some, length-append b r)))
 
-pub piece_some : (p : Piece) (r : List ℕ) → Stands p r → 0 < length (bytes_of p)
+pub piece_some : (p : Piece) (r : List ℕ) → IsPiece p r → 0 < length (bytes_of p)
 piece_some (gap b) r (inl h) = omega (arith, ap length h.1)
 piece_some (gap b) r (inr (inl h)) = omega (arith, ap length h.1)
 piece_some (gap b) r (inr (inr h)) =
@@ -239,13 +234,13 @@ piece_some (gap b) r (inr (inr h)) =
     omega (arith, ap length h.1, ap length cut.1, length-append cut.0 r, length-append b r)
 piece_some (token kind b) r h = spelled_some kind b h.spelled
 
-ok_one : (x y : Found × ℕ) (o : Result (Found × ℕ) Stop) → o ≡ Ok x → o ≡ Ok y → x ≡ y
+ok_one : (x y : Found × ℕ) (o : Result (Found × ℕ) LexStop) → o ≡ Ok x → o ≡ Ok y → x ≡ y
 ok_one x y o e f =
     let same : Ok x ≡ Ok y = sym e ∙ f in
     cc
 
 -- two pieces that stand in front of one text are the same
-pub piece_one : (p q : Piece) (r s : List ℕ) → bytes_of p ++ r ≡ bytes_of q ++ s → Stands p r → Stands q s → (p ≡ q) × (r ≡ s)
+pub piece_one : (p q : Piece) (r s : List ℕ) → bytes_of p ++ r ≡ bytes_of q ++ s → IsPiece p r → IsPiece q s → (p ≡ q) × (r ≡ s)
 piece_one p q r s e h i =
     let x = piece_read p r h in
     let y = piece_read q s i in

@@ -1,7 +1,7 @@
 -- What is read is a piece, and where none is read none stands.
-use Rattle.std.proofs.Common.{◌≡◌, ℕ, zero, suc, ◌+◌, ◌^◌, ◌<◌, ◌≤◌, Bool, true, false, cond, ◌||◌, List, [], ◌∷◌, ◌++◌, length, take, drop, Option, Some, None, Ok, Err, refl, sym, ap, ◌∙◌, subst, inl, inr, ◌⊎◌, arith, length-append, drop_at}
+use Rattle.std.proofs.Common.{◌≡◌, ℕ, zero, suc, ◌+◌, ◌^◌, ◌<◌, ◌≤◌, Bool, true, false, cond, List, [], ◌∷◌, ◌++◌, length, take, drop, Option, Some, None, Ok, Err, refl, sym, ap, ◌∙◌, subst, inl, inr, ◌⊎◌, arith, length-append, drop_at}
 use Rattle.std.specs.Prelude.{nat_lt}
-use Rattle.std.proofs.lemmas.Bool.{true≢false, ltb-true, ltb-false}
+use Rattle.std.proofs.lemmas.Bool.{true≢false, ltb-true, ltb-false, or_right}
 use Rattle.std.specs.List.{prefix_len}
 use Rattle.std.specs.Char.{is_ascii_digit}
 use Rattle.pc_token.specs.declared.signs.Sign.{Sign}
@@ -11,7 +11,7 @@ use Rattle.pc_token.specs.declared.kinds.TokenKind.TheVariants as kinds
 use Rattle.pc_token.specs.Words.{word_of}
 use Rattle.pc_token.specs.Signs.{sign_at, sign_text}
 use Rattle.pc_lex.specs.declared.pieces.Found.TheVariants as found
-use Rattle.pc_lex.specs.declared.pieces.Stop.TheVariants as stop
+use Rattle.pc_lex.specs.declared.pieces.LexStop.TheVariants as stop
 use Rattle.pc_lex.specs.Bytes.{first_test, is_joined, is_blank, is_line, begins, begins_comment, line_mark, open_mark}
 use Rattle.pc_lex.specs.Texts.{begins_doc, is_quote}
 use Rattle.pc_lex.specs.Pieces.{EndsWell, NameText, Spells, gap, token, NoPiece, IsGap}
@@ -23,7 +23,8 @@ use Rattle.pc_token.proofs.SignFacts.{sign_sound}
 use Rattle.pc_token.proofs.WordFacts.{word_sound, word_none}
 use Rattle.pc_lex.proofs.NumberReading.{Based, based, digits, total, number_max, goes_into, total_within, total_some, number_text}
 use Rattle.pc_lex.proofs.NameReading.{name_sound, name_within, head_test}
-use Rattle.pc_lex.proofs.CommentEnds.{line_gap, block_gap, closes_behind, none_some, behind_word}
+use Rattle.pc_lex.proofs.CommentEnds.{line_gap, block_gap, closes_behind, behind_word}
+use Rattle.pc_lists.proofs.Options.{none_some}
 use Rattle.pc_lex.proofs.Longest.{digit_only, name_longest, sign_longest, spelled_some, sign_some, quote_none}
 use Rattle.pc_lex.proofs.PieceRight.{Right, token_right, first_blank, gap_no, never_gap}
 use Rattle.pc_lex.proofs.QuotedBytes.{no_doc, doc_quote}
@@ -89,10 +90,6 @@ right_name text (suc n) e digit quote blank line opens =
     token_right text (name_kind (take (suc n) text)) (suc n) (omega arith) (subst (λ m. m ≤ length text) e (name_within text)) line opens (no_doc_kind text (name_kind (take (suc n) text)) quote)
     (kind_spelled (take (suc n) text) (subst (λ m. NameText (head_test (is_type (take m text))) (take m text)) e (name_sound text some))) (kind_ends (take (suc n) text) (drop (suc n) text))
     (λ other more after same h. subst (λ m. length more ≤ m) e (name_longest text some other more after same h))
-
-or_right : (s t : Bool) → t ≡ true → (s || t) ≡ true
-or_right true t e = refl
-or_right false t e = e
 
 comment_if : (text : List ℕ) → begins text open_mark ≡ true → begins_comment text ≡ true
 comment_if text e = or_right (begins text line_mark) (begins text open_mark) e

@@ -6,19 +6,19 @@ use Rattle.pc_token.specs.declared.kinds.TokenKind.{TokenKind}
 use Rattle.pc_token.specs.declared.kinds.TokenKind.TheVariants as kinds
 use Rattle.pc_lex.specs.declared.pieces.Found.{Found}
 use Rattle.pc_lex.specs.declared.pieces.Found.TheVariants as found
-use Rattle.pc_lex.specs.declared.pieces.Stop.{Stop}
-use Rattle.pc_lex.specs.declared.pieces.Stop.TheVariants as stop
+use Rattle.pc_lex.specs.declared.pieces.LexStop.{LexStop}
+use Rattle.pc_lex.specs.declared.pieces.LexStop.TheVariants as stop
 use Rattle.pc_lex.specs.Bytes.{first_test, is_blank, begins, begins_comment, line_mark, open_mark}
 use Rattle.pc_lex.specs.Texts.{begins_doc, is_quote, BadEscapeIn}
-use Rattle.pc_lex.specs.Pieces.{Opens, EndsWell, Spells, Piece, gap, token, Stands, NoPiece, IsGap, Closes}
+use Rattle.pc_lex.specs.Pieces.{Opens, EndsWell, Spells, Piece, gap, token, IsPiece, NoPiece, IsGap, Closes}
 
 abbrev pub piece_of : Found → List ℕ → Piece
 piece_of found.Gap b = gap b
 piece_of (found.Token kind) b = token kind b
 
 -- What is read is right: a piece and its length, or the fault.
-abbrev pub Right : List ℕ → Result (Found × ℕ) Stop → Type 0
-Right text (Ok r) = (0 < r.1) × (r.1 ≤ length text) × Stands (piece_of r.0 (take r.1 text)) (drop r.1 text)
+abbrev pub Right : List ℕ → Result (Found × ℕ) LexStop → Type 0
+Right text (Ok r) = (0 < r.1) × (r.1 ≤ length text) × IsPiece (piece_of r.0 (take r.1 text)) (drop r.1 text)
 Right text (Err stop.BadByte) = NoPiece text × (begins text open_mark ≡ false) × (first_test is_ascii_digit text ≡ false) × (first_test is_quote text ≡ false)
 Right text (Err stop.BadNumber) = NoPiece text × (first_test is_ascii_digit text ≡ true)
 Right text (Err stop.Unclosed) = NoPiece text × Opens text

@@ -12,13 +12,10 @@ use Rattle.pc_lex.proofs.PieceRight.{Right, token_right, first_blank, never_gap}
 use Rattle.pc_lex.proofs.Longest.{quote_only}
 use Rattle.pc_lex.proofs.QuoteEnds.{covered_behind, behind_covered}
 use Rattle.pc_lex.proofs.QuotedBytes.{written_covered, doc_read, doc_ends, whole, doc_split, covered_first, doc_quote, doc_begins, quote_cut}
-use Rattle.pc_lex.proofs.TextValues.{same_cut, IsRead, read_right, value_read}
-
-none_some : {A : Type 0} {x : A} → None ≡ Some x → ⊥
-none_some e = cc
-
-some_one : (x y : List ℕ) → Some x ≡ Some y → x ≡ y
-some_one x y e = cc
+use Rattle.pc_lex.proofs.TextValues.{IsRead, read_right, value_read}
+use Rattle.pc_lists.proofs.Cuts.{same_cut}
+use Rattle.pc_lists.proofs.Options.{none_some}
+use Rattle.std.proofs.lemmas.Option.{same_Some}
 
 ok_err : {A B : Type 0} {x : A} {y : B} → Ok x ≡ Err y → ⊥
 ok_err e = cc
@@ -57,7 +54,7 @@ doc_longest_step : (text b rest more after : List ℕ) (other : TokenKind) → b
     → ((v : List ℕ) × (other ≡ kinds.Text v) × TextBytes more v) ⊎ ((other ≡ kinds.Doc) × DocBytes more) → length more ≤ length b
 doc_longest_step text b rest more after other d same doc e (inl (v, kind, bytes)) = omega (arith, short_text text more after v d e bytes, ap length doc.1)
 doc_longest_step text b rest more after other d same doc e (inr (kind, bytes)) =
-    let one : after ≡ rest = some_one after rest (sym (doc_found text more after e bytes) ∙ doc_found text b rest same doc) in
+    let one : after ≡ rest = same_Some after rest (sym (doc_found text more after e bytes) ∙ doc_found text b rest same doc) in
     omega (arith, ap length one, ap length same, ap length e, length-append b rest, length-append more after)
 
 no_doc_token : (text g rest : List ℕ) (other : TokenKind) → begins_doc text ≡ true → doc_behind (drop 3 text) ≡ None → text ≡ g ++ rest → other ≡ kinds.Doc → Spells other g → ⊥
@@ -119,7 +116,7 @@ module _ (text body rest : List ℕ) (whole_text : text ≡ 34 ∷ (body ++ 34 �
   -- another text literal in front of the text is the same
   one_end : (g more : List ℕ) → text ≡ g ++ more → text_behind (drop 1 text) ≡ Some more → (more ≡ rest) × (length g ≡ length text - length rest)
   one_end g more same is =
-      let one : more ≡ rest = some_one more rest (sym is ∙ behind_is) in
+      let one : more ≡ rest = same_Some more rest (sym is ∙ behind_is) in
       (one, omega (arith, ap length one, ap length same, length-append g more))
 
   one_body : (g more v : List ℕ) → text ≡ g ++ more → TextBytes g v → text_behind (drop 1 text) ≡ Some more → Written body v

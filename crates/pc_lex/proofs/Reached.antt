@@ -8,8 +8,8 @@ use Rattle.pc_lex.specs.declared.fault.LexFault.{LexFault}
 use Rattle.pc_lex.specs.declared.fault.LexFault.TheVariants as fault
 use Rattle.pc_lex.specs.declared.pieces.Found.{Found}
 use Rattle.pc_lex.specs.declared.pieces.Found.TheVariants as found
-use Rattle.pc_lex.specs.declared.pieces.Stop.TheVariants as stop
-use Rattle.pc_lex.specs.Pieces.{Piece, gap, token, bytes_of, Stands, Pieces, tokens_of, Tokens, count, FirstFault}
+use Rattle.pc_lex.specs.declared.pieces.LexStop.TheVariants as stop
+use Rattle.pc_lex.specs.Pieces.{Piece, gap, token, bytes_of, IsPiece, Pieces, tokens_of, Tokens, count, FirstFault}
 use Rattle.pc_lex.specs.Reading.{piece_at, step_of, is_gap, Steps, Stuck}
 use Rattle.pc_lex.specs.Limits.{token_limit}
 use Rattle.pc_lex.specs.Answers.{Refuses}
@@ -24,7 +24,7 @@ pub record Sofar (text : List ℕ) (at : ℕ) (first : Bool) (ts : List Token) :
   pub counted : count pieces ≡ length ts
   pub few : length ts ≤ token_limit
 
-pub add_piece : (ps : List Piece) (text : List ℕ) (p : Piece) (mid rest : List ℕ) → Pieces text ps mid → mid ≡ bytes_of p ++ rest → Stands p rest → Pieces text (ps ++ p ∷ []) rest
+pub add_piece : (ps : List Piece) (text : List ℕ) (p : Piece) (mid rest : List ℕ) → Pieces text ps mid → mid ≡ bytes_of p ++ rest → IsPiece p rest → Pieces text (ps ++ p ∷ []) rest
 add_piece [] text p mid rest h e stands = (rest, h ∙ e, stands, refl)
 add_piece (q ∷ ps) text p mid rest h e stands = (h.0, h.1, h.2, add_piece ps h.0 p mid rest h.3 e stands)
 

@@ -1,28 +1,8 @@
 -- Runs of bytes, and how a text begins.
-use Rattle.std.proofs.Common.{◌≡◌, ℕ, suc, ◌+◌, Bool, true, false, cond, List, [], ◌∷◌, ◌++◌, length, take, refl, sym, ap₂, arith}
+use Rattle.std.proofs.Common.{◌≡◌, ℕ, true, List, [], ◌∷◌, length, take, refl, sym, ap₂}
 use Rattle.std.specs.Prelude.{nat_eq}
-use Rattle.std.proofs.lemmas.Bool.{and_parts, true≢false, eq-eqb, eqb-true}
-use Rattle.std.specs.List.{prefix_len, list_all, starts_with}
-
--- a run goes on behind bytes that are all in it
-pub run_app : (p : ℕ → Bool) (xs ys : List ℕ) → list_all p xs ≡ true → prefix_len p (xs ++ ys) ≡ length xs + prefix_len p ys
-run_app p [] ys all = omega arith
-run_app p (x ∷ xs) ys all =
-    let (here, more) = and_parts (p x) (list_all p xs) all in
-    rw here (omega (arith, run_app p xs ys more))
-
-all_step : (p : ℕ → Bool) (x : ℕ) (xs : List ℕ) (n : ℕ) (t : Bool) → p x ≡ t → list_all p (take n xs) ≡ true → list_all p (take (cond t (1 + n) 0) (x ∷ xs)) ≡ true
-all_step p x xs n true e more = let one : 1 + n ≡ suc n = omega arith in rw (one, e) more
-all_step p x xs n false e more = refl
-
--- the bytes of a run are all in it
-pub run_all : (p : ℕ → Bool) (xs : List ℕ) → list_all p (take (prefix_len p xs) xs) ≡ true
-run_all p [] = refl
-run_all p (x ∷ xs) = all_step p x xs (prefix_len p xs) (p x) refl (run_all p xs)
-
-pub begins_own : (word after : List ℕ) → starts_with nat_eq (word ++ after) word ≡ true
-begins_own [] after = refl
-begins_own (b ∷ word) after = rw (eq-eqb b b refl) (begins_own word after)
+use Rattle.std.proofs.lemmas.Bool.{and_parts, true≢false, eqb-true}
+use Rattle.std.specs.List.{starts_with}
 
 pub begins_cut : (text word : List ℕ) → starts_with nat_eq text word ≡ true → take (length word) text ≡ word
 begins_cut text [] e = refl

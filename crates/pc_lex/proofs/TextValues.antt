@@ -1,5 +1,5 @@
 -- A byte of a text's value is read as it is written.
-use Rattle.std.proofs.Common.{◌≡◌, ℕ, zero, suc, ◌+◌, ◌*◌, ◌<◌, ◌≤◌, Bool, true, false, cond, ◌&&◌, ◌==◌, List, [], ◌∷◌, ◌++◌, length, take, drop, Option, Some, None, Result, Ok, Err, IfOk, refl, sym, ap, ap₂, ◌∙◌, subst, inl, inr, arith, length-append, append_assoc, append-nil, take-add, take_at, drop_at, take-append-drop, length-drop, length-take-le, drop-drop}
+use Rattle.std.proofs.Common.{◌≡◌, ℕ, zero, suc, ◌+◌, ◌*◌, ◌<◌, ◌≤◌, Bool, true, false, cond, ◌&&◌, ◌==◌, List, [], ◌∷◌, ◌++◌, length, take, drop, Option, Some, None, Result, Ok, Err, IfOk, refl, sym, ap, ap₂, ◌∙◌, subst, inl, inr, arith, length-append, append_assoc, append-nil, take-add, drop_at, take-append-drop, length-drop, length-take-le, drop-drop}
 use Rattle.std.specs.Prelude.{IfErr}
 use Rattle.std.proofs.lemmas.Bool.{eqb-true, and_parts}
 use Rattle.std.specs.Char.{is_digit, digit_value}
@@ -8,15 +8,9 @@ use Rattle.pc_lex.specs.TextReading.{escape_at, escape_here, byte_at, with_first
 use Rattle.pc_lex.specs.EscapeFaults.{IsBadEscape, GivesValue}
 use Rattle.pc_lex.specs.declared.texts.EscapeFault.{EscapeFault}
 use Rattle.pc_lex.specs.declared.texts.EscapeFault.TheVariants as fault
-
-none_some : {A : Type 0} {x : A} → None ≡ Some x → ⊥
-none_some e = cc
-
-pub same_cut : (b r c s : List ℕ) → b ++ r ≡ c ++ s → length b ≡ length c → (b ≡ c) × (r ≡ s)
-same_cut b r c s e len = (
-  sym (take_at b r (length b) refl) ∙ ap₂ (λ n l. take n l) len e ∙ take_at c s (length c) refl,
-  sym (drop_at b r (length b) refl) ∙ ap₂ (λ n l. drop n l) len e ∙ drop_at c s (length c) refl,
-)
+use Rattle.pc_lists.proofs.Options.{none_some}
+use Rattle.pc_lists.proofs.Cuts.{same_cut}
+use Rattle.std.proofs.lemmas.Option.{same_Some}
 
 pub byte_read : (one rest : List ℕ) (v : ℕ) → Writes one v → byte_at (one ++ rest) ≡ Some (v, length one)
 unfolding byte_at
@@ -27,13 +21,10 @@ byte_read one rest v (inr (inr h)) = subst (λ l. byte_at (l ++ rest) ≡ Some (
 pub byte_none : (text : List ℕ) → byte_at text ≡ None → NoByte text
 byte_none text none one rest v e h = none_some (sym none ∙ ap byte_at e ∙ byte_read one rest v h)
 
-some_one : (x y : ℕ × ℕ) → Some x ≡ Some y → x ≡ y
-some_one x y e = cc
-
 hex_step : (e h l : ℕ) (t : List ℕ) (x : ℕ × ℕ) (s : Bool) → (e == 120 && (is_digit h 16 && is_digit l 16)) ≡ s → cond s (Some (digit_value h * 16 + digit_value l, 4)) None ≡ Some x → Writes (take x.1 (92 ∷ e ∷ h ∷ l ∷ t)) x.0
 hex_step e h l t x false is got = absurd (none_some got)
 hex_step e h l t x true is got =
-    let same = some_one (digit_value h * 16 + digit_value l, 4) x got in
+    let same = same_Some (digit_value h * 16 + digit_value l, 4) x got in
     let (name, digits) = and_parts (e == 120) (is_digit h 16 && is_digit l 16) is in
     let (high, low) = and_parts (is_digit h 16) (is_digit l 16) digits in
     let whole : take x.1 (92 ∷ e ∷ h ∷ l ∷ t) ≡ 92 ∷ 120 ∷ h ∷ l ∷ [] = ap₂ (λ n c. take n (92 ∷ c ∷ h ∷ l ∷ t)) (sym (ap (λ y. y.1) same)) (eqb-true e 120 name) in
@@ -41,7 +32,7 @@ hex_step e h l t x true is got =
 
 name_step : (e : ℕ) (t : List ℕ) (x : ℕ × ℕ) (o : Option ℕ) → escape_of e ≡ o → escape_at e t o ≡ Some x → Writes (take x.1 (92 ∷ e ∷ t)) x.0
 name_step e t x (Some v) is got =
-    let same = some_one (v, 2) x got in
+    let same = same_Some (v, 2) x got in
     inr (inl (e, ap (λ n. take n (92 ∷ e ∷ t)) (sym (ap (λ y. y.1) same)), is ∙ ap Some (ap (λ y. y.0) same)))
 name_step e [] x None is got = absurd (none_some got)
 name_step e (h ∷ []) x None is got = absurd (none_some got)
@@ -53,7 +44,7 @@ here_step b (e ∷ t) x is got = subst (λ c. Writes (take x.1 (c ∷ e ∷ t)) 
 
 byte_step : (b : ℕ) (t : List ℕ) (x : ℕ × ℕ) (p s : Bool) → is_plain b ≡ p → (b == 92) ≡ s → cond p (Some (b, 1)) (cond s (escape_here t) None) ≡ Some x → Writes (take x.1 (b ∷ t)) x.0
 byte_step b t x true s is e got =
-    let same = some_one (b, 1) x got in
+    let same = same_Some (b, 1) x got in
     let value : b ≡ x.0 = ap (λ y. y.0) same in
     inl (ap (λ n. take n (b ∷ t)) (sym (ap (λ y. y.1) same)) ∙ ap (λ c. c ∷ []) value, ap is_plain (sym value) ∙ is)
 byte_step b t x false true is e got = here_step b t x (eqb-true b 92 e) got
@@ -75,7 +66,7 @@ written_on body vs at x h got =
 -- one byte is written in one way
 writes_one : (one two r s : List ℕ) (v w : ℕ) → one ++ r ≡ two ++ s → Writes one v → Writes two w → (one ≡ two) × (v ≡ w) × (r ≡ s)
 writes_one one two r s v w e h i =
-    let same = some_one (v, length one) (w, length two) (sym (byte_read one r v h) ∙ ap byte_at e ∙ byte_read two s w i) in
+    let same = same_Some (v, length one) (w, length two) (sym (byte_read one r v h) ∙ ap byte_at e ∙ byte_read two s w i) in
     let cut = same_cut one r two s e (ap (λ y. y.1) same) in
     (cut.0, ap (λ y. y.0) same, cut.1)
 

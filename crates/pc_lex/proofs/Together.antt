@@ -10,8 +10,8 @@ use Rattle.pc_lex.specs.declared.fault.LexFault.{LexFault}
 use Rattle.pc_lex.specs.declared.fault.LexFault.TheVariants as fault
 use Rattle.pc_lex.specs.declared.pieces.Found.{Found}
 use Rattle.pc_lex.specs.declared.pieces.Found.TheVariants as found
-use Rattle.pc_lex.specs.declared.pieces.Stop.{Stop}
-use Rattle.pc_lex.specs.declared.pieces.Stop.TheVariants as stop
+use Rattle.pc_lex.specs.declared.pieces.LexStop.{LexStop}
+use Rattle.pc_lex.specs.declared.pieces.LexStop.TheVariants as stop
 use Rattle.pc_lex.specs.Limits.{token_limit}
 use Rattle.pc_lex.specs.Bytes.{first_test, begins, open_mark}
 use Rattle.pc_lex.specs.Texts.{is_quote}
@@ -119,7 +119,7 @@ token_more text at first ts kind n inside so e (inl less) more = one_more text a
 token_more text at first ts kind n inside so e (inr full) more = inr (fault.TooMany at, stuck_so text at first ts (fault.TooMany at) inside so (refl, full, (found.Token kind, n), e, refl))
 
 -- one piece is read, and then the rest
-step_told : (text : List ℕ) (at : ℕ) (first : Bool) (ts : List Token) (o : Result (Found × ℕ) Stop) → at < length text → Sofar text at first ts → piece_at (drop at text) ≡ o → More text at → Either text
+step_told : (text : List ℕ) (at : ℕ) (first : Bool) (ts : List Token) (o : Result (Found × ℕ) LexStop) → at < length text → Sofar text at first ts → piece_at (drop at text) ≡ o → More text at → Either text
 step_told text at first ts (Ok (found.Gap, n)) inside so e more = one_more text at first ts found.Gap n inside so e (λ t. absurd (true≢false t)) more
 step_told text at first ts (Ok (found.Token kind, n)) inside so e more = token_more text at first ts kind n inside so e (cases_lt (length ts) token_limit) more
 step_told text at first ts (Err stop.BadByte) inside so e more = inr (fault.BadByte at, stuck_so text at first ts (fault.BadByte at) inside so (refl, e))

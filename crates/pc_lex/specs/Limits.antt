@@ -2,8 +2,8 @@
 use Rattle.std.specs.Prelude.{ℕ}
 
 -- how many bytes a text may have
-abbrev pub text_limit : ℕ
-text_limit = 1048576
+abbrev pub bytes_limit : ℕ
+bytes_limit = 1048576
 
 -- how many tokens a text may have, its end not counted
 abbrev pub token_limit : ℕ

@@ -103,14 +103,14 @@ abbrev pub bytes_of : Piece → List ℕ
 bytes_of (gap b) = b
 bytes_of (token kind b) = b
 
-abbrev pub Stands : Piece → List ℕ → Type 0
-Stands (gap b) rest = IsGap b rest
-Stands (token kind b) rest = IsToken kind b rest
+abbrev pub IsPiece : Piece → List ℕ → Type 0
+IsPiece (gap b) rest = IsGap b rest
+IsPiece (token kind b) rest = IsToken kind b rest
 
 -- The text is cut into these pieces, and the rest.
 abbrev pub Pieces : List ℕ → List Piece → List ℕ → Type 0
 Pieces text [] rest = text ≡ rest
-Pieces text (p ∷ ps) rest = (mid : List ℕ) × (text ≡ bytes_of p ++ mid) × Stands p mid × Pieces mid ps rest
+Pieces text (p ∷ ps) rest = (mid : List ℕ) × (text ≡ bytes_of p ++ mid) × IsPiece p mid × Pieces mid ps rest
 
 abbrev pub has_line_end : List ℕ → Bool
 has_line_end b = list_any (λ c. c == 10) b
@@ -133,7 +133,7 @@ count (token kind b ∷ ps) = 1 + count ps
 
 -- With no piece does the text begin.
 abbrev pub NoPiece : List ℕ → Type 0
-NoPiece text = (p : Piece) (rest : List ℕ) → text ≡ bytes_of p ++ rest → Stands p rest → ⊥
+NoPiece text = (p : Piece) (rest : List ℕ) → text ≡ bytes_of p ++ rest → IsPiece p rest → ⊥
 
 -- A comment begins here, or a doc, or a text literal that no `"` ends.
 abbrev pub Opens : List ℕ → Type 0

@@ -19,8 +19,8 @@ use Rattle.pc_lex.specs.declared.classes.Class.{Class}
 use Rattle.pc_lex.specs.declared.classes.Class.TheVariants as class
 use Rattle.pc_lex.specs.declared.pieces.Found.{Found}
 use Rattle.pc_lex.specs.declared.pieces.Found.TheVariants as found
-use Rattle.pc_lex.specs.declared.pieces.Stop.{Stop}
-use Rattle.pc_lex.specs.declared.pieces.Stop.TheVariants as stop
+use Rattle.pc_lex.specs.declared.pieces.LexStop.{LexStop}
+use Rattle.pc_lex.specs.declared.pieces.LexStop.TheVariants as stop
 use Rattle.pc_lex.specs.Bytes.{is_blank, is_letter, is_tail, is_prime, is_line, begins, line_mark, open_mark, hex_mark, bin_mark, first_test, is_joined}
 
 abbrev pub class_test : Class → ℕ → Bool
@@ -64,11 +64,11 @@ behind (suc n) [] = None
 behind (suc n) (b ∷ []) = None
 behind (suc n) (b ∷ c ∷ bs) = if b == 47 && c == 42 then behind (suc (suc n)) bs else (if b == 42 && c == 47 then behind n bs else behind (suc n) (c ∷ bs))
 
-abbrev pub block_at : List ℕ → Option (List ℕ) → Result (Found × ℕ) Stop
+abbrev pub block_at : List ℕ → Option (List ℕ) → Result (Found × ℕ) LexStop
 block_at text None = Err stop.Unclosed
 block_at text (Some rest) = Ok (found.Gap, length text - length rest)
 
-abbrev pub sign_or : Option (Sign × ℕ) → Result (Found × ℕ) Stop
+abbrev pub sign_or : Option (Sign × ℕ) → Result (Found × ℕ) LexStop
 sign_or None = Err stop.BadByte
 sign_or (Some s) = Ok (found.Token (kinds.Sign s.0), s.1)
 
@@ -91,24 +91,24 @@ value_of base acc (b ∷ bs) = if b == 95 then value_of base acc bs else value_o
 unfoldable pub base_at : List ℕ → ℕ × ℕ
 base_at text = if begins text hex_mark && first_test (λ b. is_digit b 16) (drop 2 text) then (16, 2) else (if begins text bin_mark && first_test (λ b. is_digit b 2) (drop 2 text) then (2, 2) else (10, 0))
 
-abbrev pub number_or : ℕ → ℕ → Result (Found × ℕ) Stop
+abbrev pub number_or : ℕ → ℕ → Result (Found × ℕ) LexStop
 number_or v n = if nat_lt v (2 ^ 64) then Ok (found.Token (kinds.Number v), n) else Err stop.BadNumber
 
-abbrev pub number_of : List ℕ → ℕ → ℕ → ℕ → Result (Found × ℕ) Stop
+abbrev pub number_of : List ℕ → (base skip digits : ℕ) → Result (Found × ℕ) LexStop
 number_of text base skip n = if first_test is_joined (drop (skip + n) text) then Err stop.BadNumber else number_or (value_of base 0 (take n (drop skip text))) (skip + n)
 
-unfoldable pub number_at : List ℕ → Result (Found × ℕ) Stop
+unfoldable pub number_at : List ℕ → Result (Found × ℕ) LexStop
 number_at text = let base = base_at text in number_of text base.0 base.1 (digits_len base.0 (drop base.1 text))
 
-abbrev pub name_or_sign : List ℕ → ℕ → Result (Found × ℕ) Stop
+abbrev pub name_or_sign : List ℕ → ℕ → Result (Found × ℕ) LexStop
 name_or_sign text zero = sign_or (sign_at text)
 name_or_sign text (suc n) = Ok (found.Token (name_kind (take (suc n) text)), suc n)
 
-abbrev pub doc_or : List ℕ → Option (List ℕ) → Result (Found × ℕ) Stop
+abbrev pub doc_or : List ℕ → Option (List ℕ) → Result (Found × ℕ) LexStop
 doc_or text None = Err stop.Unclosed
 doc_or text (Some rest) = Ok (found.Token kinds.Doc, length text - length rest)
 
-abbrev pub value_or : ℕ → Result (List ℕ) ℕ → Result (Found × ℕ) Stop
+abbrev pub value_or : ℕ → Result (List ℕ) ℕ → Result (Found × ℕ) LexStop
 value_or n (Ok value) = Ok (found.Token (kinds.Text value), n)
 value_or n (Err at) = Err (stop.BadEscape (1 + at))
 
@@ -116,18 +116,18 @@ value_or n (Err at) = Err (stop.BadEscape (1 + at))
 abbrev pub between : List ℕ → ℕ → List ℕ
 between text n = take (n - 2) (drop 1 text)
 
-abbrev pub text_or : List ℕ → Option (List ℕ) → Result (Found × ℕ) Stop
+abbrev pub text_or : List ℕ → Option (List ℕ) → Result (Found × ℕ) LexStop
 text_or text None = Err stop.Unclosed
 text_or text (Some rest) = value_or (length text - length rest) (unescape (between text (length text - length rest)))
 
-unfoldable pub text_at : List ℕ → Result (Found × ℕ) Stop
+unfoldable pub text_at : List ℕ → Result (Found × ℕ) LexStop
 text_at text = text_or text (text_behind (drop 1 text))
 
-unfoldable pub doc_at : List ℕ → Result (Found × ℕ) Stop
+unfoldable pub doc_at : List ℕ → Result (Found × ℕ) LexStop
 doc_at text = doc_or text (doc_behind (drop 3 text))
 
 -- the piece with which a text begins, and its length
-unfoldable pub piece_at : List ℕ → Result (Found × ℕ) Stop
+unfoldable pub piece_at : List ℕ → Result (Found × ℕ) LexStop
 piece_at [] = Err stop.BadByte
 piece_at (b ∷ bs) =
     if is_blank b then Ok (found.Gap, 1)
@@ -139,16 +139,16 @@ piece_at (b ∷ bs) =
     else name_or_sign (b ∷ bs) (name_len (b ∷ bs)))))))
 
 -- where the fault stands is within so many bytes
-abbrev pub StopWithin : ℕ → Stop → Type 0
+abbrev pub StopWithin : ℕ → LexStop → Type 0
 StopWithin n (stop.BadEscape offset) = offset < n
 StopWithin n _ = ⊤
 
-abbrev pub Fails : {Y : Type 0} → Stop → Result Y Stop → Type 0
+abbrev pub Fails : {Y : Type 0} → LexStop → Result Y LexStop → Type 0
 Fails stop.Memory read = Unit {0}
 Fails e read = read ≡ Err e
 
 -- What a function returned is what is read, unless memory ran out.
-abbrev pub Gives : {Y : Type 0} → Result Y Stop → Result Y Stop → Type 0
+abbrev pub Gives : {Y : Type 0} → Result Y LexStop → Result Y LexStop → Type 0
 Gives (Ok x) read = read ≡ Ok x
 Gives (Err e) read = Fails e read
 
@@ -174,7 +174,7 @@ Stuck text at old (fault.BadEscape p) = (offset : ℕ) × (p ≡ at + offset) ×
 Stuck text at old (fault.TooMany p) = (p ≡ at) × (token_limit ≤ length old) × (x : Found × ℕ) × (piece_at (drop at text) ≡ Ok x) × (is_gap x.0 ≡ false)
 Stuck text at old fault.Memory = ⊤
 
-abbrev pub fault_at : Stop → ℕ → LexFault
+abbrev pub fault_at : LexStop → ℕ → LexFault
 fault_at stop.BadByte at = fault.BadByte at
 fault_at stop.BadNumber at = fault.BadNumber at
 fault_at stop.Unclosed at = fault.Unclosed at

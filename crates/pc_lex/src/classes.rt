@@ -1,3 +1,4 @@
+//! Classes of bytes, and runs of them.
 ghost use Rattle.std.specs.Prelude.{◌≡◌, ◌<◌, ◌≤◌, ◌+◌, drop, length, true};
 ghost use Rattle.std.specs.List.{prefix_len};
 ghost use Rattle.pc_lex.specs.Bytes as bytes;

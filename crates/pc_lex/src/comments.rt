@@ -1,3 +1,4 @@
+//! Comments: where they end.
 ghost use Rattle.std.specs.Prelude.{◌≡◌, ◌<◌, ◌≤◌, ◌+◌, ◌==◌, ◌&&◌, length, drop, slice_index, IfSome};
 ghost use Rattle.std.specs.Option.{option_map};
 ghost use Rattle.pc_lex.specs.Reading as reading;

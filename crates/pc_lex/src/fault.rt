@@ -1,3 +1,4 @@
+//! Why a text has no tokens, with the byte of the fault.
 ghost use Rattle.std.specs.Prelude.{◌≡◌};
 
 use std::alloc::AllocError;

@@ -1,3 +1,4 @@
+//! The laws on tokens, as calls that do nothing.
 ghost use Rattle.pc_lex.specs.Laws.{OneList, NotBoth, NoList, OneFault, ListOrFault};
 
 /// A text has at most one token list.

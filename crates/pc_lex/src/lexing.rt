@@ -1,7 +1,8 @@
+//! The lexer's loop over a text, piece by piece.
 ghost use Rattle.std.specs.Prelude.{◌≡◌, ◌<◌, ◌≤◌, ◌+◌, List as Sequence, length, Ok, Err, IfOk, IfErr};
 ghost use Rattle.pc_token.specs.declared.kinds.Token.{Token};
 ghost use Rattle.pc_lex.specs.declared.fault.LexFault.{LexFault};
-ghost use Rattle.pc_lex.specs.Limits.{text_limit, token_limit};
+ghost use Rattle.pc_lex.specs.Limits.{bytes_limit, token_limit};
 ghost use Rattle.pc_lex.specs.Pieces as pieces;
 ghost use Rattle.pc_lex.specs.Pieces.{Tokens, FirstFault};
 ghost use Rattle.pc_lex.specs.Reading as reading;
@@ -9,7 +10,7 @@ ghost use Rattle.pc_lex.specs.Reading.{Steps, StopWithin, Stuck};
 ghost use Rattle.pc_lex.specs.Answers.{TokenList, Refuses, Answers};
 
 use crate::fault::LexFault;
-use crate::pieces::{Found, Stop, piece_at};
+use crate::pieces::{Found, LexStop, piece_at};
 use pc_caps::{List, Span};
 use pc_token::{Token, TokenKind};
 use std::alloc::Global;
@@ -25,16 +26,16 @@ fn has_line_end(text: &[u8]) -> bool
 }
 
 /// The fault of a text at the place where it begins with no piece.
-fn fault_at(stop: Stop, place: u32) -> LexFault
-    requires { StopWithin text_limit stop × (place ≤ text_limit) }
+fn fault_at(stop: LexStop, place: u32) -> LexFault
+    requires { StopWithin bytes_limit stop × (place ≤ bytes_limit) }
     ensures { result ≡ reading.fault_at stop place }
 {
     match stop {
-        Stop::BadByte => LexFault::BadByte(place),
-        Stop::BadNumber => LexFault::BadNumber(place),
-        Stop::Unclosed => LexFault::Unclosed(place),
-        Stop::BadEscape(offset) => LexFault::BadEscape(place + offset as u32),
-        Stop::Memory => LexFault::Memory,
+        LexStop::BadByte => LexFault::BadByte(place),
+        LexStop::BadNumber => LexFault::BadNumber(place),
+        LexStop::Unclosed => LexFault::Unclosed(place),
+        LexStop::BadEscape(offset) => LexFault::BadEscape(place + offset as u32),
+        LexStop::Memory => LexFault::Memory,
     }
 }
 
@@ -48,7 +49,7 @@ fn step(
     tokens: &mut List<Token>,
 ) -> Result<(usize, bool), LexFault>
     requires within { at < length text.now }
-    requires short { length text.now ≤ text_limit }
+    requires short { length text.now ≤ bytes_limit }
     ensures ok { IfOk result (λ r. Steps text.now at first tokens.old tokens.new r) }
     ensures err { IfErr result (λ f. Stuck text.now at tokens.old f) }
     ensures moves { IfOk result (λ r. r.0 ≤ length text.now) }
@@ -75,7 +76,7 @@ fn step(
 
 /// Reads a text piece by piece to its end.
 fn read_all(alloc: Global, text: &[u8]) -> Result<List<Token>, LexFault>
-    requires { length text.now ≤ text_limit }
+    requires { length text.now ≤ bytes_limit }
     ensures ok { IfOk result (TokenList text.now) }
     ensures err { IfErr result (Refuses text.now) }
 {
@@ -103,7 +104,7 @@ fn read_all(alloc: Global, text: &[u8]) -> Result<List<Token>, LexFault>
 /// The first fault of a text is that of the first place at which no blank, comment or token begins, or `TooMany` if
 /// the token behind 200,000 others begins before it.
 pub fn lex(alloc: Global, text: &[u8]) -> Result<List<Token>, LexFault>
-    requires { length text.now ≤ text_limit }
+    requires { length text.now ≤ bytes_limit }
     // The list is the text's.
     ensures ok { IfOk result (TokenList text.now) }
     // The fault is the first of the text, or memory ran out.

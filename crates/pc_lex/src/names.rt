@@ -1,3 +1,4 @@
+//! Names: where they end, and which kind they are of.
 ghost use Rattle.std.specs.Prelude.{◌≡◌, ◌≤◌, length, IfOk};
 ghost use Rattle.pc_lex.specs.Reading as reading;
 

@@ -1,3 +1,4 @@
+//! Numbers: decimal, of base 16 and of base 2, with their values.
 ghost use Rattle.std.specs.Prelude.{◌≡◌, ◌<◌, ◌≤◌, ◌+◌, ◌*◌, ◌==◌, ◌&&◌, length, drop, slice_index, true, IfOk, IfErr};
 ghost use Rattle.std.specs.Char.{is_digit, digit_value};
 ghost use Rattle.pc_lex.specs.Bytes.{first_test};
@@ -5,7 +6,7 @@ ghost use Rattle.pc_lex.specs.Reading.{BelowOrNone, StopWithin};
 ghost use Rattle.pc_lex.specs.Reading as reading;
 
 use crate::classes::is_joined;
-use crate::pieces::{Found, Stop};
+use crate::pieces::{Found, LexStop};
 use pc_token::TokenKind;
 
 /// The digit that a byte is, letters of either case being 10 to 35, or 36.
@@ -112,7 +113,7 @@ fn base_at(text: &[u8]) -> (u8, usize)
 
 /// The number at the front, where a digit stands.
 #[tactic(auto, unfolding(crate::specs::Reading::number_at))]
-pub fn number_at(text: &[u8]) -> Result<(Found, usize), Stop>
+pub fn number_at(text: &[u8]) -> Result<(Found, usize), LexStop>
     ensures value { result ≡ reading.number_at text.now }
     ensures within { IfOk result (λ r. r.1 ≤ length text.now) }
     ensures short { IfErr result (StopWithin (length text.now)) }
@@ -120,10 +121,10 @@ pub fn number_at(text: &[u8]) -> Result<(Found, usize), Stop>
     let (base, skip) = base_at(text);
     let n = digits_len(&text[skip..], base);
     if is_joined(&text[skip + n..]) {
-        return Err(Stop::BadNumber);
+        return Err(LexStop::BadNumber);
     }
     match value_of(&text[skip..skip + n], base) {
         Some(value) => Ok((Found::Token(TokenKind::Number(value)), skip + n)),
-        None => Err(Stop::BadNumber),
+        None => Err(LexStop::BadNumber),
     }
 }

@@ -1,3 +1,4 @@
+//! What a text begins with: a gap, a token, or a fault.
 ghost use Rattle.std.specs.Prelude.{◌≡◌, ◌<◌, ◌≤◌, length, IfOk, IfErr};
 ghost use Rattle.pc_lex.specs.Reading as reading;
 ghost use Rattle.pc_lex.specs.Reading.{Gives, StopWithin};
@@ -21,7 +22,7 @@ pub enum Found {
 
 /// Why a text begins with none of these.
 #[derive(Debug)]
-pub enum Stop {
+pub enum LexStop {
     /// Nothing begins with the first byte.
     BadByte,
     /// The comment, text or doc that begins here does not end.
@@ -34,19 +35,19 @@ pub enum Stop {
     Memory,
 }
 
-impl From<AllocError> for Stop {
-    ghost use Rattle.pc_lex.specs.declared.pieces.Stop.TheVariants.{Memory};
+impl From<AllocError> for LexStop {
+    ghost use Rattle.pc_lex.specs.declared.pieces.LexStop.TheVariants.{Memory};
 
     ghost from_gives = { λ _ e. e ≡ Memory };
 
-    fn from(_: AllocError) -> Stop {
-        Stop::Memory
+    fn from(_: AllocError) -> LexStop {
+        LexStop::Memory
     }
 }
 
 /// The text literal at the front, where a `"` stands, and its length.
 #[tactic(auto, using(crate::proofs::TextCut::text_found), unfolding(crate::specs::Reading::text_at))]
-fn text_at(alloc: Global, text: &[u8]) -> Result<(Found, usize), Stop>
+fn text_at(alloc: Global, text: &[u8]) -> Result<(Found, usize), LexStop>
     requires { 0 < length text.now }
     ensures gives { Gives result (reading.text_at text.now) }
     ensures within { IfOk result (λ r. r.1 ≤ length text.now) }
@@ -54,18 +55,18 @@ fn text_at(alloc: Global, text: &[u8]) -> Result<(Found, usize), Stop>
 {
     let n = match quote_len(&text[1..]) {
         Some(n) => n,
-        None => return Err(Stop::Unclosed),
+        None => return Err(LexStop::Unclosed),
     };
     match text_value(alloc, &text[1..n + 1]) {
         Ok(value) => Ok((Found::Token(TokenKind::Text(value)), n + 2)),
-        Err(EscapeFault::BadEscape(at)) => Err(Stop::BadEscape(at + 1)),
-        Err(EscapeFault::Memory) => Err(Stop::Memory),
+        Err(EscapeFault::BadEscape(at)) => Err(LexStop::BadEscape(at + 1)),
+        Err(EscapeFault::Memory) => Err(LexStop::Memory),
     }
 }
 
 /// The doc at the front, where a `"""` stands, and its length.
 #[tactic(auto, unfolding(crate::specs::Reading::doc_at))]
-fn doc_at(text: &[u8]) -> Result<(Found, usize), Stop>
+fn doc_at(text: &[u8]) -> Result<(Found, usize), LexStop>
     requires { 3 ≤ length text.now }
     ensures gives { Gives result (reading.doc_at text.now) }
     ensures within { IfOk result (λ r. r.1 ≤ length text.now) }
@@ -73,13 +74,13 @@ fn doc_at(text: &[u8]) -> Result<(Found, usize), Stop>
 {
     match doc_len(&text[3..]) {
         Some(n) => Ok((Found::Token(TokenKind::Doc), n + 6)),
-        None => Err(Stop::Unclosed),
+        None => Err(LexStop::Unclosed),
     }
 }
 
 /// The blank, comment or token with which a text begins, and its length.
 #[tactic(auto, unfolding(crate::specs::Reading::piece_at))]
-pub fn piece_at(alloc: Global, text: &[u8]) -> Result<(Found, usize), Stop>
+pub fn piece_at(alloc: Global, text: &[u8]) -> Result<(Found, usize), LexStop>
     requires { 0 < length text.now }
     ensures gives { Gives result (reading.piece_at text.now) }
     ensures within { IfOk result (λ r. r.1 ≤ length text.now) }
@@ -94,7 +95,7 @@ pub fn piece_at(alloc: Global, text: &[u8]) -> Result<(Found, usize), Stop>
     if text.starts_with(b"/*") {
         return match block_len(&text[2..]) {
             Some(n) => Ok((Found::Gap, 2 + n)),
-            None => Err(Stop::Unclosed),
+            None => Err(LexStop::Unclosed),
         };
     }
     if text[0].is_ascii_digit() {
@@ -112,6 +113,6 @@ pub fn piece_at(alloc: Global, text: &[u8]) -> Result<(Found, usize), Stop>
     }
     match sign_at(text) {
         Some((sign, n)) => Ok((Found::Token(TokenKind::Sign(sign)), n)),
-        None => Err(Stop::BadByte),
+        None => Err(LexStop::BadByte),
     }
 }

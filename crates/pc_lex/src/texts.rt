@@ -1,3 +1,4 @@
+//! Texts and docs: where they end, and the bytes that they stand for.
 ghost use Rattle.std.specs.Prelude.{◌≡◌, ◌<◌, ◌≤◌, ◌+◌, length, drop, true, IfSome, IfOk, IfErr};
 ghost use Rattle.std.specs.Option.{option_map};
 ghost use Rattle.pc_lex.specs.Texts.{Written};

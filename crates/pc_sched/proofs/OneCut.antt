@@ -1,26 +1,22 @@
 -- A text is cut into pieces in one way, and they spell one list of turns.
-use Rattle.std.proofs.Common.{◌≡◌, ℕ, ◌+◌, ◌<◌, ◌≤◌, List, [], ◌∷◌, ◌++◌, length, get_or, take, drop, refl, sym, ap, ap₂, ◌∙◌, subst, inl, inr, ◌⊎◌, arith, length-append, take_at, drop_at}
+use Rattle.std.proofs.Common.{◌≡◌, ℕ, ◌+◌, ◌<◌, ◌≤◌, List, [], ◌∷◌, ◌++◌, length, get_or, drop, refl, sym, ap, ap₂, ◌∙◌, subst, inl, inr, ◌⊎◌, arith, length-append}
 use Rattle.std.specs.List.{prefix_len}
 use Rattle.pc_sched.specs.declared.turns.Turn.{Turn}
-use Rattle.pc_sched.specs.Schedules.{no_blank, Piece, blank, word, bytes_of, Stands, Pieces, Spells, Spelled, total, Turns}
+use Rattle.pc_sched.specs.Schedules.{no_blank, Piece, blank, word, bytes_of, IsPiece, Pieces, Spells, Spelled, total, Turns}
 use Rattle.pc_sched.specs.Limits.{turn_limit}
-use Rattle.pc_sched.proofs.Runs.{run_app, end_none}
+use Rattle.pc_sched.proofs.Runs.{end_none}
+use Rattle.pc_lists.proofs.Prefixes.{run_app}
 use Rattle.pc_sched.proofs.TurnReading.{turn_one}
+use Rattle.pc_lists.proofs.Cuts.{same_cut}
 
-same_cut : (b r c s : List ℕ) → b ++ r ≡ c ++ s → length b ≡ length c → (b ≡ c) × (r ≡ s)
-same_cut b r c s e len = (
-  sym (take_at b r (length b) refl) ∙ ap₂ (λ n l. take n l) len e ∙ take_at c s (length c) refl,
-  sym (drop_at b r (length b) refl) ∙ ap₂ (λ n l. drop n l) len e ∙ drop_at c s (length c) refl,
-)
-
-word_run : (b r : List ℕ) → Stands (word b) r → prefix_len no_blank (b ++ r) ≡ length b
+word_run : (b r : List ℕ) → IsPiece (word b) r → prefix_len no_blank (b ++ r) ≡ length b
 word_run b r h = omega (arith, run_app no_blank b r h.1, end_none r h.2)
 
-no_both : (x : ℕ) (r b s : List ℕ) → x ∷ r ≡ b ++ s → Stands (blank x) r → Stands (word b) s → ⊥
+no_both : (x : ℕ) (r b s : List ℕ) → x ∷ r ≡ b ++ s → IsPiece (blank x) r → IsPiece (word b) s → ⊥
 no_both x r b s e h i = omega (arith, end_none (x ∷ r) h, word_run b s i, ap (prefix_len no_blank) e, i.0)
 
 -- two pieces that stand in front of one text are the same
-pub piece_one : (p q : Piece) (r s : List ℕ) → bytes_of p ++ r ≡ bytes_of q ++ s → Stands p r → Stands q s → (p ≡ q) × (r ≡ s)
+pub piece_one : (p q : Piece) (r s : List ℕ) → bytes_of p ++ r ≡ bytes_of q ++ s → IsPiece p r → IsPiece q s → (p ≡ q) × (r ≡ s)
 piece_one (blank x) (blank y) r s e h i = (ap (λ l. blank (get_or l 0 0)) e, ap (drop 1) e)
 piece_one (blank x) (word c) r s e h i = absurd (no_both x r c s e h i)
 piece_one (word b) (blank y) r s e h i = absurd (no_both y s b r (sym e) i h)
@@ -29,7 +25,7 @@ piece_one (word b) (word c) r s e h i =
     let cut = same_cut b r c s e same in
     (ap word cut.0, cut.1)
 
-pub piece_some : (p : Piece) (r : List ℕ) → Stands p r → 0 < length (bytes_of p)
+pub piece_some : (p : Piece) (r : List ℕ) → IsPiece p r → 0 < length (bytes_of p)
 piece_some (blank x) r h = omega arith
 piece_some (word b) r h = h.0
 
@@ -50,7 +46,7 @@ pub turns_one : (text : List ℕ) (ts us : List Turn) → Turns text ts → Turn
 turns_one text ts us h i = spelled_one h.0 ts us h.2 (subst (λ l. Spelled l us) (sym (pieces_one h.0 i.0 text h.1 i.1)) i.2)
 
 -- where a word stands, the cut to the end goes through it
-pub through : (ps qs : List Piece) (text b rest : List ℕ) → Pieces text ps (b ++ rest) → Stands (word b) rest → Pieces text qs [] → (ms : List Piece) × (qs ≡ ps ++ word b ∷ ms)
+pub through : (ps qs : List Piece) (text b rest : List ℕ) → Pieces text ps (b ++ rest) → IsPiece (word b) rest → Pieces text qs [] → (ms : List Piece) × (qs ≡ ps ++ word b ∷ ms)
 through [] [] text b rest h w i = absurd (omega (arith, w.0, ap length h, ap length i, length-append b rest))
 through [] (q ∷ qs) text b rest h w i =
     let one = piece_one q (word b) i.0 rest (sym i.1 ∙ h) i.2 w in
@@ -73,7 +69,7 @@ meet_on p q ps qs b rest c more e (inl (one, same, all)) = inl (one, same, ap₂
 meet_on p q ps qs b rest c more e (inr (inl (ms, is))) = inr (inl (ms, ap₂ (λ x xs. x ∷ xs) (sym e) is))
 meet_on p q ps qs b rest c more e (inr (inr (ms, is))) = inr (inr (ms, ap₂ (λ x xs. x ∷ xs) e is))
 
-pub meet : (ps qs : List Piece) (text b rest c more : List ℕ) → Pieces text ps (b ++ rest) → Stands (word b) rest → Pieces text qs (c ++ more) → Stands (word c) more → Meet ps b rest qs c more
+pub meet : (ps qs : List Piece) (text b rest c more : List ℕ) → Pieces text ps (b ++ rest) → IsPiece (word b) rest → Pieces text qs (c ++ more) → IsPiece (word c) more → Meet ps b rest qs c more
 meet [] [] text b rest c more h w i v =
     let one = piece_one (word b) (word c) rest more (sym h ∙ i) w v in
     inl (ap bytes_of one.0, one.1, refl)

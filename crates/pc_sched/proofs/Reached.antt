@@ -8,10 +8,11 @@ use Rattle.pc_sched.specs.declared.turns.Turn.{Turn}
 use Rattle.pc_sched.specs.declared.fault.SchedFault.{SchedFault}
 use Rattle.pc_sched.specs.declared.fault.SchedFault.TheVariants as fault
 use Rattle.pc_sched.specs.Limits.{turn_limit}
-use Rattle.pc_sched.specs.Schedules.{no_blank, Piece, blank, word, bytes_of, Stands, Pieces, Spells, Spelled, total, TurnList, WordAt}
+use Rattle.pc_sched.specs.Schedules.{no_blank, Piece, blank, word, bytes_of, IsPiece, Pieces, Spells, Spelled, total, TurnList, WordAt}
 use Rattle.pc_sched.specs.Reading.{turn_of, word_at, Steps, Stuck}
 use Rattle.pc_sched.specs.Answers.{Refuses}
-use Rattle.pc_sched.proofs.Runs.{run_all, run_ends, first_blank}
+use Rattle.pc_sched.proofs.Runs.{run_ends, first_blank}
+use Rattle.pc_lists.proofs.Prefixes.{run_all}
 use Rattle.pc_sched.proofs.TurnReading.{turn_sound, no_turn}
 
 pub record Sofar (text : List ℕ) (at count : ℕ) (turns : List Turn) : Type 0 where
@@ -22,7 +23,7 @@ pub record Sofar (text : List ℕ) (at count : ℕ) (turns : List Turn) : Type 0
   pub counted : count ≡ total turns
   pub few : count ≤ turn_limit
 
-add_piece : (ps : List Piece) (text : List ℕ) (p : Piece) (mid rest : List ℕ) → Pieces text ps mid → mid ≡ bytes_of p ++ rest → Stands p rest → Pieces text (ps ++ p ∷ []) rest
+add_piece : (ps : List Piece) (text : List ℕ) (p : Piece) (mid rest : List ℕ) → Pieces text ps mid → mid ≡ bytes_of p ++ rest → IsPiece p rest → Pieces text (ps ++ p ∷ []) rest
 add_piece [] text p mid rest h e stands = (rest, h ∙ e, stands, refl)
 add_piece (q ∷ ps) text p mid rest h e stands = (h.0, h.1, h.2, add_piece ps h.0 p mid rest h.3 e stands)
 
@@ -45,7 +46,7 @@ starts_so text = record { pieces = []; within = omega arith; cut = refl; spelled
 
 module _ (text : List ℕ) (at count : ℕ) (turns : List Turn) (inside : at < length text) (so : Sofar text at count turns) where
   -- the word at the place, where one stands
-  word_stands : 0 < prefix_len no_blank (drop at text) → Stands (word (word_at text at)) (drop (prefix_len no_blank (drop at text)) (drop at text))
+  word_stands : 0 < prefix_len no_blank (drop at text) → IsPiece (word (word_at text at)) (drop (prefix_len no_blank (drop at text)) (drop at text))
   word_stands some = (omega (arith, some, length-prefix_len no_blank (drop at text)), run_all no_blank (drop at text), run_ends (drop at text))
 
   blank_passed : prefix_len no_blank (drop at text) ≡ 0 → Sofar text (at + 1) count turns

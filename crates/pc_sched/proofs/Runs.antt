@@ -1,36 +1,17 @@
 -- Runs of bytes.
-use Rattle.std.proofs.Common.{◌≡◌, ℕ, suc, ◌+◌, ◌≤◌, Bool, true, false, cond, not, List, [], ◌∷◌, ◌++◌, length, take, drop, refl, subst, arith}
-use Rattle.std.proofs.lemmas.Bool.{and_parts, true≢false}
+use Rattle.std.proofs.Common.{◌≡◌, ℕ, suc, ◌+◌, ◌≤◌, Bool, true, false, cond, List, [], ◌∷◌, length, drop, refl, subst, arith}
+use Rattle.std.proofs.lemmas.Bool.{not-false}
 use Rattle.std.proofs.lemmas.List.{take_all}
 use Rattle.std.specs.List.{prefix_len, list_all}
 use Rattle.pc_sched.specs.Schedules.{is_blank, no_blank, AtWordEnd}
-
--- a run goes on behind bytes that are all in it
-pub run_app : (p : ℕ → Bool) (xs ys : List ℕ) → list_all p xs ≡ true → prefix_len p (xs ++ ys) ≡ length xs + prefix_len p ys
-run_app p [] ys all = omega arith
-run_app p (x ∷ xs) ys all =
-    let (here, more) = and_parts (p x) (list_all p xs) all in
-    rw here (omega (arith, run_app p xs ys more))
-
-all_step : (p : ℕ → Bool) (x : ℕ) (xs : List ℕ) (n : ℕ) (t : Bool) → p x ≡ t → list_all p (take n xs) ≡ true → list_all p (take (cond t (1 + n) 0) (x ∷ xs)) ≡ true
-all_step p x xs n true e more = let one : 1 + n ≡ suc n = omega arith in rw (one, e) more
-all_step p x xs n false e more = refl
-
--- the bytes of a run are all in it
-pub run_all : (p : ℕ → Bool) (xs : List ℕ) → list_all p (take (prefix_len p xs) xs) ≡ true
-run_all p [] = refl
-run_all p (x ∷ xs) = all_step p x xs (prefix_len p xs) (p x) refl (run_all p xs)
+use Rattle.pc_lists.proofs.Prefixes.{run_all}
 
 pub run_whole : (p : ℕ → Bool) (xs : List ℕ) → length xs ≤ prefix_len p xs → list_all p xs ≡ true
 run_whole p xs whole = subst (λ l. list_all p l ≡ true) (take_all (prefix_len p xs) xs whole) (run_all p xs)
 
-no_not : (t : Bool) → not t ≡ false → t ≡ true
-no_not true e = refl
-no_not false e = absurd (true≢false e)
-
 ends_step : (b : ℕ) (bs : List ℕ) (n : ℕ) (t : Bool) → no_blank b ≡ t → AtWordEnd (drop n bs) → AtWordEnd (drop (cond t (1 + n) 0) (b ∷ bs))
 ends_step b bs n true e more = let one : 1 + n ≡ suc n = omega arith in rw one more
-ends_step b bs n false e more = no_not (is_blank b) e
+ends_step b bs n false e more = not-false (is_blank b) e
 
 -- behind bytes that are no blanks, the text ends or a blank follows
 pub run_ends : (text : List ℕ) → AtWordEnd (drop (prefix_len no_blank text) text)
@@ -44,7 +25,7 @@ end_none (b ∷ bs) h = rw h refl
 
 first_step : (b : ℕ) (n : ℕ) (t : Bool) → no_blank b ≡ t → cond t (1 + n) 0 ≡ 0 → is_blank b ≡ true
 first_step b n true e none = absurd (omega (arith, none))
-first_step b n false e none = no_not (is_blank b) e
+first_step b n false e none = not-false (is_blank b) e
 
 -- where no word begins, a blank does
 pub first_blank : (b : ℕ) (bs : List ℕ) → prefix_len no_blank (b ∷ bs) ≡ 0 → is_blank b ≡ true

@@ -9,13 +9,9 @@ use Rattle.std.specs.Char.{is_ascii_digit}
 use Rattle.pc_sched.specs.declared.turns.Turn.{Turn}
 use Rattle.pc_sched.specs.Schedules.{value, Number, Spells}
 use Rattle.pc_sched.specs.Reading.{no_digits, below, number_of, turn_with, turn_at, turn_of}
-use Rattle.pc_sched.proofs.Runs.{run_app, run_whole}
-
-pub none_some : {A : Type 0} (x : A) → None ≡ Some x → ⊥
-none_some x e = cc
-
-some_one : {A : Type 0} (x y : A) → Some x ≡ Some y → x ≡ y
-some_one x y e = cc
+use Rattle.pc_sched.proofs.Runs.{run_whole}
+use Rattle.pc_lists.proofs.Prefixes.{run_app}
+use Rattle.std.proofs.lemmas.Option.{none-some, same_Some}
 
 -- all digits are read
 all_read : (b : List ℕ) → list_all is_ascii_digit b ≡ true → prefix_len is_ascii_digit b ≡ length b
@@ -35,11 +31,11 @@ parts : (n m : ℕ) → (n == 0 || nat_lt 10 n || nat_lt m n) ≡ false → (0 <
 parts n m e = grind (arith, nat_tests)
 
 number_cases : (b : List ℕ) (n : ℕ) (t u : Bool) → no_digits b ≡ t → nat_lt (value 0 b) (2 ^ 32) ≡ u → cond t None (cond u (Some (value 0 b)) None) ≡ Some n → Number b n
-number_cases b n true u e f g = absurd (none_some n g)
-number_cases b n false false e f g = absurd (none_some n g)
+number_cases b n true u e f g = absurd (none-some n g)
+number_cases b n false false e f g = absurd (none-some n g)
 number_cases b n false true e f g =
     let p = parts (length b) (prefix_len is_ascii_digit b) e in
-    let is : value 0 b ≡ n = some_one (value 0 b) n g in
+    let is : value 0 b ≡ n = same_Some (value 0 b) n g in
     let small : value 0 b < 2 ^ 32 = grind (arith, nat_tests, f) in
     record { some = p.0; few = p.1; digits = run_whole is_ascii_digit b p.2; is = sym is; small = subst (λ v. v < 2 ^ 32) is small }
 
@@ -61,18 +57,18 @@ turn_read b turn (inr (left, right, e, actor, times)) =
     ap₂ turn_at (ap number_of front ∙ number_read left turn.actor actor) behind ∙ ap (turn_with turn.actor) (number_read right turn.times times)
 
 star_cases : (b : List ℕ) (n actor x : ℕ) (xs : List ℕ) (turn : Turn) (t : Bool) (m : Option ℕ) → number_of (take n b) ≡ Some actor → drop n b ≡ x ∷ xs → (x == 42) ≡ t → number_of xs ≡ m → cond t (turn_with actor m) None ≡ Some turn → Spells b turn
-star_cases b n actor x xs turn false m left rest star right e = absurd (none_some turn e)
-star_cases b n actor x xs turn true None left rest star right e = absurd (none_some turn e)
+star_cases b n actor x xs turn false m left rest star right e = absurd (none-some turn e)
+star_cases b n actor x xs turn true None left rest star right e = absurd (none-some turn e)
 star_cases b n actor x xs turn true (Some times) left rest star right e =
-    let is : record { actor = actor; times = times } ≡ turn = some_one (record { actor = actor; times = times }) turn e in
+    let is : record { actor = actor; times = times } ≡ turn = same_Some (record { actor = actor; times = times }) turn e in
     let byte : x ≡ 42 = eqb-true x 42 star in
     let cut : b ≡ take n b ++ 42 ∷ xs = sym (take-append-drop n b) ∙ ap (λ l. take n b ++ l) (rest ∙ ap (λ c. c ∷ xs) byte) in
     subst (Spells b) is (inr (take n b, xs, cut, number_sound (take n b) actor left, number_sound xs times right))
 
 turn_cases : (b : List ℕ) (n : ℕ) (turn : Turn) (o : Option ℕ) (rest : List ℕ) → number_of (take n b) ≡ o → drop n b ≡ rest → turn_at o rest ≡ Some turn → Spells b turn
-turn_cases b n turn None rest left is e = absurd (none_some turn e)
+turn_cases b n turn None rest left is e = absurd (none-some turn e)
 turn_cases b n turn (Some actor) [] left is e =
-    let one : record { actor = actor; times = 1 } ≡ turn = some_one (record { actor = actor; times = 1 }) turn e in
+    let one : record { actor = actor; times = 1 } ≡ turn = same_Some (record { actor = actor; times = 1 }) turn e in
     let whole : take n b ≡ b = sym (append-nil (take n b)) ∙ ap (λ l. take n b ++ l) (sym is) ∙ take-append-drop n b in
     subst (Spells b) one (inl (subst (λ l. Number l actor) whole (number_sound (take n b) actor left), refl))
 turn_cases b n turn (Some actor) (x ∷ xs) left is e = star_cases b n actor x xs turn (x == 42) (number_of xs) left is refl refl e
@@ -83,7 +79,7 @@ turn_sound b turn e = let n = prefix_len is_ascii_digit b in turn_cases b n turn
 
 -- a word spells at most one turn
 pub turn_one : (b : List ℕ) (one other : Turn) → Spells b one → Spells b other → one ≡ other
-turn_one b one other h i = some_one one other (sym (turn_read b one h) ∙ turn_read b other i)
+turn_one b one other h i = same_Some one other (sym (turn_read b one h) ∙ turn_read b other i)
 
 pub no_turn : (b : List ℕ) → turn_of b ≡ None → (turn : Turn) → Spells b turn → ⊥
-no_turn b none turn h = none_some turn (sym none ∙ turn_read b turn h)
+no_turn b none turn h = none-some turn (sym none ∙ turn_read b turn h)

@@ -42,14 +42,14 @@ abbrev pub word_at : List ℕ → ℕ → List ℕ
 word_at text at = take (prefix_len no_blank (drop at text)) (drop at text)
 
 -- A blank was passed, or a word read: where it ends, how many turns there are then, and the turns.
-abbrev pub Steps : List ℕ → ℕ → ℕ → List Turn → List Turn → ℕ × ℕ → Type 0
+abbrev pub Steps : List ℕ → (at total : ℕ) → (old new : List Turn) → ℕ × ℕ → Type 0
 Steps text at total old new r =
     ((prefix_len no_blank (drop at text) ≡ 0) × (r ≡ (at + 1, total)) × (new ≡ old))
     ⊎ ((turn : Turn) × (0 < prefix_len no_blank (drop at text)) × (turn_of (word_at text at) ≡ Some turn) × (total + turn.times ≤ turn_limit)
     × (r ≡ (at + prefix_len no_blank (drop at text), total + turn.times)) × (new ≡ old ++ turn ∷ []))
 
 -- the fault of a step
-abbrev pub Stuck : List ℕ → ℕ → ℕ → SchedFault → Type 0
+abbrev pub Stuck : List ℕ → (at total : ℕ) → SchedFault → Type 0
 Stuck text at total (fault.BadWord p) = (p ≡ at) × (0 < prefix_len no_blank (drop at text)) × (turn_of (word_at text at) ≡ None)
 Stuck text at total (fault.TooMany p) = (p ≡ at) × (0 < prefix_len no_blank (drop at text)) × (turn : Turn) × (turn_of (word_at text at) ≡ Some turn) × (turn_limit < total + turn.times)
 Stuck text at total fault.Memory = ⊤

@@ -31,14 +31,14 @@ AtWordEnd [] = ⊤
 AtWordEnd (b ∷ bs) = is_blank b ≡ true
 
 -- One blank, or bytes that are no blanks, as many as there are, before the rest.
-abbrev pub Stands : Piece → List ℕ → Type 0
-Stands (blank b) rest = is_blank b ≡ true
-Stands (word b) rest = (0 < length b) × (list_all no_blank b ≡ true) × AtWordEnd rest
+abbrev pub IsPiece : Piece → List ℕ → Type 0
+IsPiece (blank b) rest = is_blank b ≡ true
+IsPiece (word b) rest = (0 < length b) × (list_all no_blank b ≡ true) × AtWordEnd rest
 
 -- The text is cut into these pieces, and the rest.
 abbrev pub Pieces : List ℕ → List Piece → List ℕ → Type 0
 Pieces text [] rest = text ≡ rest
-Pieces text (p ∷ ps) rest = (mid : List ℕ) × (text ≡ bytes_of p ++ mid) × Stands p mid × Pieces mid ps rest
+Pieces text (p ∷ ps) rest = (mid : List ℕ) × (text ≡ bytes_of p ++ mid) × IsPiece p mid × Pieces mid ps rest
 
 -- the number that decimal digits make behind those that made acc
 abbrev pub value : ℕ → List ℕ → ℕ
@@ -83,7 +83,7 @@ pub record WordAt (text : List ℕ) (at : ℕ) (turns : List Turn) (b : List ℕ
   pub pieces : List Piece
   pub rest : List ℕ
   pub cut : Pieces text pieces (b ++ rest)
-  pub stands : Stands (word b) rest
+  pub stands : IsPiece (word b) rest
   pub spelled : Spelled pieces turns
   pub few : total turns ≤ turn_limit
   pub place : at + length (b ++ rest) ≡ length text

@@ -1,3 +1,4 @@
+//! Why bytes are no schedule, with the byte of the fault.
 ghost use Rattle.std.specs.Prelude.{◌≡◌};
 
 use std::alloc::AllocError;

@@ -1,3 +1,4 @@
+//! The laws on schedules, as calls that do nothing.
 ghost use Rattle.pc_sched.specs.Laws.{OneList, NotBoth, OneFault, ListOrFault};
 
 /// A text spells at most one list of turns.

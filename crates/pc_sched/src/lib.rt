@@ -1,12 +1,15 @@
 //! Schedules: which actor takes how many turns. `docs/schedules.md` says what their text is, `specs/Schedules.antt`
 //! defines it.
+//!
+//! Proved: `read` is Ok with exactly the turns that a schedule's text spells, or else names the first word that spells
+//! none or makes them too many; a text has turns or one first fault, and not both.
+//!
+//! Only tested: that it is linear.
 #![tactic(auto)]
 
 mod fault;
 mod laws;
 mod reading;
-#[cfg(test)]
-mod tests;
 mod turns;
 
 pub use fault::SchedFault;

@@ -1,3 +1,4 @@
+//! The reading of a schedule, word by word.
 ghost use Rattle.std.specs.Prelude.{◌≡◌, ◌<◌, ◌≤◌, List as Sequence, length, Ok, Err, IfOk, IfErr};
 ghost use Rattle.std.specs.List.{prefix_len};
 ghost use Rattle.pc_sched.specs.declared.turns.Turn.{Turn};

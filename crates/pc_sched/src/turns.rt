@@ -1,3 +1,4 @@
+//! A word as turns: an actor's number, and how many times.
 ghost use Rattle.std.specs.Prelude.{◌≡◌, ◌≤◌, ◌+◌, ◌-◌, ◌*◌, length, true};
 ghost use Rattle.std.specs.List.{prefix_len, list_all};
 ghost use Rattle.pc_sched.specs.Schedules as schedules;

@@ -7,6 +7,8 @@ use Rattle.pc_token.specs.declared.signs.Sign.{Sign}
 use Rattle.pc_token.specs.declared.signs.Sign.TheVariants as sign
 use Rattle.pc_token.specs.declared.signs.TheConstants.{SIGNS}
 use Rattle.pc_token.specs.Signs.{sign_text, first_sign, sign_at}
+use Rattle.std.proofs.lemmas.Option.{same_Some}
+use Rattle.pc_lists.proofs.Options.{none_some}
 
 abbrev pub IsIn : Sign → List Sign → Type 0
 IsIn s [] = ⊥
@@ -75,15 +77,9 @@ sign_max text s is = first_max SIGNS text s refl (listed s) is
 abbrev Found : List ℕ → Sign × ℕ → Type 0
 Found text r = (length (sign_text r.0) ≡ r.1) × (starts_with nat_eq text (sign_text r.0) ≡ true)
 
-some_one : (x y : Sign × ℕ) → Some x ≡ Some y → x ≡ y
-some_one x y e = cc
-
-none_some : {A : Type 0} {x : A} → None ≡ Some x → ⊥
-none_some e = cc
-
 sound_step : (x : Sign) (xs : List Sign) (text : List ℕ) (r : Sign × ℕ) (t : Bool) → starts_with nat_eq text (sign_text x) ≡ t → cond t (Some (x, length (sign_text x))) (first_sign xs text) ≡ Some r
     → (first_sign xs text ≡ Some r → Found text r) → Found text r
-sound_step x xs text r true is e more = subst (Found text) (some_one (x, length (sign_text x)) r e) (refl, is)
+sound_step x xs text r true is e more = subst (Found text) (same_Some (x, length (sign_text x)) r e) (refl, is)
 sound_step x xs text r false is e more = more e
 
 first_sound : (xs : List Sign) (text : List ℕ) (r : Sign × ℕ) → first_sign xs text ≡ Some r → Found text r
@@ -121,10 +117,10 @@ sign_own sign.Less = refl
 sign_own sign.Greater = refl
 
 pub sign_one : (s t : Sign) → sign_text s ≡ sign_text t → s ≡ t
-sign_one s t e = ap (λ r. r.0) (some_one (s, length (sign_text s)) (t, length (sign_text t)) (sym (sign_own s) ∙ ap sign_at e ∙ sign_own t))
+sign_one s t e = ap (λ r. r.0) (same_Some (s, length (sign_text s)) (t, length (sign_text t)) (sym (sign_own s) ∙ ap sign_at e ∙ sign_own t))
 
 most_step : (text : List ℕ) (r : Sign × ℕ) (other : Sign) → sign_at text ≡ Some r → (q : Sign × ℕ) × (sign_at text ≡ Some q) × (length (sign_text other) ≤ q.1) → length (sign_text other) ≤ r.1
-most_step text r other e h = let same = some_one r h.0 (sym e ∙ h.1) in omega (arith, h.2, ap (λ x. x.1) same)
+most_step text r other e h = let same = same_Some r h.0 (sym e ∙ h.1) in omega (arith, h.2, ap (λ x. x.1) same)
 
 pub sign_longest : (text : List ℕ) (r : Sign × ℕ) → sign_at text ≡ Some r
     → (starts_with nat_eq text (sign_text r.0) ≡ true) × (r.1 ≡ length (sign_text r.0)) × ((other : Sign) → starts_with nat_eq text (sign_text other) ≡ true → length (sign_text other) ≤ r.1)

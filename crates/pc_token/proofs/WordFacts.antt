@@ -8,12 +8,8 @@ use Rattle.pc_token.specs.declared.words.Word.{Word}
 use Rattle.pc_token.specs.declared.words.Word.TheVariants as word
 use Rattle.pc_token.specs.declared.words.TheConstants.{WORDS}
 use Rattle.pc_token.specs.Words.{word_text, first_word, word_of}
-
-none_some : {A : Type 0} {x : A} → None ≡ Some x → ⊥
-none_some e = cc
-
-some_one : (x y : Word) → Some x ≡ Some y → x ≡ y
-some_one x y e = cc
+use Rattle.pc_lists.proofs.Options.{none_some}
+use Rattle.std.proofs.lemmas.Option.{same_Some}
 
 -- a word is the one with its spelling
 pub word_own : (w : Word) → word_of (word_text w) ≡ Some w
@@ -79,7 +75,7 @@ word_own word.AddressofWord = refl
 word_own word.DigestofWord = refl
 
 first_step : (x w : Word) (xs : List Word) (b : List ℕ) (t : Bool) → bytes_eq (word_text x) b ≡ t → cond t (Some x) (first_word xs b) ≡ Some w → (first_word xs b ≡ Some w → word_text w ≡ b) → word_text w ≡ b
-first_step x w xs b true e found more = ap word_text (sym (some_one x w found)) ∙ (bytes_eq-Decides (word_text x) b).0 e
+first_step x w xs b true e found more = ap word_text (sym (same_Some x w found)) ∙ (bytes_eq-Decides (word_text x) b).0 e
 first_step x w xs b false e found more = more found
 
 first_sound : (ws : List Word) (b : List ℕ) (w : Word) → first_word ws b ≡ Some w → word_text w ≡ b
@@ -99,7 +95,7 @@ word_none b none w e = none_some (sym none ∙ word_found b w e)
 
 passes_step : (p : List ℕ → Bool) (x w : Word) (xs : List Word) (b : List ℕ) (t : Bool) → bytes_eq (word_text x) b ≡ t → cond t (Some x) (first_word xs b) ≡ Some w → p (word_text x) ≡ true
     → (first_word xs b ≡ Some w → p (word_text w) ≡ true) → p (word_text w) ≡ true
-passes_step p x w xs b true e found here more = ap (λ y. p (word_text y)) (sym (some_one x w found)) ∙ here
+passes_step p x w xs b true e found here more = ap (λ y. p (word_text y)) (sym (same_Some x w found)) ∙ here
 passes_step p x w xs b false e found here more = more found
 
 passes : (p : List ℕ → Bool) (ws : List Word) (b : List ℕ) (w : Word) → list_all (λ x. p (word_text x)) ws ≡ true → first_word ws b ≡ Some w → p (word_text w) ≡ true

@@ -1,3 +1,4 @@
+//! Tests on a token: which word or sign it is.
 ghost use Rattle.std.specs.Prelude.{◌≡◌, ◌≢◌, ◌↔◌, IsTrue, true, false};
 ghost use Rattle.pc_token.specs.declared.kinds.TokenKind.TheVariants as kind;
 ghost use Rattle.pc_token.specs.Asking as spec;

@@ -1,3 +1,4 @@
+//! Tokens and their kinds.
 use crate::signs::Sign;
 use crate::words::Word;
 use pc_caps::{List, Span};

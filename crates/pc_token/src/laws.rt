@@ -1,3 +1,4 @@
+//! The laws on words and signs, as calls that do nothing.
 ghost use Rattle.pc_token.specs.Laws.{WordFound, WordOnly, SignFound, SignNone, SignOnly};
 
 /// A word is found by its spelling, and by no other; so no two words are spelled alike.

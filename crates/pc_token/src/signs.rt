@@ -1,3 +1,4 @@
+//! The signs, and the longest one that a text begins with.
 ghost use Rattle.std.specs.Prelude.{◌≡◌, ◌≤◌, length, IfSome};
 ghost use Rattle.pc_token.specs.Signs as spec;
 

@@ -1,3 +1,4 @@
+//! The reserved words, and how they are spelled.
 ghost use Rattle.std.specs.Prelude.{◌≡◌};
 ghost use Rattle.pc_token.specs.Words as spec;
 

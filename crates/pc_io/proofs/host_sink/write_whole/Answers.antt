@@ -1,6 +1,7 @@
 use Rattle.std.proofs.Common.{arith}
 use Rattle.std.proofs.lemmas.Grind.{common_steps}
-use Rattle.pc_io.proofs.Progress.{further, unmoved}
+use Rattle.pc_io.proofs.Progress.{further}
+use Rattle.std.proofs.KnownBytes.{Appends-kept}
 use Rattle.pc_io.proofs.host_sink.write_whole.Goals as goal
 use Rattle.pc_io.proofs.host_sink.write_whole.Goals.{in-Ok, in-Err+else-ne}
 
@@ -10,5 +11,5 @@ loop-preserved g c = elim c.match-write.branch [
       further _ _ _ c.args.piece.now _ c.loop.at w.in-Ok.count c.match-write.at (grind (arith, common_steps)) w.at-is c.loop.invariant.0 c.loop.invariant.1
       w.in-Ok.ensures.bound w.in-Ok.ensures.bytes
   | in-Err+else-ne w ↦
-      rw w.at-is (c.loop.invariant.0, unmoved _ _ _ _ c.loop.invariant.1 w.in-Err.ensures.bytes)
+      rw w.at-is (c.loop.invariant.0, Appends-kept _ _ _ _ c.loop.invariant.1 w.in-Err.ensures.bytes)
 ]

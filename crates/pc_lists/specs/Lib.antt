@@ -1,0 +1,5 @@
+pub mod Options
+pub mod Places
+pub mod Ranges
+pub mod Lookup
+pub mod Counts
