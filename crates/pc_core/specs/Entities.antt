@@ -1,25 +1,26 @@
 -- What entities are built in, and when an entity fits its core.
-use Rattle.std.specs.Prelude.{◌≡◌, ◌⊎◌, ◌↔◌, ℕ, ◌<◌, ◌≤◌, Bool, true, false, List, [], ◌∷◌, ◌++◌, map, length, Some, None, slice_get, codes}
+use Rattle.std.specs.Prelude.{◌≡◌, ◌⊎◌, ◌↔◌, ℕ, ◌<◌, ◌≤◌, true, List, [], ◌∷◌, ◌++◌, map, length, Some, None, slice_get, codes}
 use Rattle.pc_caps.specs.declared.capability.Cap.{Cap}
 use Rattle.pc_caps.specs.declared.capability.Cap.TheVariants as cap
 use Rattle.pc_caps.specs.declared.capability.Form.TheVariants as form
 use Rattle.pc_caps.specs.declared.span.Span.{Span}
 use Rattle.pc_tree.specs.declared.kinds.EntityKind.{EntityKind}
 use Rattle.pc_tree.specs.declared.kinds.EntityKind.TheVariants as kind
+use Rattle.pc_tree.specs.Kinds.{is_abstract, may_have_fields}
 use Rattle.pc_core.specs.declared.declarations.EntityDef.{EntityDef}
 use Rattle.pc_core.specs.declared.declarations.FieldInfo.{FieldInfo}
 use Rattle.pc_core.specs.declared.declarations.Method.{Method}
 use Rattle.pc_core.specs.declared.declarations.MethodKind.TheVariants as method
 use Rattle.pc_core.specs.declared.declarations.ParamInfo.{ParamInfo}
 use Rattle.pc_core.specs.CoreData.{CoreData}
-use Rattle.pc_core.specs.Words.{Each, Has, Differ, Ascends}
+use Rattle.pc_lists.specs.Places.{Each, Has, Differ, Ascends}
 use Rattle.pc_core.specs.Lookup.{own_methods, field_name, method_name}
 
 -- Built-in parts stand nowhere in the text.
 abbrev pub nowhere : Span
 nowhere = record { start = 0; end = 0 }
 
--- A built-in entity, which is below no trait.
+-- A built-in entity, which names nothing after `is`.
 abbrev pub built_in : EntityKind → Cap → List ℕ → List FieldInfo → ℕ → EntityDef
 built_in k c name fields methods = record { kind = k; cap = c; name = name; span = nowhere; provides = []; above = []; fields = fields; first_method = 0; methods = methods }
 
@@ -79,9 +80,9 @@ pub record HasMain (core : CoreData) : Type 0 where
   pub env : param.entity ≡ 4
   pub cap : param.cap ≡ cap.Val
 
--- An entity is a trait.
-abbrev pub IsTrait : CoreData → ℕ → Type 0
-IsTrait core e = (x : EntityDef) × (slice_get core.entities e ≡ Some x) × (x.kind ≡ kind.Trait)
+-- An entity is a trait or an interface.
+abbrev pub IsAbstract : CoreData → ℕ → Type 0
+IsAbstract core e = (x : EntityDef) × (slice_get core.entities e ≡ Some x) × (is_abstract x.kind ≡ true)
 
 -- The `is` list of an entity names another.
 abbrev pub Names : CoreData → ℕ → ℕ → Type 0
@@ -92,16 +93,10 @@ pub data Leads (core : CoreData) : ℕ → ℕ → Type 0 where
   one : {a b : ℕ} → Names core a b → Leads core a b
   more : {a b c : ℕ} → Names core a b → Leads core b c → Leads core a c
 
--- Fields stand in classes and actors.
-abbrev pub may_have_fields : EntityKind → Bool
-may_have_fields kind.Class = true
-may_have_fields kind.Actor = true
-may_have_fields k = false
-
 -- Entity number e fits the core.
 pub record EntityFits (core : CoreData) (e : ℕ) (x : EntityDef) : Type 0 where
-  -- its `is` list names traits, and `above` is what they lead to
-  pub provides : Each (λ i b. IsTrait core b) x.provides
+  -- its `is` list names traits and interfaces, and `above` is what they lead to
+  pub provides : Each (λ i b. IsAbstract core b) x.provides
   pub ascends : Ascends x.above
   pub above : (b : ℕ) → (Has x.above b) ↔ (Leads core e b)
   -- its fields

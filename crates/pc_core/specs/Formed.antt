@@ -1,7 +1,8 @@
 -- When the lists of a core fit together.
 use Rattle.std.specs.Prelude.{◌-◌, ◌<◌, ◌^◌, map, length}
 use Rattle.pc_core.specs.CoreData.{CoreData}
-use Rattle.pc_core.specs.Words.{Each, Differ, Follow}
+use Rattle.pc_lists.specs.Ranges.{Follow}
+use Rattle.pc_lists.specs.Places.{Each, Differ}
 use Rattle.pc_core.specs.Lookup.{node_end}
 use Rattle.pc_core.specs.Entities.{HasBuiltIn, HasMain, EntityFits}
 use Rattle.pc_core.specs.Methods.{MethodFits}

@@ -1,35 +1,22 @@
 -- A core that grows at its ends by methods, slots and nodes, and nodes in post-order one by one.
-use Rattle.std.specs.Prelude.{◌≡◌, ◌≢◌, ◌⊎◌, ℕ, zero, suc, ◌+◌, ◌-◌, ◌<◌, ◌≤◌, List, [], ◌∷◌, ◌++◌, length, take, drop, Some, slice_get, slice_range}
+use Rattle.std.specs.Prelude.{◌≡◌, ◌≢◌, ℕ, zero, suc, ◌+◌, ◌-◌, ◌<◌, ◌≤◌, List, [], ◌∷◌, ◌++◌, length, Some, slice_get}
 use Rattle.std.proofs.Common.{inl, inr, ap, sym, subst, ◌∙◌, arith}
-use Rattle.std.proofs.lemmas.List.{length-drop, drop-append-le, take-append-le}
 use Rattle.std.proofs.lemmas.Option.{same_Some, none-some}
-use Rattle.pc_caps.specs.Gets.{get_below, get_front, get_push}
+use Rattle.pc_lists.proofs.Gets.{get_below, get_front, get_append, append_get}
 use Rattle.pc_core.specs.declared.declarations.Method.{Method}
 use Rattle.pc_core.specs.declared.nodes.Slot.{Slot}
 use Rattle.pc_core.specs.declared.nodes.Node.{Node}
 use Rattle.pc_core.specs.declared.nodes.NodeKind.{NodeKind}
 use Rattle.pc_core.specs.declared.nodes.NodeKind.TheVariants as node
 use Rattle.pc_core.specs.CoreData.{CoreData}
-use Rattle.pc_core.specs.Words.{Each}
+use Rattle.pc_lists.specs.Places.{Each}
 use Rattle.pc_core.specs.Lookup.{own_nodes, node_end}
 use Rattle.pc_core.specs.Methods.{LocalFits, SlotsFit, PostOrder, BodyFits, MethodFits}
 use Rattle.pc_core.specs.Nodes.{NodeFits, NamesFit, NamesSlot}
+use Rattle.pc_lists.proofs.Elements.{below_next}
+use Rattle.pc_lists.proofs.Cuts.{range_front}
 
 -- ---- post-order
-
--- A list behind another, place by place.
-pub get_append : {T : Type 0} → (xs ys : List T) (n : ℕ) → slice_get (xs ++ ys) (length xs + n) ≡ slice_get ys n
-get_append [] ys n = let e : 0 + n ≡ n = omega arith in ap (slice_get ys) e
-get_append (x ∷ xs) ys n = let e : length (x ∷ xs) + n ≡ suc (length xs + n) = omega arith in ap (slice_get (x ∷ xs ++ ys)) e ∙ get_append xs ys n
-
-pub append_get : {T : Type 0} → (xs ys : List T) (n : ℕ) (y : T) → slice_get (xs ++ ys) n ≡ Some y → (slice_get xs n ≡ Some y) ⊎ ((length xs ≤ n) × (slice_get ys (n - length xs) ≡ Some y))
-append_get [] ys n y e = let k : n ≡ n - 0 = omega arith in inr (omega arith, ap (slice_get ys) (sym k) ∙ e)
-append_get (x ∷ xs) ys zero y e = inl e
-append_get (x ∷ xs) ys (suc n) y e =
-    elim (append_get xs ys n y e) [
-      | inl a ↦ inl a
-      | inr b ↦ let l = b.0 in let k : suc n - length (x ∷ xs) ≡ n - length xs = omega arith in inr (omega (arith, l), ap (slice_get ys) k ∙ b.1)
-    ]
 
 -- One more node, whose children are the last of those that wait.
 pub post_order_push : (n : ℕ) (xs : List Node) (waiting rest : List ℕ) (x : Node) → PostOrder n xs waiting (rest ++ x.children) → PostOrder n (xs ++ x ∷ []) waiting (rest ++ (n + length xs) ∷ [])
@@ -37,13 +24,6 @@ post_order_push n [] waiting rest x p = let e : n ≡ n + 0 = omega arith in (re
 post_order_push n (y ∷ ys) waiting rest x p =
     let e : n + 1 + length ys ≡ n + length (y ∷ ys) = omega arith in
     (p.0, p.1, subst (λ k. PostOrder (n + 1) (ys ++ x ∷ []) (p.0 ++ n ∷ []) (rest ++ k ∷ [])) e (post_order_push (n + 1) ys (p.0 ++ n ∷ []) rest x p.2))
-
-below_next : (n : ℕ) (rest : List ℕ) → Each (λ i c. c < n) rest → Each (λ i c. c < n + 1) (rest ++ n ∷ [])
-below_next n rest b i c e =
-    elim (get_push rest n i c e) [
-      | inl h ↦ let l = b i c h in omega (arith, l)
-      | inr h ↦ let s = h.1 in omega (arith, s)
-    ]
 
 -- The children of a node come before it.
 pub children_before : (n : ℕ) (xs : List Node) (waiting last : List ℕ) → PostOrder n xs waiting last → Each (λ i c. c < n) waiting → Each (λ i x. Each (λ k c. c < n + i) x.children) xs
@@ -59,14 +39,6 @@ children_before n (y ∷ ys) waiting last p b (suc i) x e = λ k c h.
     omega (arith, l)
 
 -- ---- more methods, slots and nodes
-
--- A range of the front.
-pub range_front : {T : Type 0} → (xs ys : List T) (a b : ℕ) → a ≤ b → b ≤ length xs → slice_range (xs ++ ys) a b ≡ slice_range xs a b
-range_front xs ys a b low high =
-    let within : a ≤ length xs = omega (arith, low, high) in
-    let rest : length (drop a xs) ≡ length xs - a = length-drop a xs in
-    let room : b - a ≤ length (drop a xs) = omega (arith, rest, high) in
-    ap (take (b - a)) (drop-append-le a xs ys within) ∙ take-append-le (b - a) (drop a xs) ys room
 
 -- A core with more methods, slots and nodes.
 abbrev pub grown : CoreData → List Method → List Slot → List Node → CoreData

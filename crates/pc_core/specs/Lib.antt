@@ -1,7 +1,5 @@
-pub mod Words
 pub mod CoreData
 pub mod Lookup
-pub mod Runs
 pub mod Entities
 pub mod Methods
 pub mod Nodes

@@ -1,12 +1,13 @@
 -- What belongs to an entity or a method, and the fields and methods of an entity by their names.
-use Rattle.std.specs.Prelude.{◌≡◌, ℕ, ◌+◌, List, [], ◌∷◌, Option, Some, None, nat_eq, slice_get, slice_range, if◌then◌else◌}
+use Rattle.std.specs.Prelude.{◌≡◌, ℕ, ◌+◌, List, Option, Some, None, slice_get, slice_range}
 use Rattle.pc_core.specs.declared.declarations.EntityDef.{EntityDef}
 use Rattle.pc_core.specs.declared.declarations.FieldInfo.{FieldInfo}
 use Rattle.pc_core.specs.declared.declarations.Method.{Method}
 use Rattle.pc_core.specs.declared.nodes.Slot.{Slot}
 use Rattle.pc_core.specs.declared.nodes.Node.{Node}
 use Rattle.pc_core.specs.CoreData.{CoreData}
-use Rattle.pc_core.specs.Words.{◌>>=◌}
+use Rattle.pc_lists.specs.Options.{◌>>=◌}
+use Rattle.pc_lists.specs.Lookup.{place_of}
 
 -- The methods of an entity.
 abbrev pub own_methods : CoreData → EntityDef → List Method
@@ -24,11 +25,6 @@ node_end first (Some body) = body + 1
 -- The nodes of a method.
 abbrev pub own_nodes : CoreData → Method → List Node
 own_nodes core x = slice_range core.nodes x.first_node (node_end x.first_node x.body)
-
--- The place of the first element of this name, where the first element of the list has place `at`.
-abbrev pub place_of : {T : Type 0} → (T → ℕ) → ℕ → List T → ℕ → Option ℕ
-place_of name_of name [] at = None
-place_of name_of name (x ∷ xs) at = if nat_eq (name_of x) name then Some at else place_of name_of name xs (at + 1)
 
 abbrev pub field_name : FieldInfo → ℕ
 field_name f = f.name
@@ -49,11 +45,11 @@ method_named core entity name = do
   place_of method_name name (own_methods core x) x.first_method
 
 -- The entity has a field of this name at this index.
-abbrev pub IsField : CoreData → ℕ → ℕ → ℕ → Type 0
+abbrev pub IsField : CoreData → (entity name index : ℕ) → Type 0
 IsField core entity name i =
     (x : EntityDef) × (f : FieldInfo) × (slice_get core.entities entity ≡ Some x) × (slice_get x.fields i ≡ Some f) × (f.name ≡ name)
 
 -- The entity has a method of this name, which is this one.
-abbrev pub IsMethod : CoreData → ℕ → ℕ → ℕ → Type 0
+abbrev pub IsMethod : CoreData → (entity name method : ℕ) → Type 0
 IsMethod core entity name m =
     (y : Method) × (slice_get core.methods m ≡ Some y) × (y.entity ≡ entity) × (y.name ≡ name)

@@ -1,21 +1,18 @@
 -- What a core that fits together gives of the fields and methods of its entities.
-use Rattle.std.specs.Prelude.{◌≡◌, ℕ, ◌+◌, ◌-◌, ◌<◌, ◌≤◌, ◌^◌, length, drop, MatchOption, Option, Some, None, slice_get, refl}
+use Rattle.std.specs.Prelude.{◌≡◌, ℕ, ◌+◌, ◌-◌, ◌<◌, ◌≤◌, ◌^◌, length, drop, MatchOption, Option, Some, None, slice_get}
 use Rattle.std.proofs.Common.{ap, sym, subst, ◌∙◌, arith}
 use Rattle.std.proofs.lemmas.List.{length-drop, length-take-le}
-use Rattle.std.proofs.lemmas.Option.{none-some}
 use Rattle.pc_core.specs.declared.declarations.EntityDef.{EntityDef}
 use Rattle.pc_core.specs.declared.declarations.Method.{Method}
 use Rattle.pc_core.specs.CoreData.{CoreData}
-use Rattle.pc_core.specs.Words.{◌>>=◌}
-use Rattle.pc_core.specs.Lookup.{own_methods, place_of, field_name, method_name, field_named, method_named, IsField, IsMethod}
-use Rattle.pc_caps.specs.Gets.{get_below}
-use Rattle.pc_core.specs.Runs.{get_map, map_get, get_range, range_get, run_within, run_around, place_found, place_missed}
+use Rattle.pc_lists.specs.Options.{◌>>=◌}
+use Rattle.pc_core.specs.Lookup.{own_methods, field_name, method_name, field_named, method_named, IsField, IsMethod}
+use Rattle.pc_lists.specs.Lookup.{place_of}
+use Rattle.pc_lists.proofs.Gets.{get_below, get_map, map_get, get_range, range_get}
+use Rattle.pc_lists.proofs.Lookup.{place_found, place_missed}
+use Rattle.pc_lists.proofs.Ranges.{run_within, run_around}
 use Rattle.pc_core.specs.Formed.{Formed}
-
--- The first part of a computation that has a result has one.
-pub bind_some : {A B : Type 0} → (o : Option A) (f : A → Option B) (y : B) → (o >>= f) ≡ Some y → (x : A) × (o ≡ Some x) × (f x ≡ Some y)
-bind_some None f y e = absurd (none-some y e)
-bind_some (Some x) f y e = (x, refl, e)
+use Rattle.pc_lists.proofs.Options.{bind_some}
 
 -- An entity's methods lie within the list.
 pub methods_within : (core : CoreData) (e : ℕ) (x : EntityDef) → Formed core → slice_get core.entities e ≡ Some x → x.first_method + x.methods ≤ length core.methods

@@ -6,6 +6,9 @@ use Rattle.pc_caps.specs.declared.capability.Cap.TheVariants as cap
 use Rattle.pc_caps.specs.declared.capability.Form.TheVariants as form
 use Rattle.pc_tree.specs.declared.kinds.EntityKind.{EntityKind}
 use Rattle.pc_tree.specs.declared.kinds.EntityKind.TheVariants as kind
+use Rattle.pc_tree.specs.declared.kinds.MethodWord.{MethodWord}
+use Rattle.pc_tree.specs.declared.kinds.MethodWord.TheVariants as word
+use Rattle.pc_tree.specs.Kinds.{is_abstract, may_stand}
 use Rattle.pc_core.specs.declared.declarations.EntityDef.{EntityDef}
 use Rattle.pc_core.specs.declared.declarations.Method.{Method}
 use Rattle.pc_core.specs.declared.declarations.MethodKind.{MethodKind}
@@ -18,17 +21,25 @@ use Rattle.pc_core.specs.declared.nodes.Node.{Node}
 use Rattle.pc_core.specs.declared.nodes.NodeKind.{NodeKind}
 use Rattle.pc_core.specs.declared.nodes.NodeKind.TheVariants as node
 use Rattle.pc_core.specs.CoreData.{CoreData}
-use Rattle.pc_core.specs.Words.{Each, Has}
+use Rattle.pc_lists.specs.Places.{Each, Has}
 use Rattle.pc_core.specs.Lookup.{own_slots, own_nodes}
 
--- The entities in which a method of this kind stands.
-abbrev pub stands_in : MethodKind → EntityKind → Bool
-stands_in method.Fun k = true
-stands_in method.Be kind.Actor = true
-stands_in method.Be kind.Trait = true
-stands_in method.New kind.Class = true
-stands_in method.Spawn kind.Actor = true
-stands_in m k = false
+-- The kind of a constructor, and of a method with this word: an actor's constructor spawns it.
+abbrev pub constructor_kind : EntityKind → MethodKind
+constructor_kind kind.Class = method.New
+constructor_kind kind.Actor = method.Spawn
+constructor_kind kind.Primitive = method.New
+constructor_kind kind.Trait = method.New
+constructor_kind kind.Interface = method.New
+
+abbrev pub word_kind : EntityKind → MethodWord → MethodKind
+word_kind e word.Fun = method.Fun
+word_kind e word.Be = method.Be
+word_kind e word.New = constructor_kind e
+
+-- A method of this kind stands in such an entity: it is one with a word that may stand there.
+abbrev pub StandsIn : MethodKind → EntityKind → Type 0
+StandsIn m e = (w : MethodWord) × (may_stand e w ≡ true) × (word_kind e w ≡ m)
 
 -- A behaviour answers None, and a constructor a new object of its entity: an actor's as `tag`, a class's as a value of
 -- some capability that no place holds. In all three `this` is `ref`.
@@ -110,7 +121,7 @@ pub record MethodFits (core : CoreData) (m : ℕ) (x : Method) : Type 0 where
   -- the entity that it belongs to
   pub owner : EntityDef
   pub is_owner : slice_get core.entities x.entity ≡ Some owner
-  pub placed : stands_in x.kind owner.kind ≡ true
+  pub placed : StandsIn x.kind owner.kind
   -- its declaration
   pub name : x.name < length core.names
   pub params : Each (λ i p. p.entity < length core.entities) x.params
@@ -120,5 +131,5 @@ pub record MethodFits (core : CoreData) (m : ℕ) (x : Method) : Type 0 where
   pub few_slots : x.slots ≤ 64
   pub slots : (m ≡ 0) ⊎ SlotsFit core m x
   -- its nodes
-  pub has_body : (m ≡ 0) ⊎ (owner.kind ≡ kind.Trait) ⊎ IsSome x.body
+  pub has_body : (m ≡ 0) ⊎ (is_abstract owner.kind ≡ true) ⊎ IsSome x.body
   pub body : (b : ℕ) → x.body ≡ Some b → BodyFits core m x b

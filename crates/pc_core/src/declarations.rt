@@ -3,7 +3,7 @@
 use pc_caps::{Cap, Form, List, Span};
 use pc_tree::EntityKind;
 
-/// An entity: a class, an actor, a primitive or a trait.
+/// An entity: a class, an actor, a primitive, a trait or an interface.
 #[derive(Debug, Drop)]
 pub struct EntityDef {
     pub kind: EntityKind,
@@ -12,7 +12,7 @@ pub struct EntityDef {
     pub name: List<u8>,
     /// The place of the name.
     pub span: Span,
-    /// The traits of its `is` list, by their numbers, in the order of the text.
+    /// The traits and interfaces of its `is` list, by their numbers, in the order of the text.
     pub provides: List<u32>,
     /// The entities to which a chain of at least one `is` leads, by their numbers, in ascending order.
     pub above: List<u32>,

@@ -1,4 +1,7 @@
 //! The core of a program: its entities, methods, slots and nodes as lists in which everything is named by its number.
+//!
+//! Proved: A core is formed, in all its parts, as an invariant of its type; `field` and `method` find exactly what is
+//! there.
 #![tactic(auto)]
 
 mod cores;

@@ -1,6 +1,7 @@
 //! Fields and methods by their names.
 ghost use Rattle.std.specs.Prelude.{◌≡◌, ℕ, ◌+◌, ◌<◌, ◌≤◌, ◌^◌, length, MatchOption, slice_range};
 ghost use Rattle.pc_core.specs.Lookup as spec;
+ghost use Rattle.pc_lists.specs.Lookup.{place_of};
 
 use crate::cores::Core;
 use crate::declarations::{FieldInfo, Method};
@@ -41,7 +42,7 @@ fn part(methods: &[Method], first: u32, count: u32) -> &[Method]
 // The index of the first field of this name.
 fn place_of_field(fields: &[FieldInfo], name: u32) -> Option<u32>
     requires { length fields.now ≤ 64 }
-    ensures { result ≡ spec.place_of spec.field_name name fields.now 0 }
+    ensures { result ≡ place_of spec.field_name name fields.now 0 }
 {
     let mut at = 0;
     for field in fields {
@@ -56,7 +57,7 @@ fn place_of_field(fields: &[FieldInfo], name: u32) -> Option<u32>
 // The number of the first method of this name, where the first one has this number.
 fn place_of_method(methods: &[Method], name: u32, first: u32) -> Option<u32>
     requires { first + length methods.now < 2 ^ 32 }
-    ensures { result ≡ spec.place_of spec.method_name name methods.now first }
+    ensures { result ≡ place_of spec.method_name name methods.now first }
 {
     let mut at = first;
     for method in methods {

@@ -1,8 +1,8 @@
 -- The loops of the rules, whatever they read.
 use Rattle.std.proofs.Common.{◌≡◌, ℕ, suc, ◌-◌, ◌<◌, ◌≤◌, List, [], ◌∷◌, ◌++◌, length, Option, Some, None, Ok, Err, refl, sym, ap, ◌∙◌, arith, append_assoc, append-nil}
 use Rattle.pc_token.specs.declared.kinds.Token.{Token}
-use Rattle.pc_expr.specs.declared.stop.Stop.{Stop}
-use Rattle.pc_expr.specs.declared.stop.Stop.TheVariants as stop
+use Rattle.pc_expr.specs.declared.stop.ParseStop.{ParseStop}
+use Rattle.pc_expr.specs.declared.stop.ParseStop.TheVariants as stop
 use Rattle.pc_expr.specs.Gives.{Stops}
 use Rattle.pc_expr.specs.Onto.{onto}
 use Rattle.pc_grammar.specs.Reading.{Fault, Outcome, Parser, and_then, pure, many, many_step, all}
@@ -47,7 +47,7 @@ module _ {A : Type 0} (next : List Token → Option (List Token)) (p : Parser A)
         let n = l.turns in
         l.reads ∙ ap (λ o. and_then o (λ more. pure (xs ++ more))) (one_turn n rest (omega (arith, l.enough)) ∙ ap (many_step p (many next p (n - 1)) rest) goes ∙ ap (λ o. and_then o (λ y. λ ts. and_then (many next p (n - 1) ts) (λ ys. pure (y ∷ ys)))) read)
 
-    pub stops_here : (xs : List A) (tokens rest begin : List Token) (e : Stop) → Loop next p whole rest xs → next rest ≡ Some begin → Stops tokens e (p begin) → 0 < length rest → Stops tokens e whole
+    pub stops_here : (xs : List A) (tokens rest begin : List Token) (e : ParseStop) → Loop next p whole rest xs → next rest ≡ Some begin → Stops tokens e (p begin) → 0 < length rest → Stops tokens e whole
     stops_here xs tokens rest begin (stop.Unexpected n) l goes s some = (loop_fails xs rest begin _ l goes s.0 some, s.1)
     stops_here xs tokens rest begin (stop.TooDeep n) l goes s some = (loop_fails xs rest begin _ l goes s.0 some, s.1)
     stops_here xs tokens rest begin stop.Memory l goes s some = tt

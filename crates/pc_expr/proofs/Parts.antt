@@ -11,8 +11,8 @@ use Rattle.pc_grammar.specs.Asking.{op_of}
 use Rattle.pc_grammar.specs.Reading.{Outcome, Parser, Inner, and_then, pure, ◌>>=◌, peek, deeper, take_if, all, next_item, after, at, is_op, begins_suffix, item, expr_in, seq_of, seq_in, seq_with, arm, other, if_, term, infix_of, infix_by, infix_in, infix_with, atom, suffix, postfix, chain_of, arg_list}
 use Rattle.pc_expr.specs.Onto.{onto, seq_parts, some_args, arg_list_by, arg_list_parts, chain_terms, chain_by, infix_parts, postfix_parts, arms, first_arm, if_parts}
 use Rattle.pc_expr.specs.Gives.{Gives}
-use Rattle.pc_expr.specs.declared.stop.Stop.{Stop}
-use Rattle.pc_expr.specs.declared.stop.Stop.TheVariants as stop
+use Rattle.pc_expr.specs.declared.stop.ParseStop.{ParseStop}
+use Rattle.pc_expr.specs.declared.stop.ParseStop.TheVariants as stop
 
 -- the same is read where the same is read in front and, whatever that is, behind it
 pub same_behind : {A B : Type 0} (o : Outcome A) (f g : A → Parser B) → ((x : A) (rest : List Token) → f x rest ≡ g x rest) → and_then o f ≡ and_then o g
@@ -85,7 +85,7 @@ unfolding if_ if_parts behind_arms
 if_by_parts n body ts = same_deeper n _ _ ts (arms_first body ts)
 
 -- what is made of a list where the list is given
-pub gives_made : {X Y Z : Type 0} (view : X → Y) (make : Y → Z) (tokens : List Token) (r : Result (X × ℕ) Stop) (read : Outcome Y)
+pub gives_made : {X Y Z : Type 0} (view : X → Y) (make : Y → Z) (tokens : List Token) (r : Result (X × ℕ) ParseStop) (read : Outcome Y)
     → Gives view tokens r read → Gives (λ x. make (view x)) tokens r (and_then read (λ y. pure (make y)))
 gives_made view make tokens (Ok r) read gives = ap (λ o. and_then o (λ y. pure (make y))) gives
 gives_made view make tokens (Err (stop.Unexpected p)) read gives = (ap (λ o. and_then o (λ y. pure (make y))) gives.0, gives.1)

@@ -4,11 +4,11 @@ use Rattle.pc_token.specs.declared.kinds.Token.{Token}
 use Rattle.pc_grammar.specs.Reading.{Outcome, Parser, unexpected}
 use Rattle.pc_grammar.specs.Begins.{IsRefused}
 use Rattle.pc_grammar.specs.Laws.{RefusesRight, DeepRight}
-use Rattle.pc_expr.specs.declared.stop.Stop.{Stop}
-use Rattle.pc_expr.specs.declared.stop.Stop.TheVariants as stop
+use Rattle.pc_expr.specs.declared.stop.ParseStop.{ParseStop}
+use Rattle.pc_expr.specs.declared.stop.ParseStop.TheVariants as stop
 use Rattle.pc_expr.specs.declared.fault.ParseFault.{ParseFault}
 use Rattle.pc_expr.specs.Gives.{EndsWithEnd, At, Stops}
-use Rattle.pc_expr.specs.Answers.{Told, Refuses, Stands, Names}
+use Rattle.pc_expr.specs.Answers.{Told, Refuses, StopsAtToken, Names}
 
 ends_from : (tokens : List Token) (at : ℕ) → EndsWithEnd tokens → at < length tokens → EndsWithEnd (drop at tokens)
 ends_from tokens zero ends within = ends
@@ -19,12 +19,12 @@ ends_from (x ∷ y ∷ ts) (suc at) ends within = ends_from (y ∷ ts) at ends (
 pub is_at : (tokens : List Token) (at : ℕ) → EndsWithEnd tokens → at < length tokens → At tokens at
 is_at tokens at ends within = record { within = within; ends = ends_from tokens at ends within }
 
-pub stands : {Y : Type 0} (tokens : List Token) (e : Stop) (read : Outcome Y) → Stops tokens e read → Stands tokens e
+pub stands : {Y : Type 0} (tokens : List Token) (e : ParseStop) (read : Outcome Y) → Stops tokens e read → StopsAtToken tokens e
 stands tokens (stop.Unexpected k) read s = s.1
 stands tokens (stop.TooDeep k) read s = s.1
 stands tokens stop.Memory read s = tt
 
-pub told : {X Y : Type 0} (view : X → Y) (tokens : List Token) (e : Stop) (f : ParseFault) (read : Outcome Y) → Stops tokens e read → Names tokens e f → Told view tokens (Err f) read
+pub told : {X Y : Type 0} (view : X → Y) (tokens : List Token) (e : ParseStop) (f : ParseFault) (read : Outcome Y) → Stops tokens e read → Names tokens e f → Told view tokens (Err f) read
 told view tokens (stop.Unexpected k) f read s named =
     let Q : ParseFault → Type 0 = λ v. Told view tokens (Err v) read in
     subst Q (sym named.1) (k, s.1, named.2, s.0)
@@ -36,7 +36,7 @@ told view tokens stop.Memory f read s named =
     subst Q (sym named) tt
 
 module _ {A : Type 0} (spells : A → List Token → Type 0) (depth : A → ℕ) (reading : ℕ → Parser A) (refuses : RefusesRight spells depth reading) (deep : DeepRight spells depth reading) where
-  pub refused : (n : ℕ) (tokens : List Token) (at : ℕ) (e : Stop) (f : ParseFault) → Stops tokens e (reading n (drop at tokens)) → Names tokens e f → Refuses spells depth n tokens at f
+  pub refused : (n : ℕ) (tokens : List Token) (at : ℕ) (e : ParseStop) (f : ParseFault) → Stops tokens e (reading n (drop at tokens)) → Names tokens e f → Refuses spells depth n tokens at f
   refused n tokens at (stop.Unexpected k) f s named =
       let here = named.2 in
       let read : reading n (drop at tokens) ≡ Err (unexpected, here.0 ∷ here.1) = s.0 ∙ ap (λ l. Err (unexpected, l)) here.2 in

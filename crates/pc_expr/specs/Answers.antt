@@ -3,8 +3,8 @@ use Rattle.std.specs.Prelude.{◌≡◌, ◌≢◌, ℕ, ◌<◌, List, ◌∷�
 use Rattle.pc_token.specs.declared.kinds.Token.{Token}
 use Rattle.pc_grammar.specs.Reading.{Outcome, unexpected, too_deep}
 use Rattle.pc_grammar.specs.Begins.{IsRead, IsRefused, IsTooDeep}
-use Rattle.pc_expr.specs.declared.stop.Stop.{Stop}
-use Rattle.pc_expr.specs.declared.stop.Stop.TheVariants as stop
+use Rattle.pc_expr.specs.declared.stop.ParseStop.{ParseStop}
+use Rattle.pc_expr.specs.declared.stop.ParseStop.TheVariants as stop
 use Rattle.pc_expr.specs.declared.fault.ParseFault.{ParseFault}
 use Rattle.pc_expr.specs.declared.fault.ParseFault.TheVariants as fault
 
@@ -48,13 +48,13 @@ module _ {A : Type 0} (spells : A → List Token → Type 0) (depth : A → ℕ)
   IsOnly view tokens at result = (answer : Result (A × ℕ) ParseFault) → Answers tokens at answer → Is view result answer
 
 -- a stop stands at a token
-abbrev pub Stands : List Token → Stop → Type 0
-Stands tokens (stop.Unexpected k) = k < length tokens
-Stands tokens (stop.TooDeep k) = k < length tokens
-Stands tokens stop.Memory = Unit {0}
+abbrev pub StopsAtToken : List Token → ParseStop → Type 0
+StopsAtToken tokens (stop.Unexpected k) = k < length tokens
+StopsAtToken tokens (stop.TooDeep k) = k < length tokens
+StopsAtToken tokens stop.Memory = Unit {0}
 
 -- a fault is a stop, by the byte at which its token begins
-abbrev pub Names : List Token → Stop → ParseFault → Type 0
+abbrev pub Names : List Token → ParseStop → ParseFault → Type 0
 Names tokens (stop.Unexpected k) f = (p : ℕ) × (f ≡ fault.Unexpected p) × Places tokens k p
 Names tokens (stop.TooDeep k) f = (p : ℕ) × (f ≡ fault.TooDeep p) × Places tokens k p
 Names tokens stop.Memory f = f ≡ fault.Memory

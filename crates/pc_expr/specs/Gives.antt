@@ -2,8 +2,8 @@
 use Rattle.std.specs.Prelude.{◌≡◌, ℕ, ◌<◌, List, [], ◌∷◌, drop, length, Result, Ok, Err}
 use Rattle.pc_token.specs.declared.kinds.Token.{Token}
 use Rattle.pc_token.specs.declared.kinds.TokenKind.TheVariants as k
-use Rattle.pc_expr.specs.declared.stop.Stop.{Stop}
-use Rattle.pc_expr.specs.declared.stop.Stop.TheVariants as stop
+use Rattle.pc_expr.specs.declared.stop.ParseStop.{ParseStop}
+use Rattle.pc_expr.specs.declared.stop.ParseStop.TheVariants as stop
 use Rattle.pc_grammar.specs.Reading.{Outcome, unexpected, too_deep}
 
 -- the last token is `End`
@@ -21,11 +21,11 @@ pub record Moves (tokens : List Token) (at to : ℕ) : Type 0 where
   pub past : at < to
   pub there : At tokens to
 
-abbrev pub Stops : {Y : Type 0} → List Token → Stop → Outcome Y → Type 0
+abbrev pub Stops : {Y : Type 0} → List Token → ParseStop → Outcome Y → Type 0
 Stops tokens (stop.Unexpected p) read = (read ≡ Err (unexpected, drop p tokens)) × (p < length tokens)
 Stops tokens (stop.TooDeep p) read = (read ≡ Err (too_deep, drop p tokens)) × (p < length tokens)
 Stops tokens stop.Memory read = Unit {0}
 
-abbrev pub Gives : {X Y : Type 0} → (X → Y) → List Token → Result (X × ℕ) Stop → Outcome Y → Type 0
+abbrev pub Gives : {X Y : Type 0} → (X → Y) → List Token → Result (X × ℕ) ParseStop → Outcome Y → Type 0
 Gives view tokens (Ok r) read = read ≡ Ok (view r.0, drop r.1 tokens)
 Gives view tokens (Err e) read = Stops tokens e read

@@ -1,3 +1,5 @@
+//! Why tokens are no tree, by the byte of a token.
+
 /// Why no tree is answered. A place is the offset of a token's first byte in the text.
 #[derive(Clone, Copy, Debug, PartialEq, Eq)]
 pub enum ParseFault {

@@ -6,7 +6,7 @@ ghost use Rattle.pc_expr.specs.Gives.{At, Moves, Gives};
 ghost use Rattle.pc_expr.specs.Onto as onto;
 
 use crate::spans::join;
-use crate::stop::Stop;
+use crate::stop::ParseStop;
 use crate::tokens::{look, take_sign, take_word};
 use pc_caps::{Cap, List};
 use pc_grammar::cap_of;
@@ -16,7 +16,7 @@ use std::alloc::Global;
 
 /// A name.
 #[tactic(auto, unfolding(pc_grammar::specs::Reading::name, pc_grammar::specs::Reading::peek, pc_grammar::specs::Reading::take_if))]
-pub fn name(alloc: Global, tokens: &[Token], at: usize) -> Result<(Name, usize), Stop>
+pub fn name(alloc: Global, tokens: &[Token], at: usize) -> Result<(Name, usize), ParseStop>
     requires { At tokens.now at }
     ensures gives { Gives (λ m. m) tokens.now result (reading.name (drop at tokens.now)) }
     ensures moves { IfOk result (λ r. Moves tokens.now at r.1) }
@@ -28,13 +28,13 @@ pub fn name(alloc: Global, tokens: &[Token], at: usize) -> Result<(Name, usize),
             let span = token.span;
             Ok((Name { text, span }, at + 1))
         }
-        _ => Err(Stop::Unexpected(at)),
+        _ => Err(ParseStop::Unexpected(at)),
     }
 }
 
 /// A type name.
 #[tactic(auto, unfolding(pc_grammar::specs::Reading::type_name, pc_grammar::specs::Reading::peek, pc_grammar::specs::Reading::take_if))]
-pub fn type_name(alloc: Global, tokens: &[Token], at: usize) -> Result<(Name, usize), Stop>
+pub fn type_name(alloc: Global, tokens: &[Token], at: usize) -> Result<(Name, usize), ParseStop>
     requires { At tokens.now at }
     ensures gives { Gives (λ m. m) tokens.now result (reading.type_name (drop at tokens.now)) }
     ensures moves { IfOk result (λ r. Moves tokens.now at r.1) }
@@ -46,7 +46,7 @@ pub fn type_name(alloc: Global, tokens: &[Token], at: usize) -> Result<(Name, us
             let span = token.span;
             Ok((Name { text, span }, at + 1))
         }
-        _ => Err(Stop::Unexpected(at)),
+        _ => Err(ParseStop::Unexpected(at)),
     }
 }
 
@@ -65,7 +65,11 @@ pub fn maybe_cap(tokens: &[Token], at: usize) -> (Option<Cap>, usize)
 
 /// A type, as locals, fields and parameters have it: without a `^`.
 #[tactic(auto, unfolding(pc_grammar::specs::Reading::written_type))]
-pub fn written_type(alloc: Global, tokens: &[Token], at: usize) -> Result<(TypeRef, usize), Stop>
+pub fn written_type(
+    alloc: Global,
+    tokens: &[Token],
+    at: usize,
+) -> Result<(TypeRef, usize), ParseStop>
     requires { At tokens.now at }
     ensures gives { Gives (λ m. m) tokens.now result (reading.written_type (drop at tokens.now)) }
     ensures moves { IfOk result (λ r. Moves tokens.now at r.1) }
@@ -82,7 +86,7 @@ pub fn maybe_type(
     alloc: Global,
     tokens: &[Token],
     at: usize,
-) -> Result<(Option<TypeRef>, usize), Stop>
+) -> Result<(Option<TypeRef>, usize), ParseStop>
     requires { At tokens.now at }
     ensures gives { Gives (λ m. m) tokens.now result (reading.maybe_type (drop at tokens.now)) }
     ensures moves { IfOk result (λ r. (at ≤ r.1) × At tokens.now r.1) }
@@ -97,7 +101,7 @@ pub fn maybe_type(
 
 /// A name as an expression.
 #[tactic(auto, using(pc_tree::proofs::Views::view_name), unfolding(crate::specs::Onto::named))]
-pub fn named(alloc: Global, tokens: &[Token], at: usize) -> Result<(Expr, usize), Stop>
+pub fn named(alloc: Global, tokens: &[Token], at: usize) -> Result<(Expr, usize), ParseStop>
     requires { At tokens.now at }
     ensures gives { Gives expr_view tokens.now result (onto.named (drop at tokens.now)) }
     ensures moves { IfOk result (λ r. Moves tokens.now at r.1) }
@@ -108,7 +112,7 @@ pub fn named(alloc: Global, tokens: &[Token], at: usize) -> Result<(Expr, usize)
 
 /// A type name as an expression.
 #[tactic(auto, using(pc_tree::proofs::Views::view_type_name), unfolding(crate::specs::Onto::type_named))]
-pub fn type_named(alloc: Global, tokens: &[Token], at: usize) -> Result<(Expr, usize), Stop>
+pub fn type_named(alloc: Global, tokens: &[Token], at: usize) -> Result<(Expr, usize), ParseStop>
     requires { At tokens.now at }
     ensures gives { Gives expr_view tokens.now result (onto.type_named (drop at tokens.now)) }
     ensures moves { IfOk result (λ r. Moves tokens.now at r.1) }
@@ -119,7 +123,7 @@ pub fn type_named(alloc: Global, tokens: &[Token], at: usize) -> Result<(Expr, u
 
 /// `consume` and a name.
 #[tactic(auto, using(pc_tree::proofs::Views::view_consume), unfolding(pc_grammar::specs::Reading::consume))]
-pub fn consume(alloc: Global, tokens: &[Token], at: usize) -> Result<(Expr, usize), Stop>
+pub fn consume(alloc: Global, tokens: &[Token], at: usize) -> Result<(Expr, usize), ParseStop>
     requires { At tokens.now at }
     ensures gives { Gives expr_view tokens.now result (reading.consume (drop at tokens.now)) }
     ensures moves { IfOk result (λ r. Moves tokens.now at r.1) }
@@ -132,7 +136,7 @@ pub fn consume(alloc: Global, tokens: &[Token], at: usize) -> Result<(Expr, usiz
 
 /// A text literal.
 #[tactic(auto, using(pc_tree::proofs::Views::view_text), unfolding(crate::specs::Onto::text_at, pc_grammar::specs::Reading::peek, pc_grammar::specs::Reading::take_if))]
-pub fn text(alloc: Global, tokens: &[Token], at: usize) -> Result<(Expr, usize), Stop>
+pub fn text(alloc: Global, tokens: &[Token], at: usize) -> Result<(Expr, usize), ParseStop>
     requires { At tokens.now at }
     ensures gives { Gives expr_view tokens.now result (onto.text_at (drop at tokens.now)) }
     ensures moves { IfOk result (λ r. Moves tokens.now at r.1) }
@@ -144,6 +148,6 @@ pub fn text(alloc: Global, tokens: &[Token], at: usize) -> Result<(Expr, usize),
             let span = token.span;
             Ok((Expr::Text { bytes, span }, at + 1))
         }
-        _ => Err(Stop::Unexpected(at)),
+        _ => Err(ParseStop::Unexpected(at)),
     }
 }

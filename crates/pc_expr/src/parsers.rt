@@ -4,5 +4,5 @@ pub use crate::asking::local_word;
 pub use crate::names::{maybe_cap, name, type_name, written_type};
 pub use crate::parsing::fault;
 pub use crate::rules::{infix, seq};
-pub use crate::stop::Stop;
+pub use crate::stop::ParseStop;
 pub use crate::tokens::{after_comma, look, take_sign, take_word};

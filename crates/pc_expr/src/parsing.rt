@@ -5,11 +5,11 @@ ghost use Rattle.pc_tree.specs.Measures as levels;
 ghost use Rattle.pc_grammar.specs.Spells.{Spells, SpellsInfix, SpellsSeq};
 ghost use Rattle.pc_grammar.specs.Reading as reading;
 ghost use Rattle.pc_expr.specs.Gives.{EndsWithEnd};
-ghost use Rattle.pc_expr.specs.Answers.{Places, Told, ReadsTo, Refuses, IsOnly, Stands, Names};
+ghost use Rattle.pc_expr.specs.Answers.{Places, Told, ReadsTo, Refuses, IsOnly, StopsAtToken, Names};
 
 use crate::fault::ParseFault;
 use crate::rules;
-use crate::stop::Stop;
+use crate::stop::ParseStop;
 use pc_token::Token;
 use pc_tree::{Expr, Seq};
 use std::alloc::Global;
@@ -25,14 +25,14 @@ fn begin(tokens: &[Token], at: usize) -> u32
 }
 
 /// The fault of a stop, by the offset of its token.
-pub fn fault(tokens: &[Token], stop: Stop) -> ParseFault
-    requires { Stands tokens.now stop }
+pub fn fault(tokens: &[Token], stop: ParseStop) -> ParseFault
+    requires { StopsAtToken tokens.now stop }
     ensures { Names tokens.now stop result }
 {
     match stop {
-        Stop::Unexpected(at) => ParseFault::Unexpected(begin(tokens, at)),
-        Stop::TooDeep(at) => ParseFault::TooDeep(begin(tokens, at)),
-        Stop::Memory => ParseFault::Memory,
+        ParseStop::Unexpected(at) => ParseFault::Unexpected(begin(tokens, at)),
+        ParseStop::TooDeep(at) => ParseFault::TooDeep(begin(tokens, at)),
+        ParseStop::Memory => ParseFault::Memory,
     }
 }
 

@@ -5,12 +5,12 @@ ghost use Rattle.pc_grammar.specs.Asking as grammar;
 ghost use Rattle.pc_grammar.specs.Reading as reading;
 ghost use Rattle.pc_expr.specs.Gives.{At, Moves, Gives};
 ghost use Rattle.pc_expr.specs.Onto as onto;
-ghost use Rattle.pc_expr.specs.declared.stop.Stop.TheVariants.{Memory};
+ghost use Rattle.pc_expr.specs.declared.stop.ParseStop.TheVariants.{Memory};
 
 use crate::asking::{assigns, local_word};
 use crate::names::{consume, maybe_cap, maybe_type, name, named, text, type_named};
 use crate::spans::{chain_span, first_arm, items_span, join, span_of, terms_span};
-use crate::stop::Stop;
+use crate::stop::ParseStop;
 use crate::tokens::{
     after_comma, after_op, at_elseif, at_suffix, look, next_item, take_sign, take_word,
 };
@@ -23,7 +23,7 @@ use std::alloc::Global;
 /// Item {Next Item}, where so many levels may still be opened.
 #[cycle(rules)]
 #[tactic(auto, using(pc_tree::proofs::Views::view_seq, crate::proofs::Parts::seq_by_parts), unfolding(crate::specs::Onto::seq_parts, pc_grammar::specs::Reading::seq_of))]
-pub fn seq(alloc: Global, tokens: &[Token], at: usize, left: u16) -> Result<(Seq, usize), Stop>
+pub fn seq(alloc: Global, tokens: &[Token], at: usize, left: u16) -> Result<(Seq, usize), ParseStop>
     requires { At tokens.now at }
     ensures gives { Gives seq_view tokens.now result (reading.seq_in left (reading.inner left) (drop at tokens.now)) }
     ensures moves { IfOk result (λ r. Moves tokens.now at r.1) }
@@ -44,7 +44,7 @@ fn more_items(
     at: usize,
     left: u16,
     so_far: List<Item>,
-) -> Result<(List<Item>, usize), Stop>
+) -> Result<(List<Item>, usize), ParseStop>
     requires { At tokens.now at }
     ensures gives { Gives (map item_view) tokens.now result (onto.more_items left (reading.inner left) (map item_view so_far) (drop at tokens.now)) }
     ensures moves { IfOk result (λ r. (at ≤ r.1) × At tokens.now r.1) }
@@ -62,7 +62,7 @@ fn more_items(
 /// ("var" | "let") Name [":" Type] "=" Expr  |  Expr
 #[cycle(rules)]
 #[tactic(auto, using(pc_tree::proofs::Views::view_plain), unfolding(pc_grammar::specs::Reading::item, pc_grammar::specs::Reading::peek))]
-fn item(alloc: Global, tokens: &[Token], at: usize, left: u16) -> Result<(Item, usize), Stop>
+fn item(alloc: Global, tokens: &[Token], at: usize, left: u16) -> Result<(Item, usize), ParseStop>
     requires { At tokens.now at }
     ensures gives { Gives item_view tokens.now result (reading.item (reading.expr_in left (reading.inner left)) (drop at tokens.now)) }
     ensures moves { IfOk result (λ r. Moves tokens.now at r.1) }
@@ -87,7 +87,7 @@ fn local(
     at: usize,
     left: u16,
     fixed: bool,
-) -> Result<(Item, usize), Stop>
+) -> Result<(Item, usize), ParseStop>
     requires { At tokens.now at }
     ensures gives { Gives item_view tokens.now result (reading.local fixed (reading.expr_in left (reading.inner left)) (drop at tokens.now)) }
     ensures moves { IfOk result (λ r. Moves tokens.now at r.1) }
@@ -113,7 +113,12 @@ fn local(
 /// Infix ["=" Expr]
 #[cycle(rules)]
 #[tactic(auto, unfolding(pc_grammar::specs::Reading::expr_in, pc_grammar::specs::Reading::expr_with, pc_grammar::specs::Reading::peek))]
-pub fn expr(alloc: Global, tokens: &[Token], at: usize, left: u16) -> Result<(Expr, usize), Stop>
+pub fn expr(
+    alloc: Global,
+    tokens: &[Token],
+    at: usize,
+    left: u16,
+) -> Result<(Expr, usize), ParseStop>
     requires { At tokens.now at }
     ensures gives { Gives expr_view tokens.now result (reading.expr_in left (reading.inner left) (drop at tokens.now)) }
     ensures moves { IfOk result (λ r. Moves tokens.now at r.1) }
@@ -135,13 +140,13 @@ fn becomes(
     at: usize,
     left: u16,
     place: Expr,
-) -> Result<(Expr, usize), Stop>
+) -> Result<(Expr, usize), ParseStop>
     requires { At tokens.now at }
     ensures gives { Gives expr_view tokens.now result (reading.becomes left (reading.inner left).expr (expr_view place) (drop at tokens.now)) }
     ensures moves { IfOk result (λ r. Moves tokens.now at r.1) }
 {
     if left == 0 {
-        return Err(Stop::TooDeep(at));
+        return Err(ParseStop::TooDeep(at));
     }
     let (_, begin) = take_sign(tokens, at, Sign::Assign)?;
     let (right, to) = expr(alloc, tokens, begin, left - 1)?;
@@ -154,7 +159,12 @@ fn becomes(
 /// Term {Op Term}, where so many levels may still be opened.
 #[cycle(rules)]
 #[tactic(auto, using(crate::proofs::Parts::infix_by_parts), unfolding(crate::specs::Onto::infix_parts, pc_grammar::specs::Reading::peek))]
-pub fn infix(alloc: Global, tokens: &[Token], at: usize, left: u16) -> Result<(Expr, usize), Stop>
+pub fn infix(
+    alloc: Global,
+    tokens: &[Token],
+    at: usize,
+    left: u16,
+) -> Result<(Expr, usize), ParseStop>
     requires { At tokens.now at }
     ensures gives { Gives expr_view tokens.now result (reading.infix_in left (reading.inner left) (drop at tokens.now)) }
     ensures moves { IfOk result (λ r. Moves tokens.now at r.1) }
@@ -176,7 +186,7 @@ fn operators(
     left: u16,
     first: Expr,
     op: Op,
-) -> Result<(Expr, usize), Stop>
+) -> Result<(Expr, usize), ParseStop>
     requires { At tokens.now at }
     ensures gives { Gives expr_view tokens.now result (onto.chain_terms left (reading.inner left) op (expr_view first) (drop at tokens.now)) }
     ensures moves { IfOk result (λ r. (at ≤ r.1) × At tokens.now r.1) }
@@ -197,7 +207,7 @@ fn more_terms(
     left: u16,
     op: Op,
     so_far: List<Expr>,
-) -> Result<(List<Expr>, usize), Stop>
+) -> Result<(List<Expr>, usize), ParseStop>
     requires { At tokens.now at }
     ensures gives { Gives (map expr_view) tokens.now result (onto.more_terms left (reading.inner left) op (map expr_view so_far) (drop at tokens.now)) }
     ensures moves { IfOk result (λ r. (at ≤ r.1) × At tokens.now r.1) }
@@ -215,7 +225,7 @@ fn more_terms(
 /// "not" Term  |  "consume" Name  |  Postfix
 #[cycle(rules)]
 #[tactic(auto, unfolding(pc_grammar::specs::Reading::term, pc_grammar::specs::Reading::peek))]
-fn term(alloc: Global, tokens: &[Token], at: usize, left: u16) -> Result<(Expr, usize), Stop>
+fn term(alloc: Global, tokens: &[Token], at: usize, left: u16) -> Result<(Expr, usize), ParseStop>
     requires { At tokens.now at }
     ensures gives { Gives expr_view tokens.now result (reading.term left (reading.inner left) (drop at tokens.now)) }
     ensures moves { IfOk result (λ r. Moves tokens.now at r.1) }
@@ -233,13 +243,18 @@ fn term(alloc: Global, tokens: &[Token], at: usize, left: u16) -> Result<(Expr, 
 /// "not" Term
 #[cycle(rules)]
 #[tactic(auto, using(pc_tree::proofs::Views::view_not, pc_grammar::proofs::Levels::no_deeper, pc_grammar::proofs::Levels::one_deeper, pc_grammar::proofs::Levels::inner_term), unfolding(pc_grammar::specs::Reading::negation))]
-fn negation(alloc: Global, tokens: &[Token], at: usize, left: u16) -> Result<(Expr, usize), Stop>
+fn negation(
+    alloc: Global,
+    tokens: &[Token],
+    at: usize,
+    left: u16,
+) -> Result<(Expr, usize), ParseStop>
     requires { At tokens.now at }
     ensures gives { Gives expr_view tokens.now result (reading.negation left (reading.inner left).term (drop at tokens.now)) }
     ensures moves { IfOk result (λ r. Moves tokens.now at r.1) }
 {
     if left == 0 {
-        return Err(Stop::TooDeep(at));
+        return Err(ParseStop::TooDeep(at));
     }
     let (opener, begin) = take_word(tokens, at, Word::NotWord)?;
     let (inner, to) = term(alloc, tokens, begin, left - 1)?;
@@ -251,7 +266,12 @@ fn negation(alloc: Global, tokens: &[Token], at: usize, left: u16) -> Result<(Ex
 /// Atom {"." Name | "(" [Expr {"," Expr}] ")"}
 #[cycle(rules)]
 #[tactic(auto, using(crate::proofs::Parts::postfix_by_parts), unfolding(crate::specs::Onto::postfix_parts, pc_grammar::specs::Reading::chain_of))]
-fn postfix(alloc: Global, tokens: &[Token], at: usize, left: u16) -> Result<(Expr, usize), Stop>
+fn postfix(
+    alloc: Global,
+    tokens: &[Token],
+    at: usize,
+    left: u16,
+) -> Result<(Expr, usize), ParseStop>
     requires { At tokens.now at }
     ensures gives { Gives expr_view tokens.now result (reading.postfix left (reading.inner left) (drop at tokens.now)) }
     ensures moves { IfOk result (λ r. Moves tokens.now at r.1) }
@@ -265,7 +285,7 @@ fn postfix(alloc: Global, tokens: &[Token], at: usize, left: u16) -> Result<(Exp
 
 /// An atom with its suffixes; alone, where there are none.
 #[tactic(auto, using(pc_tree::proofs::Views::view_chain), unfolding(pc_grammar::specs::Reading::chain_of))]
-fn chain(alloc: Global, head: Expr, suffixes: List<Suffix>) -> Result<Expr, Stop>
+fn chain(alloc: Global, head: Expr, suffixes: List<Suffix>) -> Result<Expr, ParseStop>
     ensures ok { IfOk result (λ e. expr_view e ≡ reading.chain_of (expr_view head) (map suffix_view suffixes)) }
     ensures err { IfErr result (λ e. e ≡ Memory) }
 {
@@ -289,7 +309,7 @@ fn more_suffixes(
     at: usize,
     left: u16,
     so_far: List<Suffix>,
-) -> Result<(List<Suffix>, usize), Stop>
+) -> Result<(List<Suffix>, usize), ParseStop>
     requires { At tokens.now at }
     ensures gives { Gives (map suffix_view) tokens.now result (onto.more_suffixes left (reading.inner left) (map suffix_view so_far) (drop at tokens.now)) }
     ensures moves { IfOk result (λ r. (at ≤ r.1) × At tokens.now r.1) }
@@ -307,7 +327,12 @@ fn more_suffixes(
 /// "." Name  |  "(" [Expr {"," Expr}] ")"
 #[cycle(rules)]
 #[tactic(auto, using(pc_tree::proofs::Views::view_dot), unfolding(pc_grammar::specs::Reading::suffix, pc_grammar::specs::Reading::peek))]
-fn suffix(alloc: Global, tokens: &[Token], at: usize, left: u16) -> Result<(Suffix, usize), Stop>
+fn suffix(
+    alloc: Global,
+    tokens: &[Token],
+    at: usize,
+    left: u16,
+) -> Result<(Suffix, usize), ParseStop>
     requires { At tokens.now at }
     ensures gives { Gives suffix_view tokens.now result (reading.suffix left (reading.inner left).expr (drop at tokens.now)) }
     ensures moves { IfOk result (λ r. Moves tokens.now at r.1) }
@@ -323,13 +348,18 @@ fn suffix(alloc: Global, tokens: &[Token], at: usize, left: u16) -> Result<(Suff
 /// "(" [Expr {"," Expr}] ")"
 #[cycle(rules)]
 #[tactic(auto, using(pc_tree::proofs::Views::view_args, pc_grammar::proofs::Levels::no_deeper, pc_grammar::proofs::Levels::one_deeper, pc_grammar::proofs::Levels::inner_expr), unfolding(pc_grammar::specs::Reading::args))]
-fn arguments(alloc: Global, tokens: &[Token], at: usize, left: u16) -> Result<(Suffix, usize), Stop>
+fn arguments(
+    alloc: Global,
+    tokens: &[Token],
+    at: usize,
+    left: u16,
+) -> Result<(Suffix, usize), ParseStop>
     requires { At tokens.now at }
     ensures gives { Gives suffix_view tokens.now result (reading.args left (reading.inner left).expr (drop at tokens.now)) }
     ensures moves { IfOk result (λ r. Moves tokens.now at r.1) }
 {
     if left == 0 {
-        return Err(Stop::TooDeep(at));
+        return Err(ParseStop::TooDeep(at));
     }
     let (opener, begin) = take_sign(tokens, at, Sign::OpenParen)?;
     let (args, end) = arg_list(alloc, tokens, begin, left - 1)?;
@@ -346,7 +376,7 @@ fn arg_list(
     tokens: &[Token],
     at: usize,
     left: u16,
-) -> Result<(List<Expr>, usize), Stop>
+) -> Result<(List<Expr>, usize), ParseStop>
     requires { At tokens.now at }
     ensures gives { Gives exprs_view tokens.now result (reading.arg_list (reading.expr_in left (reading.inner left)) (drop at tokens.now)) }
     ensures moves { IfOk result (λ r. (at ≤ r.1) × At tokens.now r.1) }
@@ -365,7 +395,7 @@ fn some_args(
     tokens: &[Token],
     at: usize,
     left: u16,
-) -> Result<(List<Expr>, usize), Stop>
+) -> Result<(List<Expr>, usize), ParseStop>
     requires { At tokens.now at }
     ensures gives { Gives (map expr_view) tokens.now result (onto.some_args (reading.expr_in left (reading.inner left)) (drop at tokens.now)) }
     ensures moves { IfOk result (λ r. Moves tokens.now at r.1) }
@@ -384,7 +414,7 @@ fn more_args(
     at: usize,
     left: u16,
     so_far: List<Expr>,
-) -> Result<(List<Expr>, usize), Stop>
+) -> Result<(List<Expr>, usize), ParseStop>
     requires { At tokens.now at }
     ensures gives { Gives (map expr_view) tokens.now result (onto.more_args (reading.expr_in left (reading.inner left)) (map expr_view so_far) (drop at tokens.now)) }
     ensures moves { IfOk result (λ r. (at ≤ r.1) × At tokens.now r.1) }
@@ -402,7 +432,7 @@ fn more_args(
 /// One token, or what stands between brackets.
 #[cycle(rules)]
 #[tactic(auto, using(pc_tree::proofs::Views::view_number, pc_tree::proofs::Views::view_truth, pc_tree::proofs::Views::view_this), unfolding(pc_grammar::specs::Reading::atom, pc_grammar::specs::Reading::peek, pc_grammar::specs::Reading::take_if, crate::specs::Onto::named, crate::specs::Onto::type_named, crate::specs::Onto::text_at))]
-fn atom(alloc: Global, tokens: &[Token], at: usize, left: u16) -> Result<(Expr, usize), Stop>
+fn atom(alloc: Global, tokens: &[Token], at: usize, left: u16) -> Result<(Expr, usize), ParseStop>
     requires { At tokens.now at }
     ensures gives { Gives expr_view tokens.now result (reading.atom left (reading.inner left).seq (drop at tokens.now)) }
     ensures moves { IfOk result (λ r. Moves tokens.now at r.1) }
@@ -427,20 +457,20 @@ fn atom(alloc: Global, tokens: &[Token], at: usize, left: u16) -> Result<(Expr, 
         TokenKind::Word(Word::IfWord) => choice(alloc, tokens, at, left),
         TokenKind::Word(Word::WhileWord) => repetition(alloc, tokens, at, left),
         TokenKind::Word(Word::RecoverWord) => recovery(alloc, tokens, at, left),
-        _ => Err(Stop::Unexpected(at)),
+        _ => Err(ParseStop::Unexpected(at)),
     }
 }
 
 /// "(" Seq ")"
 #[cycle(rules)]
 #[tactic(auto, using(pc_tree::proofs::Views::view_group, pc_grammar::proofs::Levels::no_deeper, pc_grammar::proofs::Levels::one_deeper, pc_grammar::proofs::Levels::inner_seq), unfolding(pc_grammar::specs::Reading::group))]
-fn group(alloc: Global, tokens: &[Token], at: usize, left: u16) -> Result<(Expr, usize), Stop>
+fn group(alloc: Global, tokens: &[Token], at: usize, left: u16) -> Result<(Expr, usize), ParseStop>
     requires { At tokens.now at }
     ensures gives { Gives expr_view tokens.now result (reading.group left (reading.inner left).seq (drop at tokens.now)) }
     ensures moves { IfOk result (λ r. Moves tokens.now at r.1) }
 {
     if left == 0 {
-        return Err(Stop::TooDeep(at));
+        return Err(ParseStop::TooDeep(at));
     }
     let (opener, begin) = take_sign(tokens, at, Sign::OpenParen)?;
     let (body, end) = seq(alloc, tokens, begin, left - 1)?;
@@ -453,13 +483,13 @@ fn group(alloc: Global, tokens: &[Token], at: usize, left: u16) -> Result<(Expr,
 /// "if" Seq "then" Seq {"elseif" Seq "then" Seq} ["else" Seq] "end"
 #[cycle(rules)]
 #[tactic(auto, using(pc_tree::proofs::Views::view_if, crate::proofs::Parts::if_by_parts, pc_grammar::proofs::Levels::no_deeper, pc_grammar::proofs::Levels::one_deeper, pc_grammar::proofs::Levels::inner_seq), unfolding(crate::specs::Onto::if_parts))]
-fn choice(alloc: Global, tokens: &[Token], at: usize, left: u16) -> Result<(Expr, usize), Stop>
+fn choice(alloc: Global, tokens: &[Token], at: usize, left: u16) -> Result<(Expr, usize), ParseStop>
     requires { At tokens.now at }
     ensures gives { Gives expr_view tokens.now result (reading.if_ left (reading.inner left).seq (drop at tokens.now)) }
     ensures moves { IfOk result (λ r. Moves tokens.now at r.1) }
 {
     if left == 0 {
-        return Err(Stop::TooDeep(at));
+        return Err(ParseStop::TooDeep(at));
     }
     let (arms, end) = arms(alloc, tokens, at, left - 1)?;
     let (other, end) = otherwise(alloc, tokens, end, left - 1)?;
@@ -471,7 +501,12 @@ fn choice(alloc: Global, tokens: &[Token], at: usize, left: u16) -> Result<(Expr
 /// "if" Seq "then" Seq {"elseif" Seq "then" Seq}
 #[cycle(rules)]
 #[tactic(auto, unfolding(crate::specs::Onto::arms))]
-fn arms(alloc: Global, tokens: &[Token], at: usize, left: u16) -> Result<(List<Arm>, usize), Stop>
+fn arms(
+    alloc: Global,
+    tokens: &[Token],
+    at: usize,
+    left: u16,
+) -> Result<(List<Arm>, usize), ParseStop>
     requires { At tokens.now at }
     ensures gives { Gives (map arm_view) tokens.now result (onto.arms (reading.seq_in left (reading.inner left)) (drop at tokens.now)) }
     ensures moves { IfOk result (λ r. Moves tokens.now at r.1) }
@@ -490,7 +525,7 @@ fn more_arms(
     at: usize,
     left: u16,
     so_far: List<Arm>,
-) -> Result<(List<Arm>, usize), Stop>
+) -> Result<(List<Arm>, usize), ParseStop>
     requires { At tokens.now at }
     ensures gives { Gives (map arm_view) tokens.now result (onto.more_arms (reading.seq_in left (reading.inner left)) (map arm_view so_far) (drop at tokens.now)) }
     ensures moves { IfOk result (λ r. (at ≤ r.1) × At tokens.now r.1) }
@@ -514,7 +549,7 @@ fn arm(
     at: usize,
     left: u16,
     word: Word,
-) -> Result<(Arm, usize), Stop>
+) -> Result<(Arm, usize), ParseStop>
     requires { At tokens.now at }
     ensures gives { Gives arm_view tokens.now result (reading.arm word (reading.seq_in left (reading.inner left)) (drop at tokens.now)) }
     ensures moves { IfOk result (λ r. Moves tokens.now at r.1) }
@@ -535,7 +570,7 @@ fn otherwise(
     tokens: &[Token],
     at: usize,
     left: u16,
-) -> Result<(Option<Box<Seq>>, usize), Stop>
+) -> Result<(Option<Box<Seq>>, usize), ParseStop>
     requires { At tokens.now at }
     ensures gives { Gives other_view tokens.now result (reading.other (reading.seq_in left (reading.inner left)) (drop at tokens.now)) }
     ensures moves { IfOk result (λ r. (at ≤ r.1) × At tokens.now r.1) }
@@ -551,13 +586,18 @@ fn otherwise(
 /// "while" Seq "do" Seq "end"
 #[cycle(rules)]
 #[tactic(auto, using(pc_tree::proofs::Views::view_while, pc_grammar::proofs::Levels::no_deeper, pc_grammar::proofs::Levels::one_deeper, pc_grammar::proofs::Levels::inner_seq), unfolding(pc_grammar::specs::Reading::while_))]
-fn repetition(alloc: Global, tokens: &[Token], at: usize, left: u16) -> Result<(Expr, usize), Stop>
+fn repetition(
+    alloc: Global,
+    tokens: &[Token],
+    at: usize,
+    left: u16,
+) -> Result<(Expr, usize), ParseStop>
     requires { At tokens.now at }
     ensures gives { Gives expr_view tokens.now result (reading.while_ left (reading.inner left).seq (drop at tokens.now)) }
     ensures moves { IfOk result (λ r. Moves tokens.now at r.1) }
 {
     if left == 0 {
-        return Err(Stop::TooDeep(at));
+        return Err(ParseStop::TooDeep(at));
     }
     let (opener, begin) = take_word(tokens, at, Word::WhileWord)?;
     let (cond, end) = seq(alloc, tokens, begin, left - 1)?;
@@ -573,13 +613,18 @@ fn repetition(alloc: Global, tokens: &[Token], at: usize, left: u16) -> Result<(
 /// "recover" [Cap] Seq "end"
 #[cycle(rules)]
 #[tactic(auto, using(pc_tree::proofs::Views::view_recover, pc_grammar::proofs::Levels::no_deeper, pc_grammar::proofs::Levels::one_deeper, pc_grammar::proofs::Levels::inner_seq), unfolding(pc_grammar::specs::Reading::recover_))]
-fn recovery(alloc: Global, tokens: &[Token], at: usize, left: u16) -> Result<(Expr, usize), Stop>
+fn recovery(
+    alloc: Global,
+    tokens: &[Token],
+    at: usize,
+    left: u16,
+) -> Result<(Expr, usize), ParseStop>
     requires { At tokens.now at }
     ensures gives { Gives expr_view tokens.now result (reading.recover_ left (reading.inner left).seq (drop at tokens.now)) }
     ensures moves { IfOk result (λ r. Moves tokens.now at r.1) }
 {
     if left == 0 {
-        return Err(Stop::TooDeep(at));
+        return Err(ParseStop::TooDeep(at));
     }
     let (opener, begin) = take_word(tokens, at, Word::RecoverWord)?;
     let (cap, begin) = maybe_cap(tokens, begin);

@@ -8,7 +8,7 @@ ghost use Rattle.pc_grammar.specs.Asking as grammar;
 ghost use Rattle.pc_grammar.specs.Reading as reading;
 ghost use Rattle.pc_expr.specs.Gives.{At, Moves, Gives};
 
-use crate::stop::Stop;
+use crate::stop::ParseStop;
 use pc_grammar::{begins_item, op_of};
 use pc_token::{Sign, Token, Word, is_sign, is_word};
 use pc_tree::Op;
@@ -24,7 +24,7 @@ pub fn look(tokens: &[Token], at: usize) -> &Token
 
 /// The sign, if it stands there.
 #[tactic(auto, using(crate::proofs::Ends::is_sign_not_end), unfolding(pc_grammar::specs::Reading::take_if))]
-pub fn take_sign(tokens: &[Token], at: usize, sign: Sign) -> Result<(&Token, usize), Stop>
+pub fn take_sign(tokens: &[Token], at: usize, sign: Sign) -> Result<(&Token, usize), ParseStop>
     requires { At tokens.now at }
     ensures gives { Gives (λ t. t.now) tokens.now result (reading.take_if (asking.is_sign sign) (drop at tokens.now)) }
     ensures moves { IfOk result (λ r. Moves tokens.now at r.1) }
@@ -33,13 +33,13 @@ pub fn take_sign(tokens: &[Token], at: usize, sign: Sign) -> Result<(&Token, usi
     if is_sign(token, sign) {
         Ok((token, at + 1))
     } else {
-        Err(Stop::Unexpected(at))
+        Err(ParseStop::Unexpected(at))
     }
 }
 
 /// The word, if it stands there.
 #[tactic(auto, using(crate::proofs::Ends::is_word_not_end), unfolding(pc_grammar::specs::Reading::take_if))]
-pub fn take_word(tokens: &[Token], at: usize, word: Word) -> Result<(&Token, usize), Stop>
+pub fn take_word(tokens: &[Token], at: usize, word: Word) -> Result<(&Token, usize), ParseStop>
     requires { At tokens.now at }
     ensures gives { Gives (λ t. t.now) tokens.now result (reading.take_if (asking.is_word word) (drop at tokens.now)) }
     ensures moves { IfOk result (λ r. Moves tokens.now at r.1) }
@@ -48,7 +48,7 @@ pub fn take_word(tokens: &[Token], at: usize, word: Word) -> Result<(&Token, usi
     if is_word(token, word) {
         Ok((token, at + 1))
     } else {
-        Err(Stop::Unexpected(at))
+        Err(ParseStop::Unexpected(at))
     }
 }
 

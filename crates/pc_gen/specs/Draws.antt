@@ -6,14 +6,14 @@ abbrev pub next : ℕ → ℕ
 next x = (1103515245 * x + 12345) % 2 ^ 31
 
 -- the state behind so many draws
-abbrev pub state : ℕ → ℕ → ℕ
+abbrev pub state : (seed draws : ℕ) → ℕ
 state seed zero = seed % 2 ^ 31
 state seed (suc k) = next (state seed k)
 
 -- the number below n that a state gives
-abbrev pub high : ℕ → ℕ → ℕ
+abbrev pub high : (drawn below : ℕ) → ℕ
 high x n = (x / 65536) % n
 
 -- the draw below n of this number, counted from 0
-abbrev pub draw : ℕ → ℕ → ℕ → ℕ
+abbrev pub draw : (seed number below : ℕ) → ℕ
 draw seed k n = high (state seed (suc k)) n

@@ -113,18 +113,18 @@ worker_params = param (codes "out") (type_of (codes "OutStream") None) ∷ param
 abbrev pub hand_on : ℕ → ℕ → t.Expr
 hand_on size i = if i + 1 == size then tell (codes "c") else construct (worker_name (i + 1)) (variable (codes "out") ∷ consumed (codes "c") ∷ [])
 
-abbrev pub work_items : ℕ → ℕ → Task → ℕ → List t.Item
+abbrev pub work_items : (size number : ℕ) → Task → (drawn : ℕ) → List t.Item
 work_items size i task k = take_cell ∷ (task_items task k ++ t.plain (hand_on size i) ∷ [])
 
 -- the worker of this number, with this task and this number for it
-abbrev pub work : ℕ → ℕ → Task → ℕ → t.Entity
+abbrev pub work : (size number : ℕ) → Task → (drawn : ℕ) → t.Entity
 work size i task k = actor (worker_name i) (create worker_params (sequence (work_items size i task k)))
 
 -- Two numbers are drawn for each worker, first for its task and then the number for it.
-abbrev pub worker : ℕ → ℕ → ℕ → t.Entity
+abbrev pub worker : (seed size number : ℕ) → t.Entity
 worker seed size i = work size i (task_of (draw seed (i * 2) 4)) (draw seed (suc (i * 2)) 1000)
 
-abbrev pub workers : ℕ → ℕ → List t.Entity
+abbrev pub workers : (seed size : ℕ) → List t.Entity
 workers seed size = map (worker seed size) (range_with_len 0 size)
 
 -- `new create(env: Env) => Work0(env.out, Cell)`

@@ -4,13 +4,14 @@ use Rattle.pc_tree.specs.declared.kinds.EntityKind.{EntityKind}
 use Rattle.pc_tree.specs.declared.kinds.EntityKind.TheVariants as kind
 use Rattle.pc_tree.specs.declared.kinds.MethodWord.{MethodWord}
 use Rattle.pc_tree.specs.declared.kinds.MethodWord.TheVariants as method
+use Rattle.pc_tree.specs.Kinds.{is_abstract, may_have_fields}
 use Rattle.pc_token.specs.declared.words.Word.TheVariants as w
 use Rattle.pc_token.specs.declared.signs.Sign.TheVariants as s
 use Rattle.pc_token.specs.Asking.{is_sign, is_word}
 use Rattle.pc_grammar.specs.Asking.{local_word}
 use Rattle.pc_grammar.specs.SpellsFile.{method_word, entity_word}
 use Rattle.pc_grammar.specs.Reading.{◌>>◌, pure, peek, take_if, at, inner, name, type_name, written_type}
-use Rattle.pc_grammar.specs.ReadingFile.{maybe_doc, params, provides, entity_cap, method_cap, method_result, value, field, begins_field, some_field, fields, body, method_of, word_in, begins_method, some_method, entity_of, entity, begins_entity, file}
+use Rattle.pc_grammar.specs.ReadingFile.{maybe_doc, params, provides, entity_cap, method_cap, method_result, value, field, begins_field, some_field, fields, written_body, body, method_of, word_in, begins_method, some_method, entity_of, entity, begins_entity, file}
 use Rattle.pc_grammar.proofs.Agree.{Agrees, same, bind_agrees, cond_agrees, all_agrees, inner_agrees, infix_agrees, seq_agrees}
 
 module _ (n m : ℕ) (le : n ≤ m) where
@@ -27,19 +28,14 @@ module _ (n m : ℕ) (le : n ≤ m) where
   some_field_agrees = bind_agrees _ _ _ _ (same peek) (λ x. field_agrees (is_word w.LetWord x))
 
   fields_agrees : (e : EntityKind) → Agrees (fields n e) (fields m e)
-  fields_agrees kind.Class = all_agrees (at begins_field) (some_field n) (some_field m) some_field_agrees
-  fields_agrees kind.Actor = all_agrees (at begins_field) (some_field n) (some_field m) some_field_agrees
-  fields_agrees kind.Primitive = same _
-  fields_agrees kind.Trait = same _
+  fields_agrees e = cond_agrees (may_have_fields e) _ _ _ _ (all_agrees (at begins_field) (some_field n) (some_field m) some_field_agrees) (same _)
 
-  written_body_agrees : Agrees (body n kind.Class) (body m kind.Class)
+  written_body_agrees : Agrees (written_body n) (written_body m)
+  unfolding written_body
   written_body_agrees = bind_agrees _ _ _ _ (bind_agrees _ _ _ _ (same _) (λ d. seq_agrees n m le (inner n) (inner m) (inner_agrees n m le))) (λ b. same _)
 
   body_agrees : (e : EntityKind) → Agrees (body n e) (body m e)
-  body_agrees kind.Class = written_body_agrees
-  body_agrees kind.Actor = written_body_agrees
-  body_agrees kind.Primitive = written_body_agrees
-  body_agrees kind.Trait = same _
+  body_agrees e = cond_agrees (is_abstract e) _ _ _ _ (same _) written_body_agrees
 
   method_agrees : (e : EntityKind) (i : MethodWord) → Agrees (method_of n e i) (method_of m e i)
   unfolding method_of

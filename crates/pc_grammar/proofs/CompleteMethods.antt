@@ -5,9 +5,9 @@ use Rattle.pc_tree.specs.Tree as t
 use Rattle.pc_tree.specs.Measures.{body_depth, methods_depth, seq_depth}
 use Rattle.pc_tree.specs.declared.names.TypeRef.{TypeRef}
 use Rattle.pc_tree.specs.declared.kinds.EntityKind.{EntityKind}
-use Rattle.pc_tree.specs.declared.kinds.EntityKind.TheVariants as kind
 use Rattle.pc_tree.specs.declared.kinds.MethodWord.{MethodWord}
 use Rattle.pc_tree.specs.declared.kinds.MethodWord.TheVariants as method
+use Rattle.pc_tree.specs.Kinds.{is_abstract, may_stand, may_have_method_cap, CapIf, BodyUnless}
 use Rattle.pc_token.specs.declared.kinds.Token.{Token}
 use Rattle.pc_token.specs.declared.kinds.TokenKind.{TokenKind}
 use Rattle.pc_token.specs.declared.kinds.TokenKind.TheVariants as k
@@ -16,9 +16,9 @@ use Rattle.pc_token.specs.declared.signs.Sign.TheVariants as s
 use Rattle.pc_token.specs.Asking.{is_sign, is_word, same_sign, same_word}
 use Rattle.pc_grammar.specs.Asking.{op_of, cap_of}
 use Rattle.pc_grammar.specs.Spells.{SpellsCap}
-use Rattle.pc_grammar.specs.SpellsFile.{SpellsReturns, SpellsBody, method_word, MayHave, MayReturn, may_stand, HasBody, SpellsMethod, SpellsMethods}
+use Rattle.pc_grammar.specs.SpellsFile.{SpellsReturns, SpellsBody, method_word, MayReturn, SpellsMethod, SpellsMethods}
 use Rattle.pc_grammar.specs.Reading.{pure, peek, take_if, many, all, at, seq, begins_suffix, begins_item, kind_begins}
-use Rattle.pc_grammar.specs.ReadingFile.{kind_is_doc, is_doc, body, method_cap, method_result, method_of, word_in, begins_method, some_method, begins_field}
+use Rattle.pc_grammar.specs.ReadingFile.{kind_is_doc, is_doc, written_body, cap_if, method_result, method_of, word_in, begins_method, some_method, begins_field}
 use Rattle.pc_grammar.proofs.Follow.{Stops_seq, kind_of_sign, kind_of_word, at_one, at_none}
 use Rattle.pc_grammar.proofs.First.{First, first_seq}
 use Rattle.pc_grammar.proofs.Lifts.{many_none}
@@ -86,8 +86,8 @@ to_calm rest f = (f.0, f.1, f.2, f.3.calm)
 module _ (n : ℕ) where
   -- ---- bodies
 
-  written_reads : (b : t.Seq) (a rest : List Token) → SpellsBody (Some b) a → seq_depth b ≤ n → First Outer rest → body n kind.Class (a ++ rest) ≡ Ok (Some b, rest)
-  unfolding take_if
+  written_reads : (b : t.Seq) (a rest : List Token) → SpellsBody (Some b) a → seq_depth b ≤ n → First Outer rest → written_body n (a ++ rest) ≡ Ok (Some b, rest)
+  unfolding written_body take_if
   written_reads b a rest h d f =
       let y = f.0 in
       let more = f.1 in
@@ -96,21 +96,17 @@ module _ (n : ℕ) where
       let doc = doc_reads h.1 inside h.5 (one.0, one.1 ++ rest, ap (λ l. l ++ rest) one.2, item_no_doc one.0 one.3) in
       let read : seq n inside ≡ Ok (b, rest) = ap (λ l. seq n (h.2 ++ l)) f.2 ∙ complete_seq b n h.2 y more h.6 d f.3.stops ∙ ap (λ l. Ok (b, l)) (sym f.2) in
       let here : a ++ rest ≡ h.0 ∷ (h.1 ++ inside) = ap (λ l. l ++ rest) h.3 ∙ ap (λ l. h.0 ∷ l) (append_assoc h.1 h.2 rest) in
-      let step : body n kind.Class (h.0 ∷ (h.1 ++ inside)) ≡ Ok (Some b, rest) = rw (h.4, doc, read) in
-      ap (body n kind.Class) here ∙ step
+      let step : written_body n (h.0 ∷ (h.1 ++ inside)) ≡ Ok (Some b, rest) = rw (h.4, doc, read) in
+      ap (written_body n) here ∙ step
 
-  trait_reads : (b : Option t.Seq) (a rest : List Token) → SpellsBody b a → b ≡ None → body n kind.Trait (a ++ rest) ≡ Ok (b, rest)
-  trait_reads None a rest h e = ap (λ l. Ok (None, l ++ rest)) h
-  trait_reads (Some b) a rest h e = absurd (cc)
+  no_body : (b : Option t.Seq) (a rest : List Token) → SpellsBody b a → b ≡ None → pure None (a ++ rest) ≡ Ok (b, rest)
+  no_body None a rest h e = ap (λ l. Ok (None, l ++ rest)) h
+  no_body (Some b) a rest h e = absurd (cc)
 
-  body_reads : (e : EntityKind) (b : Option t.Seq) (a rest : List Token) → SpellsBody b a → HasBody e b → body_depth b ≤ suc n → First Outer rest → body n e (a ++ rest) ≡ Ok (b, rest)
-  body_reads kind.Trait b a rest h has d f = trait_reads b a rest h has
-  body_reads kind.Class None a rest h has d f = absurd has
-  body_reads kind.Actor None a rest h has d f = absurd has
-  body_reads kind.Primitive None a rest h has d f = absurd has
-  body_reads kind.Class (Some b) a rest h has d f = written_reads b a rest h (omega arith) f
-  body_reads kind.Actor (Some b) a rest h has d f = written_reads b a rest h (omega arith) f
-  body_reads kind.Primitive (Some b) a rest h has d f = written_reads b a rest h (omega arith) f
+  body_reads : (abstract : Bool) (b : Option t.Seq) (a rest : List Token) → SpellsBody b a → BodyUnless abstract b → body_depth b ≤ suc n → First Outer rest → cond abstract (pure None) (written_body n) (a ++ rest) ≡ Ok (b, rest)
+  body_reads true b a rest h has d f = no_body b a rest h has
+  body_reads false None a rest h has d f = absurd has
+  body_reads false (Some b) a rest h has d f = written_reads b a rest h (omega arith) f
 
   body_first : (b : Option t.Seq) (a rest : List Token) → SpellsBody b a → First Calm rest → First Calm (a ++ rest)
   body_first None a rest h f = (f.0, f.1, ap (λ l. l ++ rest) h ∙ f.2, f.3)
@@ -122,13 +118,9 @@ module _ (n : ℕ) where
   no_cap None a rest h e = ap (λ l. Ok (None, l ++ rest)) h
   no_cap (Some c) a rest h e = absurd (cc)
 
-  method_cap_reads : (e : EntityKind) (m : MethodWord) (c : Option Cap) (a rest : List Token) → SpellsCap c a → MayHave e m c → First NoCap rest → method_cap e m (a ++ rest) ≡ Ok (c, rest)
-  method_cap_reads e method.Fun c a rest h may f = cap_reads c a rest h f
-  method_cap_reads e method.Be c a rest h may f = no_cap c a rest h may
-  method_cap_reads kind.Class method.New c a rest h may f = cap_reads c a rest h f
-  method_cap_reads kind.Actor method.New c a rest h may f = no_cap c a rest h may
-  method_cap_reads kind.Primitive method.New c a rest h may f = no_cap c a rest h may
-  method_cap_reads kind.Trait method.New c a rest h may f = no_cap c a rest h may
+  pub cap_if_reads : (b : Bool) (c : Option Cap) (a rest : List Token) → SpellsCap c a → CapIf b c → First NoCap rest → cap_if b (a ++ rest) ≡ Ok (c, rest)
+  cap_if_reads true c a rest h may f = cap_reads c a rest h f
+  cap_if_reads false c a rest h may f = no_cap c a rest h may
 
   no_result : (r : Option TypeRef) (a rest : List Token) → SpellsReturns r a → r ≡ None → pure None (a ++ rest) ≡ Ok (r, rest)
   no_result None a rest h e = ap (λ l. Ok (None, l ++ rest)) h
@@ -158,9 +150,9 @@ module _ (n : ℕ) where
       let l1 = h.2 ++ h.1 ∷ l2 in
       let calm = body_first m.body h.6 rest h.14 (to_calm rest f) in
       let quiet = doc_first h.5 l5 h.13 (to_quiet l5 calm) in
-      let cap = method_cap_reads e m.word m.cap h.2 (h.1 ∷ l2) h.9 h.16 (h.1, l2, refl, name_no_cap h.1 _ h.10.0) in
+      let cap = cap_if_reads (may_have_method_cap e m.word) m.cap h.2 (h.1 ∷ l2) h.9 h.16 (h.1, l2, refl, name_no_cap h.1 _ h.10.0) in
       let step : method_of n e m.word (h.0 ∷ l1) ≡ Ok (m, rest) =
-      rw (h.8, cap, name_read h.1 m.name l2 h.10, params_reads m.params h.3 l3 h.11, method_result_reads m.word m.result h.4 l4 h.12 h.17 quiet, doc_reads h.5 l5 h.13 (to_doc l5 calm), body_reads e m.body h.6 rest h.14 h.18 d f) in
+      rw (h.8, cap, name_read h.1 m.name l2 h.10, params_reads m.params h.3 l3 h.11, method_result_reads m.word m.result h.4 l4 h.12 h.17 quiet, doc_reads h.5 l5 h.13 (to_doc l5 calm), body_reads (is_abstract e) m.body h.6 rest h.14 h.18 d f) in
       ap (method_of n e m.word) (method_parts e m a rest h) ∙ step
 
   -- ---- lists of methods

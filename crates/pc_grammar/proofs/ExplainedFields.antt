@@ -5,14 +5,14 @@ use Rattle.pc_tree.specs.Measures.{depth, value_depth, fields_depth}
 use Rattle.pc_tree.specs.declared.names.Name.{Name}
 use Rattle.pc_tree.specs.declared.names.TypeRef.{TypeRef}
 use Rattle.pc_tree.specs.declared.kinds.EntityKind.{EntityKind}
-use Rattle.pc_tree.specs.declared.kinds.EntityKind.TheVariants as kind
+use Rattle.pc_tree.specs.Kinds.{may_have_fields, FieldsIf}
 use Rattle.pc_token.specs.declared.kinds.Token.{Token}
 use Rattle.pc_token.specs.declared.kinds.TokenKind.TheVariants as k
 use Rattle.pc_token.specs.declared.words.Word.TheVariants as w
 use Rattle.pc_token.specs.declared.signs.Sign.TheVariants as s
 use Rattle.pc_token.specs.Asking.{is_sign, is_word}
 use Rattle.pc_grammar.specs.Asking.{local_word}
-use Rattle.pc_grammar.specs.SpellsFile.{SpellsValue, SpellsField, SpellsFields, MayHaveFields}
+use Rattle.pc_grammar.specs.SpellsFile.{SpellsValue, SpellsField, SpellsFields}
 use Rattle.pc_grammar.specs.Reading.{pure, ◌>>=◌, ◌>>◌, peek, take_if, all, at, name, infix_, inner}
 use Rattle.pc_grammar.specs.ReadingFile.{maybe_doc, value, field, begins_field, some_field, fields}
 use Rattle.pc_grammar.proofs.Explained.{Fits, fits_zero, fits_max, Explained, Then, Tok, Only, Listed, Inhabited, some_only, some_then, explained_bind, explained_weaker, explained_only, explained_refuse, explained_take, explained_all}
@@ -130,20 +130,25 @@ module _ (u : Bool) (n : ℕ) where
       let g = listed_fields fs h.1 h.4 in
       ((h.0, h.1, h.2, h.3.0, g.0), fits_max u (suc n) (value_depth f.value) (fields_depth fs) h.3.1 g.1)
 
+  abbrev FieldsAt : Bool → List t.Field → List Token → Type 0
+  FieldsAt b fs ts = SpellsFields fs ts × Fits u (suc n) (fields_depth fs) × FieldsIf b fs
+
   abbrev pub FieldsIn : EntityKind → List t.Field → List Token → Type 0
-  FieldsIn e fs ts = SpellsFields fs ts × Fits u (suc n) (fields_depth fs) × MayHaveFields e fs
+  FieldsIn e = FieldsAt (may_have_fields e)
+
+  some_at : (b : Bool) → Inhabited (FieldsAt b)
+  some_at true = ([], [], (refl, fits_zero u (suc n), tt))
+  some_at false = ([], [], (refl, fits_zero u (suc n), refl))
 
   pub some_fields : (e : EntityKind) → Inhabited (FieldsIn e)
-  some_fields kind.Class = ([], [], (refl, fits_zero u (suc n), tt))
-  some_fields kind.Actor = ([], [], (refl, fits_zero u (suc n), tt))
-  some_fields kind.Primitive = ([], [], (refl, fits_zero u (suc n), refl))
-  some_fields kind.Trait = ([], [], (refl, fits_zero u (suc n), refl))
+  some_fields e = some_at (may_have_fields e)
 
   explained_list : (ts : List Token) → Explained u ListIn ts (all (at begins_field) (some_field n) ts)
   explained_list ts = explained_weaker u (Listed FieldIn) ListIn ts _ listed_fields (explained_all u FieldIn (at begins_field) (some_field n) each_field ts)
 
+  explained_at : (b : Bool) (ts : List Token) → Explained u (FieldsAt b) ts (cond b (all (at begins_field) (some_field n)) (pure []) ts)
+  explained_at true ts = explained_weaker u ListIn (FieldsAt true) ts _ (λ fs a h. (h.0, h.1, tt)) (explained_list ts)
+  explained_at false ts = ([], refl, (refl, fits_zero u (suc n), refl))
+
   pub explained_fields : (e : EntityKind) (ts : List Token) → Explained u (FieldsIn e) ts (fields n e ts)
-  explained_fields kind.Class ts = explained_weaker u ListIn (FieldsIn kind.Class) ts _ (λ fs a h. (h.0, h.1, tt)) (explained_list ts)
-  explained_fields kind.Actor ts = explained_weaker u ListIn (FieldsIn kind.Actor) ts _ (λ fs a h. (h.0, h.1, tt)) (explained_list ts)
-  explained_fields kind.Primitive ts = ([], refl, (refl, fits_zero u (suc n), refl))
-  explained_fields kind.Trait ts = ([], refl, (refl, fits_zero u (suc n), refl))
+  explained_fields e ts = explained_at (may_have_fields e) ts

@@ -6,23 +6,23 @@ use Rattle.pc_tree.specs.Measures.{fields_depth, methods_depth, entities_depth, 
 use Rattle.pc_tree.specs.declared.names.Name.{Name}
 use Rattle.pc_tree.specs.declared.kinds.EntityKind.{EntityKind}
 use Rattle.pc_tree.specs.declared.kinds.EntityKind.TheVariants as kind
+use Rattle.pc_tree.specs.Kinds.{may_have_cap}
 use Rattle.pc_token.specs.declared.kinds.Token.{Token}
 use Rattle.pc_token.specs.declared.kinds.TokenKind.{TokenKind}
 use Rattle.pc_token.specs.declared.kinds.TokenKind.TheVariants as k
 use Rattle.pc_token.specs.declared.words.Word.TheVariants as w
 use Rattle.pc_token.specs.declared.signs.Sign.TheVariants as s
 use Rattle.pc_token.specs.Asking.{is_sign, is_word}
-use Rattle.pc_grammar.specs.Spells.{SpellsCap}
-use Rattle.pc_grammar.specs.SpellsFile.{SpellsMoreNames, SpellsNames, SpellsBracketed, SpellsAlone, SpellsProvides, entity_word, MayHaveCap, SpellsEntity, SpellsMoreEntities, SpellsFile}
+use Rattle.pc_grammar.specs.SpellsFile.{SpellsMoreNames, SpellsNames, SpellsBracketed, SpellsAlone, SpellsProvides, entity_word, is_spelled, SpellsEntity, SpellsMoreEntities, SpellsFile}
 use Rattle.pc_grammar.specs.Reading.{pure, refuse, ◌>>=◌, ◌>>◌, peek, take_if, at, after, type_name}
 use Rattle.pc_grammar.specs.ReadingFile.{kind_is_end, is_end, maybe_doc, type_names, provided, provides, entity_cap, fields, entity_of, entity, begins_entity, file}
 use Rattle.pc_grammar.proofs.Explained.{Fits, fits_zero, fits_max, Explained, Then, Tok, Only, Listed, Inhabited, some_only, some_then, explained_bind, explained_weaker, explained_only, explained_refuse, explained_take, explained_all}
-use Rattle.pc_grammar.proofs.ExplainedParts.{explained_cons, taken, opened, ends_nil, joined, begins_one, of_kind, a_word, some_word, a_sign, TypeNameAt, some_type_name, explained_type_name, explained_cap}
+use Rattle.pc_grammar.proofs.ExplainedParts.{explained_cons, taken, opened, ends_nil, joined, begins_one, of_kind, a_word, some_word, a_sign, TypeNameAt, some_type_name, explained_type_name}
 use Rattle.pc_grammar.proofs.ExplainedAtoms.{Closes, some_close, explained_close, closed, at_is, at_nil}
 use Rattle.pc_grammar.proofs.ExplainedChains.{after_is}
 use Rattle.pc_grammar.proofs.ExplainedParams.{DocAt, some_doc, explained_doc}
 use Rattle.pc_grammar.proofs.ExplainedFields.{FieldsIn, some_fields, explained_fields}
-use Rattle.pc_grammar.proofs.ExplainedMethods.{MethodsIn, some_methods, explained_methods}
+use Rattle.pc_grammar.proofs.ExplainedMethods.{CapAt, some_cap, explained_cap_if, MethodsIn, some_methods, explained_methods}
 
 -- ---- the traits of an entity
 
@@ -127,21 +127,6 @@ module _ (u : Bool) where
 
   -- ---- entities
 
-  abbrev CapAt : EntityKind → Option Cap → List Token → Type 0
-  CapAt e c ts = SpellsCap c ts × MayHaveCap e c
-
-  some_cap : (e : EntityKind) → Inhabited (CapAt e)
-  some_cap kind.Class = ([], None, (refl, tt))
-  some_cap kind.Trait = ([], None, (refl, tt))
-  some_cap kind.Actor = ([], None, (refl, refl))
-  some_cap kind.Primitive = ([], None, (refl, refl))
-
-  explained_entity_cap : (e : EntityKind) (ts : List Token) → Explained u (CapAt e) ts (entity_cap e ts)
-  explained_entity_cap kind.Class ts = explained_weaker u SpellsCap (CapAt kind.Class) ts _ (λ c a h. (h, tt)) (explained_cap u ts)
-  explained_entity_cap kind.Trait ts = explained_weaker u SpellsCap (CapAt kind.Trait) ts _ (λ c a h. (h, tt)) (explained_cap u ts)
-  explained_entity_cap kind.Actor ts = ([], refl, (refl, refl))
-  explained_entity_cap kind.Primitive ts = ([], refl, (refl, refl))
-
   module _ (n : ℕ) where
     abbrev depth_of : t.Entity → ℕ
     depth_of e = max (fields_depth e.fields) (methods_depth e.methods)
@@ -149,12 +134,12 @@ module _ (u : Bool) where
     abbrev EntityIn : t.Entity → List Token → Type 0
     EntityIn e ts = SpellsEntity e ts × Fits u (suc n) (depth_of e)
 
-    module _ (e : EntityKind) where
+    module _ (e : EntityKind) (spelled : is_spelled e ≡ true) where
       abbrev an_entity : Option Cap → Name → List Name → List t.Field → List t.Method → t.Entity
       an_entity c m ps fs ms = record { kind = e; cap = c; name = m; provides = ps; fields = fs; methods = ms }
 
       abbrev Head : Option Cap → List Token → Type 0
-      Head = Then (Tok (is_word (entity_word e))) (λ _. CapAt e)
+      Head = Then (Tok (is_word (entity_word e))) (λ _. CapAt (may_have_cap e))
 
       abbrev DocFields : List t.Field → List Token → Type 0
       DocFields = Then DocAt (λ _. FieldsIn u n e)
@@ -172,10 +157,10 @@ module _ (u : Bool) where
       Named c = Then TypeNameAt (Providing c)
 
       some_head : Inhabited Head
-      some_head = some_then (Tok (is_word (entity_word e))) (λ _. CapAt e) (some_word (entity_word e)) (λ _. some_cap e)
+      some_head = some_then (Tok (is_word (entity_word e))) (λ _. CapAt (may_have_cap e)) (some_word (entity_word e)) (λ _. some_cap (may_have_cap e))
 
       explained_head : (ts : List Token) → Explained u Head ts ((take_if (is_word (entity_word e)) >> entity_cap e) ts)
-      explained_head ts = explained_bind (Tok (is_word (entity_word e))) (λ _. CapAt e) u ts (λ _. entity_cap e) (take_if (is_word (entity_word e)) ts) (explained_take u (is_word (entity_word e)) (of_kind (k.Word (entity_word e))) (a_word (entity_word e)) ts) (λ y r f. explained_entity_cap e r) (λ _. some_cap e)
+      explained_head ts = explained_bind (Tok (is_word (entity_word e))) (λ _. CapAt (may_have_cap e)) u ts (λ _. entity_cap e) (take_if (is_word (entity_word e)) ts) (explained_take u (is_word (entity_word e)) (of_kind (k.Word (entity_word e))) (a_word (entity_word e)) ts) (λ y r f. explained_cap_if u (may_have_cap e) r) (λ _. some_cap (may_have_cap e))
 
       some_doc_fields : Inhabited DocFields
       some_doc_fields = some_then DocAt (λ _. FieldsIn u n e) some_doc (λ _. some_fields u n e)
@@ -211,7 +196,7 @@ module _ (u : Bool) where
           let behind : h.2 ≡ y ∷ (p.1 ++ (d.1 ++ (d.2 ++ m.1))) = begins_one y h.2 g.1 g.2 (p.1 ++ (d.1 ++ (d.2 ++ m.1))) g.3 g.4.1 providing in
           let front : h.1 ≡ x ∷ q.2 = begins_one x h.1 q.1 q.2 q.2 q.3 q.4.0 refl in
           let cut : a ≡ x ∷ (q.2 ++ y ∷ (p.1 ++ (d.1 ++ (d.2 ++ m.1)))) = joined a h.1 h.2 (y ∷ (p.1 ++ (d.1 ++ (d.2 ++ m.1)))) h.3 behind ∙ ap (λ l. l ++ y ∷ (p.1 ++ (d.1 ++ (d.2 ++ m.1)))) front in
-          subst (λ v. EntityIn v a) (sym m.5.1) ((x, y, q.2, p.1, d.1, d.2, m.1, cut, q.4.1, q.5.0, g.4.2, p.4, d.4, d.5.0, m.4.0, q.5.1, d.5.2), fits_max u (suc n) (fields_depth f.0) (methods_depth m.0) d.5.1 m.4.1)
+          subst (λ v. EntityIn v a) (sym m.5.1) ((x, y, q.2, p.1, d.1, d.2, m.1, cut, q.4.1, q.5.0, g.4.2, p.4, d.4, d.5.0, m.4.0, q.5.1, d.5.2, spelled), fits_max u (suc n) (fields_depth f.0) (methods_depth m.0) d.5.1 m.4.1)
 
       explained_entity_of : (ts : List Token) → Explained u EntityIn ts (entity_of n e ts)
       unfolding entity_of
@@ -228,15 +213,15 @@ module _ (u : Bool) where
       an_entity_in = let r = some_then Head Named some_head some_named in (r.0, r.1, entity_whole r.1 r.0 r.2)
 
     entity_by : (x : Token) (ts : List Token) (a b c d : Bool) → Explained u EntityIn (x ∷ ts) (cond a (entity_of n kind.Class) (cond b (entity_of n kind.Actor) (cond c (entity_of n kind.Primitive) (cond d (entity_of n kind.Trait) refuse))) (x ∷ ts))
-    entity_by x ts true b c d = explained_entity_of kind.Class (x ∷ ts)
-    entity_by x ts false true c d = explained_entity_of kind.Actor (x ∷ ts)
-    entity_by x ts false false true d = explained_entity_of kind.Primitive (x ∷ ts)
-    entity_by x ts false false false true = explained_entity_of kind.Trait (x ∷ ts)
-    entity_by x ts false false false false = explained_refuse u EntityIn (x ∷ ts) (an_entity_in kind.Class)
+    entity_by x ts true b c d = explained_entity_of kind.Class refl (x ∷ ts)
+    entity_by x ts false true c d = explained_entity_of kind.Actor refl (x ∷ ts)
+    entity_by x ts false false true d = explained_entity_of kind.Primitive refl (x ∷ ts)
+    entity_by x ts false false false true = explained_entity_of kind.Trait refl (x ∷ ts)
+    entity_by x ts false false false false = explained_refuse u EntityIn (x ∷ ts) (an_entity_in kind.Class refl)
 
     explained_entity : (ts : List Token) → Explained u EntityIn ts (entity n ts)
     unfolding entity peek
-    explained_entity [] = explained_refuse u EntityIn [] (an_entity_in kind.Class)
+    explained_entity [] = explained_refuse u EntityIn [] (an_entity_in kind.Class refl)
     explained_entity (x ∷ ts) = entity_by x ts (is_word w.ClassWord x) (is_word w.ActorWord x) (is_word w.PrimitiveWord x) (is_word w.TraitWord x)
 
     each_entity : (ts begin : List Token) → at begins_entity ts ≡ Some begin → Explained u EntityIn ts (entity n begin)
@@ -267,10 +252,10 @@ module _ (u : Bool) where
     Others e = Then (Listed EntityIn) (Ended e)
 
     some_doc_entity : Inhabited DocEntity
-    some_doc_entity = some_then DocAt (λ _. EntityIn) some_doc (λ _. an_entity_in kind.Class)
+    some_doc_entity = some_then DocAt (λ _. EntityIn) some_doc (λ _. an_entity_in kind.Class refl)
 
     explained_doc_entity : (ts : List Token) → Explained u DocEntity ts ((maybe_doc >> entity n) ts)
-    explained_doc_entity ts = explained_bind DocAt (λ _. EntityIn) u ts (λ _. entity n) (maybe_doc ts) (explained_doc u ts) (λ x r f. explained_entity r) (λ _. an_entity_in kind.Class)
+    explained_doc_entity ts = explained_bind DocAt (λ _. EntityIn) u ts (λ _. entity n) (maybe_doc ts) (explained_doc u ts) (λ x r f. explained_entity r) (λ _. an_entity_in kind.Class refl)
 
     some_ended : (e : t.Entity) (es : List t.Entity) → Inhabited (Ended e es)
     some_ended e es = some_close u is_end (λ _. a_file e es) (of_kind k.End) an_end

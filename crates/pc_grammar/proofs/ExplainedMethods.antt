@@ -7,17 +7,17 @@ use Rattle.pc_tree.specs.declared.names.Name.{Name}
 use Rattle.pc_tree.specs.declared.names.TypeRef.{TypeRef}
 use Rattle.pc_tree.specs.declared.file.ParamDef.{ParamDef}
 use Rattle.pc_tree.specs.declared.kinds.EntityKind.{EntityKind}
-use Rattle.pc_tree.specs.declared.kinds.EntityKind.TheVariants as kind
 use Rattle.pc_tree.specs.declared.kinds.MethodWord.{MethodWord}
 use Rattle.pc_tree.specs.declared.kinds.MethodWord.TheVariants as method
+use Rattle.pc_tree.specs.Kinds.{is_abstract, may_stand, may_have_method_cap, CapIf, BodyUnless}
 use Rattle.pc_token.specs.declared.kinds.Token.{Token}
 use Rattle.pc_token.specs.declared.kinds.TokenKind.TheVariants as k
 use Rattle.pc_token.specs.declared.signs.Sign.TheVariants as s
 use Rattle.pc_token.specs.Asking.{is_sign, is_word}
 use Rattle.pc_grammar.specs.Spells.{SpellsCap}
-use Rattle.pc_grammar.specs.SpellsFile.{SpellsReturns, SpellsParams, SpellsBody, method_word, MayHave, MayReturn, may_stand, HasBody, SpellsMethod, SpellsMethods}
-use Rattle.pc_grammar.specs.Reading.{◌>>◌, peek, take_if, all, at, name, seq, inner}
-use Rattle.pc_grammar.specs.ReadingFile.{maybe_doc, params, body, method_cap, method_result, method_of, word_in, begins_method, some_method}
+use Rattle.pc_grammar.specs.SpellsFile.{SpellsReturns, SpellsParams, SpellsBody, method_word, MayReturn, SpellsMethod, SpellsMethods}
+use Rattle.pc_grammar.specs.Reading.{◌>>◌, pure, peek, take_if, all, at, name, seq, inner}
+use Rattle.pc_grammar.specs.ReadingFile.{maybe_doc, params, written_body, body, cap_if, method_cap, method_result, method_of, word_in, begins_method, some_method}
 use Rattle.pc_grammar.proofs.Explained.{Fits, fits_zero, fits_max, Explained, Then, Tok, Only, Listed, Inhabited, some_only, some_then, explained_bind, explained_weaker, explained_only, explained_take, explained_all}
 use Rattle.pc_grammar.proofs.ExplainedParts.{ends_nil, joined, begins_one, of_kind, a_word, some_word, a_sign, some_sign, SeqIn, some_seq, NameAt, some_name, explained_name, explained_cap}
 use Rattle.pc_grammar.proofs.ExplainedAtoms.{at_is, at_nil}
@@ -25,16 +25,13 @@ use Rattle.pc_grammar.proofs.ExplainedSeqs.{explained_seq, explained_inner}
 use Rattle.pc_grammar.proofs.ExplainedParams.{DocAt, some_doc, explained_doc, explained_returns, some_params, explained_params}
 use Rattle.pc_grammar.proofs.ExplainedFields.{fits_up}
 
-abbrev CapAt : EntityKind → MethodWord → Option Cap → List Token → Type 0
-CapAt e m c ts = SpellsCap c ts × MayHave e m c
+-- [Cap], where one may stand
+abbrev pub CapAt : Bool → Option Cap → List Token → Type 0
+CapAt b c ts = SpellsCap c ts × CapIf b c
 
-some_cap : (e : EntityKind) (m : MethodWord) → Inhabited (CapAt e m)
-some_cap e method.Fun = ([], None, (refl, tt))
-some_cap e method.Be = ([], None, (refl, refl))
-some_cap kind.Class method.New = ([], None, (refl, tt))
-some_cap kind.Actor method.New = ([], None, (refl, refl))
-some_cap kind.Primitive method.New = ([], None, (refl, refl))
-some_cap kind.Trait method.New = ([], None, (refl, refl))
+pub some_cap : (b : Bool) → Inhabited (CapAt b)
+some_cap true = ([], None, (refl, tt))
+some_cap false = ([], None, (refl, refl))
 
 abbrev ResultAt : MethodWord → Option TypeRef → List Token → Type 0
 ResultAt m r ts = SpellsReturns r ts × MayReturn m r
@@ -45,13 +42,9 @@ some_result method.Be = ([], None, (refl, refl))
 some_result method.New = ([], None, (refl, refl))
 
 module _ (u : Bool) where
-  explained_method_cap : (e : EntityKind) (m : MethodWord) (ts : List Token) → Explained u (CapAt e m) ts (method_cap e m ts)
-  explained_method_cap e method.Fun ts = explained_weaker u SpellsCap (CapAt e method.Fun) ts _ (λ c a h. (h, tt)) (explained_cap u ts)
-  explained_method_cap e method.Be ts = ([], refl, (refl, refl))
-  explained_method_cap kind.Class method.New ts = explained_weaker u SpellsCap (CapAt kind.Class method.New) ts _ (λ c a h. (h, tt)) (explained_cap u ts)
-  explained_method_cap kind.Actor method.New ts = ([], refl, (refl, refl))
-  explained_method_cap kind.Primitive method.New ts = ([], refl, (refl, refl))
-  explained_method_cap kind.Trait method.New ts = ([], refl, (refl, refl))
+  pub explained_cap_if : (b : Bool) (ts : List Token) → Explained u (CapAt b) ts (cap_if b ts)
+  explained_cap_if true ts = explained_weaker u SpellsCap (CapAt true) ts _ (λ c a h. (h, tt)) (explained_cap u ts)
+  explained_cap_if false ts = ([], refl, (refl, refl))
 
   explained_method_result : (m : MethodWord) (ts : List Token) → Explained u (ResultAt m) ts (method_result m ts)
   explained_method_result method.Fun ts = explained_weaker u SpellsReturns (ResultAt method.Fun) ts _ (λ c a h. (h, tt)) (explained_returns u ts)
@@ -68,7 +61,7 @@ module _ (u : Bool) where
     Written = Then ArrowDoc (λ _. SeqIn u n)
 
     abbrev WrittenIn : Option t.Seq → List Token → Type 0
-    WrittenIn b ts = SpellsBody b ts × Fits u (suc n) (body_depth b) × HasBody kind.Class b
+    WrittenIn b ts = SpellsBody b ts × Fits u (suc n) (body_depth b) × BodyUnless false b
 
     some_arrow : Inhabited ArrowDoc
     some_arrow = some_then (Tok (is_sign s.Arrow)) (λ _. DocAt) (some_sign s.Arrow) (λ _. some_doc)
@@ -90,47 +83,36 @@ module _ (u : Bool) where
         let cut : a ≡ o.0 ∷ (o.2 ++ p.2) = ends_nil a h.1 h.2 h.3 h.5.0 ∙ p.3 ∙ ap (λ l. l ++ p.2) front in
         subst (λ v. WrittenIn v a) (sym h.5.1) ((o.0, o.2, p.2, cut, o.4.1, o.5, p.5.0), fits_up u n (seq_depth h.0) p.5.1, tt)
 
-    abbrev BodyAt : EntityKind → Option t.Seq → List Token → Type 0
-    BodyAt e b ts = SpellsBody b ts × Fits u (suc n) (body_depth b) × HasBody e b
-
-    has_body : (e : EntityKind) (b : Option t.Seq) → HasBody kind.Class b → (e ≡ kind.Trait → ⊥) → HasBody e b
-    has_body kind.Class b h not_it = h
-    has_body kind.Actor None h not_it = h
-    has_body kind.Actor (Some b) h not_it = h
-    has_body kind.Primitive None h not_it = h
-    has_body kind.Primitive (Some b) h not_it = h
-    has_body kind.Trait b h not_it = absurd (not_it refl)
+    abbrev BodyAt : Bool → Option t.Seq → List Token → Type 0
+    BodyAt abstract b ts = SpellsBody b ts × Fits u (suc n) (body_depth b) × BodyUnless abstract b
 
     some_written_in : Inhabited WrittenIn
     some_written_in = let r = some_then Written (λ b. Only (Some b)) some_written (λ b. some_only _) in (r.0, r.1, written_whole r.1 r.0 r.2)
 
-    some_body : (e : EntityKind) → Inhabited (BodyAt e)
-    some_body kind.Class = some_written_in
-    some_body kind.Actor = let r = some_written_in in (r.0, r.1, (r.2.0, r.2.1, has_body kind.Actor r.1 r.2.2 (λ e. cc e)))
-    some_body kind.Primitive = let r = some_written_in in (r.0, r.1, (r.2.0, r.2.1, has_body kind.Primitive r.1 r.2.2 (λ e. cc e)))
-    some_body kind.Trait = ([], None, (refl, fits_zero u (suc n), refl))
+    some_body : (abstract : Bool) → Inhabited (BodyAt abstract)
+    some_body true = ([], None, (refl, fits_zero u (suc n), refl))
+    some_body false = some_written_in
 
-    explained_written_in : (ts : List Token) → Explained u WrittenIn ts (body n kind.Class ts)
+    explained_written_in : (ts : List Token) → Explained u WrittenIn ts (written_body n ts)
+    unfolding written_body
     explained_written_in ts =
         explained_weaker u (Then Written (λ b. Only (Some b))) WrittenIn ts _ written_whole
         (explained_bind Written (λ b. Only (Some b)) u ts _ _ (explained_written ts) (λ b r e. explained_only u _ r) (λ b. some_only _))
 
-    explained_body : (e : EntityKind) (ts : List Token) → Explained u (BodyAt e) ts (body n e ts)
-    explained_body kind.Class ts = explained_written_in ts
-    explained_body kind.Actor ts = explained_weaker u WrittenIn (BodyAt kind.Actor) ts _ (λ b a h. (h.0, h.1, has_body kind.Actor b h.2 (λ e. cc e))) (explained_written_in ts)
-    explained_body kind.Primitive ts = explained_weaker u WrittenIn (BodyAt kind.Primitive) ts _ (λ b a h. (h.0, h.1, has_body kind.Primitive b h.2 (λ e. cc e))) (explained_written_in ts)
-    explained_body kind.Trait ts = ([], refl, (refl, fits_zero u (suc n), refl))
+    explained_body : (abstract : Bool) (ts : List Token) → Explained u (BodyAt abstract) ts (cond abstract (pure None) (written_body n) ts)
+    explained_body true ts = ([], refl, (refl, fits_zero u (suc n), refl))
+    explained_body false ts = explained_written_in ts
 
     -- ---- methods
 
     abbrev DocBody : EntityKind → Option t.Seq → List Token → Type 0
-    DocBody e = Then DocAt (λ _. BodyAt e)
+    DocBody e = Then DocAt (λ _. BodyAt (is_abstract e))
 
     some_doc_body : (e : EntityKind) → Inhabited (DocBody e)
-    some_doc_body e = some_then DocAt (λ _. BodyAt e) some_doc (λ _. some_body e)
+    some_doc_body e = some_then DocAt (λ _. BodyAt (is_abstract e)) some_doc (λ _. some_body (is_abstract e))
 
     explained_doc_body : (e : EntityKind) (ts : List Token) → Explained u (DocBody e) ts ((maybe_doc >> body n e) ts)
-    explained_doc_body e ts = explained_bind DocAt (λ _. BodyAt e) u ts (λ _. body n e) (maybe_doc ts) (explained_doc u ts) (λ x r f. explained_body e r) (λ _. some_body e)
+    explained_doc_body e ts = explained_bind DocAt (λ _. BodyAt (is_abstract e)) u ts (λ _. body n e) (maybe_doc ts) (explained_doc u ts) (λ x r f. explained_body (is_abstract e) r) (λ _. some_body (is_abstract e))
 
     abbrev MethodIn : EntityKind → t.Method → List Token → Type 0
     MethodIn e m ts = SpellsMethod e m ts × Fits u (suc n) (body_depth m.body)
@@ -140,7 +122,7 @@ module _ (u : Bool) where
       a_method c i ps r b = record { word = m; cap = c; name = i; params = ps; result = r; body = b }
 
       abbrev Head : Option Cap → List Token → Type 0
-      Head = Then (Tok (is_word (method_word m))) (λ _. CapAt e m)
+      Head = Then (Tok (is_word (method_word m))) (λ _. CapAt (may_have_method_cap e m))
 
       abbrev Bodied : Option Cap → Name → List ParamDef → Option TypeRef → t.Method → List Token → Type 0
       Bodied c i ps r = Then (DocBody e) (λ b. Only (a_method c i ps r b))
@@ -155,10 +137,10 @@ module _ (u : Bool) where
       Named c = Then NameAt (Taking c)
 
       some_head : Inhabited Head
-      some_head = some_then (Tok (is_word (method_word m))) (λ _. CapAt e m) (some_word (method_word m)) (λ _. some_cap e m)
+      some_head = some_then (Tok (is_word (method_word m))) (λ _. CapAt (may_have_method_cap e m)) (some_word (method_word m)) (λ _. some_cap (may_have_method_cap e m))
 
       explained_head : (ts : List Token) → Explained u Head ts ((take_if (is_word (method_word m)) >> method_cap e m) ts)
-      explained_head ts = explained_bind (Tok (is_word (method_word m))) (λ _. CapAt e m) u ts (λ _. method_cap e m) (take_if (is_word (method_word m)) ts) (explained_take u (is_word (method_word m)) (of_kind (k.Word (method_word m))) (a_word (method_word m)) ts) (λ y r f. explained_method_cap e m r) (λ _. some_cap e m)
+      explained_head ts = explained_bind (Tok (is_word (method_word m))) (λ _. CapAt (may_have_method_cap e m)) u ts (λ _. method_cap e m) (take_if (is_word (method_word m)) ts) (explained_take u (is_word (method_word m)) (of_kind (k.Word (method_word m))) (a_word (method_word m)) ts) (λ y r f. explained_cap_if (may_have_method_cap e m) r) (λ _. some_cap (may_have_method_cap e m))
 
       some_bodied : (c : Option Cap) (i : Name) (ps : List ParamDef) (r : Option TypeRef) → Inhabited (Bodied c i ps r)
       some_bodied c i ps r = some_then (DocBody e) (λ b. Only (a_method c i ps r b)) (some_doc_body e) (λ b. some_only _)

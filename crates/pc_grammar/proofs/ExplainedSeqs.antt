@@ -18,6 +18,7 @@ use Rattle.pc_grammar.proofs.Spans.{over_local, items_span}
 use Rattle.pc_grammar.proofs.Explained.{Fits, fits_zero, fits_max, shown, Explained, Then, Tok, Only, Listed, Inhabited, some_only, some_then, explained_bind, explained_weaker, explained_only, explained_refuse, explained_take, explained_all}
 use Rattle.pc_grammar.proofs.ExplainedParts.{explained_cons, opened, ends_nil, joined, begins_one, of_kind, a_sign, some_sign, a_name, ExprIn, ItemIn, SeqIn, NameAt, some_expr, some_item, explained_name, explained_typed}
 use Rattle.pc_grammar.proofs.ExplainedExprs.{ExplainedInner, InnerAt, explained_term, explained_expr}
+use Rattle.pc_lists.proofs.Bools.{first_true}
 
 abbrev first_name : Token
 first_name = record { kind = k.Name []; first = true; span = no_span }
@@ -27,10 +28,6 @@ next_cases : (x : Token) (ts begin : List Token) (a b : Bool) → is_sign s.Semi
 next_cases x ts begin true b e f h = inl (e, cc)
 next_cases x ts begin false true e f h = inr (f, cc)
 next_cases x ts begin false false e f h = absurd (cc)
-
-first_true : (a b : Bool) → (a && b) ≡ true → a ≡ true
-first_true true b h = refl
-first_true false b h = cc
 
 same_first : (x : Token) (a : List Token) (rest ts : List Token) → x.first ≡ true → x ∷ ts ≡ a ++ rest → First Item a → IsNext [] a
 same_first x [] rest ts h cut f = absurd (omega (arith, ap length f.2))

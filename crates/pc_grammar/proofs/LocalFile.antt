@@ -4,11 +4,12 @@ use Rattle.pc_tree.specs.declared.kinds.EntityKind.{EntityKind}
 use Rattle.pc_tree.specs.declared.kinds.EntityKind.TheVariants as kind
 use Rattle.pc_tree.specs.declared.kinds.MethodWord.{MethodWord}
 use Rattle.pc_tree.specs.declared.kinds.MethodWord.TheVariants as method
+use Rattle.pc_tree.specs.Kinds.{is_abstract, may_have_cap, may_have_fields, may_have_method_cap}
 use Rattle.pc_token.specs.declared.words.Word.TheVariants as w
 use Rattle.pc_token.specs.declared.signs.Sign.TheVariants as s
 use Rattle.pc_token.specs.Asking.{is_sign, is_word}
 use Rattle.pc_grammar.specs.Reading.{after, at, type_name, inner}
-use Rattle.pc_grammar.specs.ReadingFile.{is_doc, maybe_doc, maybe_hat, result_type, returns, param, param_list, params, value, field, begins_field, some_field, fields, body, method_cap, method_result, method_of, word_in, begins_method, some_method, type_names, provided, provides, entity_cap, entity_of, entity, begins_entity, file}
+use Rattle.pc_grammar.specs.ReadingFile.{is_doc, maybe_doc, maybe_hat, result_type, returns, param, param_list, params, value, field, begins_field, some_field, fields, written_body, body, cap_if, method_result, method_of, word_in, begins_method, some_method, type_names, provided, provides, entity_of, entity, begins_entity, file}
 use Rattle.pc_grammar.proofs.Local.{Local, local_bind, local_pure, local_peek, local_take}
 use Rattle.pc_grammar.proofs.LocalLoops.{after_ahead, at_ahead, local_all}
 use Rattle.pc_grammar.proofs.LocalRules.{Good, good_bind, good_then, good_take, good_cond, good_refuse, local_cond, good_name, good_type_name, local_maybe_cap, good_written_type, good_inner, good_infix, good_seq}
@@ -54,27 +55,17 @@ unfolding some_field
 good_some_field n = good_then _ _ local_peek (λ x. good_field n (is_word w.LetWord x))
 
 local_fields : (n : ℕ) (e : EntityKind) → Local (fields n e)
-local_fields n kind.Class = local_all (at begins_field) (some_field n) (at_ahead _) (good_some_field n).local (good_some_field n).takes
-local_fields n kind.Actor = local_all (at begins_field) (some_field n) (at_ahead _) (good_some_field n).local (good_some_field n).takes
-local_fields n kind.Primitive = local_pure _
-local_fields n kind.Trait = local_pure _
+local_fields n e = local_cond (may_have_fields e) _ _ (local_all (at begins_field) (some_field n) (at_ahead _) (good_some_field n).local (good_some_field n).takes) (local_pure _)
 
-local_written_body : (n : ℕ) (e : EntityKind) → Local (body n kind.Class)
-local_written_body n e = local_bind _ _ (local_bind _ _ (local_bind _ _ (local_take _) (λ x. local_maybe_doc)) (λ d. (good_seq n (inner n) (good_inner n)).local)) (λ b. local_pure _)
+local_written_body : (n : ℕ) → Local (written_body n)
+unfolding written_body
+local_written_body n = local_bind _ _ (local_bind _ _ (local_bind _ _ (local_take _) (λ x. local_maybe_doc)) (λ d. (good_seq n (inner n) (good_inner n)).local)) (λ b. local_pure _)
 
 local_body : (n : ℕ) (e : EntityKind) → Local (body n e)
-local_body n kind.Class = local_written_body n kind.Class
-local_body n kind.Actor = local_written_body n kind.Class
-local_body n kind.Primitive = local_written_body n kind.Class
-local_body n kind.Trait = local_pure _
+local_body n e = local_cond (is_abstract e) _ _ (local_pure _) (local_written_body n)
 
-local_method_cap : (e : EntityKind) (m : MethodWord) → Local (method_cap e m)
-local_method_cap e method.Fun = local_maybe_cap
-local_method_cap e method.Be = local_pure _
-local_method_cap kind.Class method.New = local_maybe_cap
-local_method_cap kind.Actor method.New = local_pure _
-local_method_cap kind.Primitive method.New = local_pure _
-local_method_cap kind.Trait method.New = local_pure _
+local_cap_if : (b : Bool) → Local (cap_if b)
+local_cap_if b = local_cond b _ _ local_maybe_cap (local_pure _)
 
 local_method_result : (m : MethodWord) → Local (method_result m)
 local_method_result method.Fun = local_returns
@@ -84,7 +75,7 @@ local_method_result method.New = local_pure _
 good_method_of : (n : ℕ) (e : EntityKind) (m : MethodWord) → Good (method_of n e m)
 unfolding method_of
 good_method_of n e m =
-    good_bind _ _ (good_bind _ _ (good_take _) (λ x. local_method_cap e m)) (λ c. local_bind _ _ good_name.local (λ i. local_bind _ _ local_params (λ ps. local_bind _ _ (local_method_result m) (λ r.
+    good_bind _ _ (good_bind _ _ (good_take _) (λ x. local_cap_if (may_have_method_cap e m))) (λ c. local_bind _ _ good_name.local (λ i. local_bind _ _ local_params (λ ps. local_bind _ _ (local_method_result m) (λ r.
     local_bind _ _ (local_bind _ _ local_maybe_doc (λ d. local_body n e)) (λ b. local_pure _)))))
 
 good_some_method : (n : ℕ) (e : EntityKind) → Good (some_method n e)
@@ -103,17 +94,11 @@ local_provides : Local provides
 unfolding provides
 local_provides = local_bind _ _ local_peek (λ x. local_cond (is_word w.IsWord x) _ _ (local_bind _ _ (local_take _) (λ y. local_provided)) (local_pure _))
 
-local_entity_cap : (e : EntityKind) → Local (entity_cap e)
-local_entity_cap kind.Class = local_maybe_cap
-local_entity_cap kind.Trait = local_maybe_cap
-local_entity_cap kind.Actor = local_pure _
-local_entity_cap kind.Primitive = local_pure _
-
 good_entity_of : (n : ℕ) (e : EntityKind) → Good (entity_of n e)
 unfolding entity_of
 good_entity_of n e =
     let one = good_some_method n e in
-    good_bind _ _ (good_bind _ _ (good_take _) (λ x. local_entity_cap e)) (λ c. local_bind _ _ good_type_name.local (λ m. local_bind _ _ local_provides (λ ps. local_bind _ _ (local_bind _ _ local_maybe_doc (λ d. local_fields n e)) (λ fs.
+    good_bind _ _ (good_bind _ _ (good_take _) (λ x. local_cap_if (may_have_cap e))) (λ c. local_bind _ _ good_type_name.local (λ m. local_bind _ _ local_provides (λ ps. local_bind _ _ (local_bind _ _ local_maybe_doc (λ d. local_fields n e)) (λ fs.
     local_bind _ _ (local_all (at (begins_method e)) (some_method n e) (at_ahead _) one.local one.takes) (λ ms. local_pure _)))))
 
 good_entity : (n : ℕ) → Good (entity n)

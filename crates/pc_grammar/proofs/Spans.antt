@@ -27,9 +27,6 @@ module _ {Q : Token → Type 0} where
   first_of_append : (a b : List Token) → First Q a → first_span (a ++ b) ≡ first_span a
   first_of_append a b f = ap (λ l. first_span (l ++ b)) f.2 ∙ sym (ap first_span f.2)
 
-pub over_append : {Q R : Token → Type 0} (a b : List Token) → First Q a → First R b → over (a ++ b) ≡ join (over a) (over b)
-over_append a b f g = ap₂ join (first_of_append a b f) (last_append no_span a b ∙ last_first (last_span no_span a) no_span b g)
-
 pub over_closed : (x y : Token) (a : List Token) → over (x ∷ (a ++ y ∷ [])) ≡ join x.span y.span
 over_closed x y a = ap (join x.span) (last_append x.span a (y ∷ []))
 

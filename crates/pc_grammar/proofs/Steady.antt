@@ -134,10 +134,6 @@ pub enters_peek : {A : Type 0} (g : Token → Parser A) (x : Token) → Enters (
 unfolding peek
 enters_peek g x e = record { never = λ more ends plain. e.never more ends plain }
 
-pub steady_cond : {A : Type 0} (b : Bool) (p q : Parser A) → Steady p → Steady q → Steady (cond b p q)
-steady_cond true p q s r = s
-steady_cond false p q s r = r
-
 -- where the token decides: it is taken, or what is read without it comes to the same at the end
 pub ends_cond : {A : Type 0} (p q : Parser A) (x : Token) (more others : List Token) (end : Outcome A) (b : Bool) → (b ≡ true → Enters p x) → (rest_of (q (x ∷ more)) ≡ x ∷ more → Plain (q (x ∷ more)) → end ≡ with_rest (the_end ∷ others) (q (x ∷ more)))
     → rest_of (cond b p q (x ∷ more)) ≡ x ∷ more → Plain (cond b p q (x ∷ more)) → end ≡ with_rest (the_end ∷ others) (cond b p q (x ∷ more))

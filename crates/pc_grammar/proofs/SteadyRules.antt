@@ -23,6 +23,7 @@ use Rattle.pc_grammar.proofs.Steady.{the_end, Plain, Steady, Enters, Ends, stead
 use Rattle.pc_grammar.proofs.ExplainedParts.{word_is, sign_is}
 use Rattle.pc_grammar.proofs.ExplainedAtoms.{at_is}
 use Rattle.pc_grammar.proofs.ExplainedChains.{after_is, open_suffix_is}
+use Rattle.pc_lists.proofs.Bools.{first_true}
 
 -- ---- the end is no token of any kind
 
@@ -368,10 +369,6 @@ plain_pure : {A B : Type 0} (o : Outcome A) (f : A → B) → Plain (and_then o 
 plain_pure (Ok r) f h = h
 plain_pure (Err e) f h = h
 
-both_first : (a b : Bool) → (a && b) ≡ true → a ≡ true
-both_first true b h = refl
-both_first false b h = cc
-
 module _ (n : ℕ) (i : Inner) (a : FineInner i) (g : GoodInner i) where
   fine_postfix : Fine (postfix n i)
   unfolding postfix
@@ -447,7 +444,7 @@ module _ (n : ℕ) (i : Inner) (a : FineInner i) (g : GoodInner i) where
   expr_inside : (e : t.Expr) → Fine (peek >>= λ x. expr_by n i.expr e x)
   unfolding is_sign
   expr_inside e = fine_peek (expr_by n i.expr e) (λ y. fine_cond (assigns y e) _ _ (fine_becomes e) (fine_pure _))
-      (λ x more others ends plain. ends_cond _ _ x more others (Ok (e, the_end ∷ others)) (assigns x e) (λ is. enters_becomes e x (both_first (is_sign s.Assign x) (is_place e) is)) (λ f q. refl) ends plain)
+      (λ x more others ends plain. ends_cond _ _ x more others (Ok (e, the_end ∷ others)) (assigns x e) (λ is. enters_becomes e x (first_true (is_sign s.Assign x) (is_place e) is)) (λ f q. refl) ends plain)
 
   pub fine_expr : Fine (expr_in n i)
   unfolding expr_in expr_with

@@ -28,8 +28,8 @@ abbrev pub Parser : Type 0 → Type 0
 Parser A = List Token → Outcome A
 
 abbrev pub and_then : {A B : Type 0} → Outcome A → (A → Parser B) → Outcome B
-and_then (Ok p) f = f p.0 p.1
-and_then (Err e) f = Err e
+and_then (Err fault) next = Err fault
+and_then (Ok read) next = next read.0 read.1
 
 infixl 10 ◌>>=◌
 abbrev pub ◌>>=◌ : {A B : Type 0} → Parser A → (A → Parser B) → Parser B

@@ -9,6 +9,7 @@ use Rattle.pc_tree.specs.declared.kinds.EntityKind.{EntityKind}
 use Rattle.pc_tree.specs.declared.kinds.EntityKind.TheVariants as kind
 use Rattle.pc_tree.specs.declared.kinds.MethodWord.{MethodWord}
 use Rattle.pc_tree.specs.declared.kinds.MethodWord.TheVariants as method
+use Rattle.pc_tree.specs.Kinds.{is_abstract, may_have_cap, may_have_fields, may_stand, may_have_method_cap}
 use Rattle.pc_token.specs.declared.kinds.Token.{Token}
 use Rattle.pc_token.specs.declared.kinds.TokenKind.{TokenKind}
 use Rattle.pc_token.specs.declared.kinds.TokenKind.TheVariants as k
@@ -17,7 +18,7 @@ use Rattle.pc_token.specs.declared.signs.Sign.TheVariants as s
 use Rattle.pc_token.specs.Asking.{is_sign, is_word}
 use Rattle.pc_grammar.specs.Asking.{local_word}
 use Rattle.pc_grammar.specs.Reading.{Parser, ◌>>=◌, ◌>>◌, pure, refuse, peek, take_if, take_any, all, after, at, name, type_name, maybe_cap, written_type, seq, infix_}
-use Rattle.pc_grammar.specs.SpellsFile.{may_stand, method_word, entity_word}
+use Rattle.pc_grammar.specs.SpellsFile.{method_word, entity_word}
 
 abbrev pub kind_is_doc : TokenKind → Bool
 kind_is_doc k.Doc = true
@@ -76,21 +77,22 @@ some_field n = peek >>= λ x. field n (is_word w.LetWord x)
 
 -- {Field}, where fields may stand
 abbrev pub fields : ℕ → EntityKind → Parser (List t.Field)
-fields n kind.Class = all (at begins_field) (some_field n)
-fields n kind.Actor = all (at begins_field) (some_field n)
-fields n e = pure []
+fields n e = if may_have_fields e then all (at begins_field) (some_field n) else pure []
 
--- "=>" [doc] Seq, or nothing in a trait
+-- "=>" [doc] Seq
+unfoldable pub written_body : ℕ → Parser (Option t.Seq)
+written_body n = take_if (is_sign s.Arrow) >> maybe_doc >> seq n >>= λ b. pure (Some b)
+
+-- the same, or nothing in a trait or an interface
 abbrev pub body : ℕ → EntityKind → Parser (Option t.Seq)
-body n kind.Trait = pure None
-body n e = take_if (is_sign s.Arrow) >> maybe_doc >> seq n >>= λ b. pure (Some b)
+body n e = if is_abstract e then pure None else written_body n
 
 -- [Cap], where one may stand
+abbrev pub cap_if : Bool → Parser (Option Cap)
+cap_if b = if b then maybe_cap else pure None
+
 abbrev pub method_cap : EntityKind → MethodWord → Parser (Option Cap)
-method_cap e method.Fun = maybe_cap
-method_cap e method.Be = pure None
-method_cap kind.Class method.New = maybe_cap
-method_cap e method.New = pure None
+method_cap e m = cap_if (may_have_method_cap e m)
 
 abbrev pub method_result : MethodWord → Parser (Option TypeRef)
 method_result method.Fun = returns
@@ -123,9 +125,7 @@ unfoldable pub provides : Parser (List Name)
 provides = peek >>= λ x. if is_word w.IsWord x then (take_if (is_word w.IsWord) >> provided) else pure []
 
 abbrev pub entity_cap : EntityKind → Parser (Option Cap)
-entity_cap kind.Class = maybe_cap
-entity_cap kind.Trait = maybe_cap
-entity_cap e = pure None
+entity_cap e = cap_if (may_have_cap e)
 
 unfoldable pub entity_of : ℕ → EntityKind → Parser t.Entity
 entity_of n e =

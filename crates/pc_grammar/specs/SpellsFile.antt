@@ -12,9 +12,9 @@
 --   Result  = TypeName [Cap] ["^"]
 --
 -- Fields stand in classes and actors, `be` in actors and traits, `new` in classes and actors, and a capability after `new`
--- in classes. In a trait no method has a body, elsewhere each has one.
+-- in classes. In a trait no method has a body, elsewhere each has one. That is the table of the kinds of entities in
+-- `pc_tree`. Interfaces stand in it, and so far no text spells one.
 use Rattle.std.specs.Prelude.{◌≡◌, Bool, true, false, List, [], ◌∷◌, ◌++◌, Option, Some, None, ◌⊎◌}
-use Rattle.pc_caps.specs.declared.capability.Cap.{Cap}
 use Rattle.pc_tree.specs.Tree as t
 use Rattle.pc_tree.specs.declared.names.Name.{Name}
 use Rattle.pc_tree.specs.declared.names.TypeRef.{TypeRef}
@@ -23,6 +23,7 @@ use Rattle.pc_tree.specs.declared.kinds.EntityKind.{EntityKind}
 use Rattle.pc_tree.specs.declared.kinds.EntityKind.TheVariants as kind
 use Rattle.pc_tree.specs.declared.kinds.MethodWord.{MethodWord}
 use Rattle.pc_tree.specs.declared.kinds.MethodWord.TheVariants as method
+use Rattle.pc_tree.specs.Kinds.{may_have_cap, may_stand, may_have_method_cap, CapIf, MayHaveFields, HasBody}
 use Rattle.pc_token.specs.declared.kinds.Token.{Token}
 use Rattle.pc_token.specs.declared.kinds.TokenKind.TheVariants as k
 use Rattle.pc_token.specs.declared.words.Word.{Word}
@@ -97,38 +98,16 @@ method_word method.Fun = w.FunWord
 method_word method.Be = w.BeWord
 method_word method.New = w.NewWord
 
--- which capability may be written behind the word: of `be` none, of `new` in classes alone
-abbrev pub MayHave : EntityKind → MethodWord → Option Cap → Type 0
-MayHave e method.Fun c = Unit {0}
-MayHave e method.Be c = c ≡ None
-MayHave kind.Class method.New c = Unit {0}
-MayHave e method.New c = c ≡ None
-
 -- only a function has a written result
 abbrev pub MayReturn : MethodWord → Option TypeRef → Type 0
 MayReturn method.Fun r = Unit {0}
 MayReturn m r = r ≡ None
 
--- in which entities the words stand
-abbrev pub may_stand : EntityKind → MethodWord → Bool
-may_stand e method.Fun = true
-may_stand kind.Actor method.Be = true
-may_stand kind.Trait method.Be = true
-may_stand kind.Class method.New = true
-may_stand kind.Actor method.New = true
-may_stand e m = false
-
--- a trait's methods have no bodies, all others have one
-abbrev pub HasBody : EntityKind → Option t.Seq → Type 0
-HasBody kind.Trait b = b ≡ None
-HasBody e None = ⊥
-HasBody e (Some b) = Unit {0}
-
 abbrev pub SpellsMethod : EntityKind → t.Method → List Token → Type 0
 SpellsMethod e m ts =
     (x y : Token) × (a p r d b : List Token) × (ts ≡ x ∷ (a ++ y ∷ (p ++ (r ++ (d ++ b))))) × (is_word (method_word m.word) x ≡ true) × SpellsCap m.cap a × IsName y m.name
     × SpellsParams m.params p × SpellsReturns m.result r × IsDoc d × SpellsBody m.body b
-    × (may_stand e m.word ≡ true) × MayHave e m.word m.cap × MayReturn m.word m.result × HasBody e m.body
+    × (may_stand e m.word ≡ true) × CapIf (may_have_method_cap e m.word) m.cap × MayReturn m.word m.result × HasBody e m.body
 
 abbrev pub SpellsMethods : EntityKind → List t.Method → List Token → Type 0
 SpellsMethods e [] ts = ts ≡ []
@@ -141,18 +120,15 @@ entity_word kind.Class = w.ClassWord
 entity_word kind.Actor = w.ActorWord
 entity_word kind.Primitive = w.PrimitiveWord
 entity_word kind.Trait = w.TraitWord
+entity_word kind.Interface = w.InterfaceWord
 
--- a capability is written behind `class` and `trait` alone
-abbrev pub MayHaveCap : EntityKind → Option Cap → Type 0
-MayHaveCap kind.Class c = Unit {0}
-MayHaveCap kind.Trait c = Unit {0}
-MayHaveCap e c = c ≡ None
-
--- fields stand in classes and actors
-abbrev pub MayHaveFields : EntityKind → List t.Field → Type 0
-MayHaveFields kind.Class fs = Unit {0}
-MayHaveFields kind.Actor fs = Unit {0}
-MayHaveFields e fs = fs ≡ []
+-- so far no text spells an interface
+abbrev pub is_spelled : EntityKind → Bool
+is_spelled kind.Class = true
+is_spelled kind.Actor = true
+is_spelled kind.Primitive = true
+is_spelled kind.Trait = true
+is_spelled kind.Interface = false
 
 -- {"&" TypeName}
 abbrev pub SpellsMoreNames : List Name → List Token → Type 0
@@ -181,7 +157,7 @@ SpellsProvides (m ∷ ms) ts = (x : Token) × (a : List Token) × (ts ≡ x ∷ 
 abbrev pub SpellsEntity : t.Entity → List Token → Type 0
 SpellsEntity e ts =
     (x y : Token) × (a p d f b : List Token) × (ts ≡ x ∷ (a ++ y ∷ (p ++ (d ++ (f ++ b))))) × (is_word (entity_word e.kind) x ≡ true) × SpellsCap e.cap a × IsTypeName y e.name
-    × SpellsProvides e.provides p × IsDoc d × SpellsFields e.fields f × SpellsMethods e.kind e.methods b × MayHaveCap e.kind e.cap × MayHaveFields e.kind e.fields
+    × SpellsProvides e.provides p × IsDoc d × SpellsFields e.fields f × SpellsMethods e.kind e.methods b × CapIf (may_have_cap e.kind) e.cap × MayHaveFields e.kind e.fields × (is_spelled e.kind ≡ true)
 
 -- {Entity}
 abbrev pub SpellsMoreEntities : List t.Entity → List Token → Type 0

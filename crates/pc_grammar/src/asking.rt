@@ -1,3 +1,4 @@
+//! Tests on a token that the parsers decide by.
 ghost use Rattle.std.specs.Prelude.{◌≡◌};
 ghost use Rattle.pc_grammar.specs.Asking as spec;
 ghost use Rattle.pc_grammar.specs.Reading as reading;

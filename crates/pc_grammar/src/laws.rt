@@ -1,3 +1,4 @@
+//! The laws on reading, as calls that do nothing.
 ghost use Rattle.pc_grammar.specs.FileAnswers.{OneFileAnswer};
 ghost use Rattle.pc_grammar.specs.Laws.{SeqIsOne, SeqOneAnswer, SeqReadsRight, SeqRefusesRight, SeqDeepRight, ExprIsOne, ExprOneAnswer, ExprReadsRight, ExprRefusesRight, ExprDeepRight, InfixOneAnswer, InfixReadsRight, InfixRefusesRight, InfixDeepRight, FileReadsRight, FileRefusesRight, FileDeepRight, FileIsOne, FileIsAnswered};
 

@@ -5,11 +5,11 @@ use Rattle.std.specs.Str.{bytes_eq}
 use Rattle.std.proofs.lemmas.Option.{same_Some, none-some}
 use Rattle.std.proofs.lemmas.List.{length-map}
 use Rattle.std.proofs.lemmas.List.Quantifiers.{position-Some}
-use Rattle.pc_core.specs.Words.{Has}
+use Rattle.pc_lists.specs.Places.{Has, IsIn}
 use Rattle.pc_tree.specs.declared.names.Name.{Name}
 use Rattle.pc_tree.specs.Tree as t
 use Rattle.pc_names.specs.Words.{Text, entity_names}
-use Rattle.pc_names.specs.Reach.{next, or_nil, IsIn, Chain, link, links, reached, ascending, above_all}
+use Rattle.pc_names.specs.Reach.{next, or_nil, Chain, link, links, reached, ascending, above_all}
 use Rattle.pc_names.specs.Chains.{Names, Leads, one, more, IsAbove, Closes, numbers_of, own_edges, edges_of, first_own}
 use Rattle.pc_names.proofs.Reached.{Within, above_length, above_get, ascending_ascends, listed_led, led_listed}
 

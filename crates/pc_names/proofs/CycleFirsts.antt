@@ -1,12 +1,12 @@
 -- The fault of a cycle is at the first trait that a chain of `is` leads back to itself.
-use Rattle.std.proofs.Common.{◌≡◌, ℕ, zero, suc, ◌+◌, ◌<◌, Bool, true, false, ◌&&◌, List, [], ◌∷◌, ◌++◌, map, drop, length, Some, refl, sym, ap, ◌∙◌, subst, arith}
+use Rattle.std.proofs.Common.{◌≡◌, ℕ, zero, suc, ◌+◌, ◌<◌, Bool, true, false, ◌&&◌, List, [], ◌∷◌, ◌++◌, map, drop, Some, refl, sym, ap, ◌∙◌, subst, arith}
 use Rattle.std.specs.Prelude.{slice_get}
 use Rattle.std.proofs.lemmas.Option.{same_Some, none-some, slice_get_within}
-use Rattle.pc_core.specs.Runs.{get_drop}
+use Rattle.pc_lists.proofs.Gets.{get_drop, get_within}
 use Rattle.pc_tree.specs.Tree as t
 use Rattle.pc_names.specs.declared.fault.NameFault.{NameFault}
 use Rattle.pc_names.specs.declared.fault.NameFault.TheVariants as fault
-use Rattle.pc_names.specs.Words.{is_trait}
+use Rattle.pc_tree.specs.Kinds.{is_abstract}
 use Rattle.pc_names.specs.Faults.{where_}
 use Rattle.pc_names.specs.Reach.{has}
 use Rattle.pc_names.specs.Chains.{Closes, InCycle, Leads, entity_at, first_own}
@@ -16,10 +16,12 @@ use Rattle.pc_names.proofs.Reaches.{has_in, in_get, get_in}
 use Rattle.pc_names.proofs.Reached.{in_has}
 use Rattle.pc_names.proofs.Closings.{no_entity}
 use Rattle.pc_names.proofs.Ones.{first_is}
+use Rattle.std.proofs.lemmas.Bool.{and_parts}
+use Rattle.pc_lists.proofs.Bools.{no_both}
 
 -- Entity number a is a trait that stands above itself.
 abbrev pub bad : ℕ → t.Entity → List ℕ → Bool
-bad a e l = is_trait e.kind && has l a
+bad a e l = is_abstract e.kind && has l a
 
 -- None of the first entities is.
 abbrev pub Clear : ℕ → List t.Entity → List (List ℕ) → ℕ → Type 0
@@ -113,24 +115,15 @@ entity_own file (suc (suc (suc (suc zero)))) e h = no_entity e h
 entity_own file (suc (suc (suc (suc (suc zero))))) e h = no_entity e h
 entity_own file (suc (suc (suc (suc (suc (suc i)))))) e h = (i, refl, some_get file.entities i e h)
 
-get_within : {T : Type 0} → (xs : List T) (i : ℕ) → i < length xs → (x : T) × (slice_get xs i ≡ Some x)
-get_within [] i l = absurd (omega (arith, l))
-get_within (x ∷ xs) zero l = (x, refl)
-get_within (x ∷ xs) (suc i) l = get_within xs i (omega (arith, l))
-
 own_list : (above : List (List ℕ)) (i : ℕ) → slice_get (drop first_own above) i ≡ slice_get above (own i)
 own_list above i = get_drop above first_own i ∙ ap (slice_get above) (is_own i)
 
 -- ---- cycles
 
-and_parts : (b c : Bool) → (b && c) ≡ true → (b ≡ true) × (c ≡ true)
-and_parts true c h = (refl, h)
-and_parts false c h = absurd (let no : ⊥ = cc in no)
-
 bad_cycle : (file : t.File) (above : List (List ℕ)) (i : ℕ) (e : t.Entity) (l : List ℕ) → Closes file above → slice_get file.entities i ≡ Some e → slice_get (drop first_own above) i ≡ Some l
     → bad (first_own + i) e l ≡ true → InCycle file (own i)
 bad_cycle file above i e l c he hl b =
-    let p = and_parts (is_trait e.kind) (has l (first_own + i)) b in
+    let p = and_parts (is_abstract e.kind) (has l (first_own + i)) b in
     let h : has l (own i) ≡ true = ap (has l) (sym (is_own i)) ∙ p.1 in
     let a = c.1 (own i) l (sym (own_list above i) ∙ hl) in
     (e, get_some file.entities i e he, p.0, (a.1 (own i)).0 (in_get l (own i) (has_in l (own i) h)))
@@ -145,9 +138,6 @@ cycle_bad file above a c x =
     let h = (above_it.1 (own o.0)).1 (subst (λ k. Leads file k k) o.1 x.3) in
     let b : has g.0 (first_own + o.0) ≡ true = ap (has g.0) (is_own o.0) ∙ in_has g.0 (own o.0) (get_in g.0 h.0 (own o.0) h.1) in
     (o.0, x.0, g.0, o.1, o.2, own_list above o.0 ∙ g.1, ap (λ k. k && has g.0 (first_own + o.0)) x.2 ∙ b)
-
-no_both : (b : Bool) → b ≡ true → b ≡ false → ⊥
-no_both b h g = cc
 
 pub no_cycle : NoCycle
 no_cycle file above c none a x =

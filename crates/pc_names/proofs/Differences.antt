@@ -4,12 +4,14 @@ use Rattle.std.specs.Prelude.{slice_get}
 use Rattle.std.specs.Str.{bytes_eq}
 use Rattle.std.proofs.lemmas.Option.{same_Some, none-some}
 use Rattle.std.proofs.lemmas.Cmp.{nat_list_eq_equiv}
-use Rattle.pc_core.specs.Words.{Differ}
+use Rattle.pc_lists.specs.Places.{Differ}
 use Rattle.pc_tree.specs.Tree as t
 use Rattle.pc_names.specs.Words.{Text, is_among}
 use Rattle.pc_names.specs.Faults.{field_texts, method_texts}
 use Rattle.pc_names.specs.Tables.{with_name, with_names}
 use Rattle.pc_names.specs.Texts.{with_members, other_texts, built_in_texts}
+use Rattle.pc_lists.proofs.Bools.{true_false}
+use Rattle.pc_lists.proofs.Elements.{differ_none}
 
 pub same_text : (x : Text) → bytes_eq x x ≡ true
 same_text x = nat_list_eq_equiv.refl x
@@ -29,9 +31,6 @@ push_places x y [] zero h = inr (refl, sym (same_Some _ _ h))
 push_places x y [] (suc i) h = absurd (none-some y h)
 push_places x y (z ∷ xs) zero h = inl h
 push_places x y (z ∷ xs) (suc i) h = ⊎_elim (λ l. inl l) (λ r. inr (ap suc r.0, r.1)) (push_places x y xs i h)
-
-pub true_false : true ≡ false → ⊥
-true_false e = cc
 
 pub differ_push : (x : Text) (xs : List Text) → Differ xs → is_among x xs ≡ false → Differ (xs ++ x ∷ [])
 differ_push x xs d new i j y hi hj =
@@ -56,8 +55,5 @@ pub members_differ : (es : List t.Entity) (names : List Text) → Differ names �
 members_differ [] names d = d
 members_differ (e ∷ es) names d = members_differ es (with_names names (field_texts e.fields ++ method_texts e.methods)) (names_differ (field_texts e.fields ++ method_texts e.methods) names d)
 
-pub no_names : Differ {T = Text} []
-no_names i j x hi hj = absurd (none-some x hi)
-
 pub other_texts_differ : (es : List t.Entity) → Differ (other_texts es)
-other_texts_differ es = members_differ es (with_names [] built_in_texts) (names_differ built_in_texts [] no_names)
+other_texts_differ es = members_differ es (with_names [] built_in_texts) (names_differ built_in_texts [] differ_none)

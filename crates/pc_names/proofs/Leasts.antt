@@ -2,7 +2,7 @@
 use Rattle.std.proofs.Common.{◌≡◌, ℕ, zero, suc, ◌≤◌, ◌<◌, Bool, true, false, not, ◌||◌, List, [], ◌∷◌, ◌++◌, map, length, Option, Some, None, refl, sym, ap, ◌∙◌, subst, arith}
 use Rattle.std.specs.Prelude.{slice_get, nat_lt, codes, ◌&&◌}
 use Rattle.std.proofs.lemmas.Option.{same_Some, none-some}
-use Rattle.pc_core.specs.Words.{Has, Ascends}
+use Rattle.pc_lists.specs.Places.{Has, Ascends}
 use Rattle.pc_tree.specs.declared.file.ParamDef.{ParamDef}
 use Rattle.pc_tree.specs.declared.names.Name.{Name}
 use Rattle.pc_tree.specs.declared.names.TypeRef.{TypeRef}

@@ -11,7 +11,7 @@ use Rattle.pc_names.specs.Words.{built_in_names, entity_names}
 use Rattle.pc_names.specs.Faults.{IsFirst, entity_name_faults, declaration_faults}
 use Rattle.pc_names.specs.Reach.{above_all}
 use Rattle.pc_names.specs.Chains.{first_own, edges_of, Closes}
-use Rattle.pc_core.specs.Words.{Differ}
+use Rattle.pc_lists.specs.Places.{Differ}
 use Rattle.pc_names.specs.Texts.{other_texts}
 use Rattle.pc_names.specs.Names.{NamesData, above_faults, name_faults, Collected, IsNameFault}
 use Rattle.pc_names.proofs.Firsts.{is_first_on}

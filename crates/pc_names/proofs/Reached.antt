@@ -6,9 +6,11 @@ use Rattle.std.proofs.lemmas.Cmp.{nat_eq_equiv}
 use Rattle.std.proofs.lemmas.Option.{same_Some, none-some}
 use Rattle.std.proofs.lemmas.Map.Keys.{IsDistinct-push}
 use Rattle.std.proofs.lemmas.Map.Steps.{length-le_from_distinct_below}
-use Rattle.pc_core.specs.Words.{Has, Ascends}
-use Rattle.pc_names.specs.Reach.{Edges, next, IsIn, has, add, add_all, turn, grow, reached, ascending, above_from, Chain, link, links}
+use Rattle.pc_lists.specs.Places.{Has, Ascends, IsIn}
+use Rattle.pc_names.specs.Reach.{Edges, next, has, add, add_all, turn, grow, reached, ascending, above_from, Chain, link, links}
 use Rattle.pc_names.proofs.Reaches.{any_has, has_in, get_in, in_get, only_led, all_led}
+use Rattle.pc_lists.proofs.Bools.{true_false}
+use Rattle.pc_lists.proofs.Elements.{ascends_none}
 
 -- ---- what is found differs
 
@@ -73,9 +75,6 @@ apart zero (suc b) l = inl (omega arith)
 apart (suc a) zero l = absurd (omega (arith, l))
 apart (suc a) (suc b) l = let m : a ≤ b = omega (arith, l) in ⊎_elim (λ s. let t : suc a < suc b = omega (arith, s) in inl t) (λ s. inr (ap suc s)) (apart a b m)
 
-true_false : true ≡ false → ⊥
-true_false e = cc
-
 only_ascending : (found : List ℕ) (k at b : ℕ) → IsIn b (ascending found at k) → IsIn b found × (at ≤ b)
 only_ascending found zero at b h = absurd h
 only_ascending found (suc k) at b h = by (λ i. let r = only_ascending found k (suc at) b i in (r.0, omega (arith, r.1))) (has found at) refl h
@@ -97,11 +96,8 @@ ascends_cons x xs f r i zero a b l ea eb = absurd (omega (arith, l))
 ascends_cons x xs f r zero (suc j) a b l ea eb = let m = f b (get_in xs j b eb) in let s = same_Some _ _ ea in omega (arith, m, s)
 ascends_cons x xs f r (suc i) (suc j) a b l ea eb = r i j a b (omega (arith, l)) ea eb
 
-nothing_ascends : Ascends []
-nothing_ascends i j a b l ea eb = absurd (none-some a ea)
-
 pub ascending_ascends : (found : List ℕ) (k at : ℕ) → Ascends (ascending found at k)
-ascending_ascends found zero at = nothing_ascends
+ascending_ascends found zero at = ascends_none
 ascending_ascends found (suc k) at = by (has found at) (ascending_ascends found k (suc at))
   where
     by : (t : Bool) → Ascends (ascending found (suc at) k) → Ascends (if t then at ∷ ascending found (suc at) k else ascending found (suc at) k)

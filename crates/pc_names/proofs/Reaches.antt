@@ -3,7 +3,8 @@ use Rattle.std.proofs.Common.{◌≡◌, ℕ, zero, suc, ◌+◌, ◌-◌, ◌�
 use Rattle.std.specs.Prelude.{slice_get}
 use Rattle.std.specs.List.{list_any}
 use Rattle.std.proofs.lemmas.Option.{same_Some, none-some, slice_get_within}
-use Rattle.pc_names.specs.Reach.{Edges, next, IsIn, has, add, add_all, turn, grow, reached_in, reached, ascending, above_from, Chain, link, links}
+use Rattle.pc_names.specs.Reach.{Edges, next, has, add, add_all, turn, grow, reached_in, reached, ascending, above_from, Chain, link, links}
+use Rattle.pc_lists.specs.Places.{IsIn}
 
 in_front : (b : ℕ) (xs ys : List ℕ) → IsIn b xs → IsIn b (xs ++ ys)
 in_front b [] ys h = absurd h

@@ -1,9 +1,10 @@
--- Chains of `is`, from an entity to the traits that it stands for.
+-- Chains of `is`, from an entity to the traits and interfaces that it stands for.
 use Rattle.std.specs.Prelude.{◌≡◌, ◌↔◌, ℕ, ◌+◌, true, List, [], ◌∷◌, ◌++◌, map, length, Some, None, slice_get, replicate, option_to_list, position}
-use Rattle.pc_core.specs.Words.{Each, Has, Ascends}
+use Rattle.pc_lists.specs.Places.{Each, Has, Ascends}
 use Rattle.pc_tree.specs.declared.names.Name.{Name}
+use Rattle.pc_tree.specs.Kinds.{is_abstract}
 use Rattle.pc_tree.specs.Tree as t
-use Rattle.pc_names.specs.Words.{Text, entity_names, entity_of, is_trait}
+use Rattle.pc_names.specs.Words.{Text, entity_names, entity_of}
 use Rattle.pc_names.specs.Reach.{Edges}
 use Rattle.std.specs.Str.{bytes_eq}
 
@@ -24,9 +25,9 @@ pub data Leads (file : t.File) : ℕ → ℕ → Type 0 where
   one : {a b : ℕ} → Names file a b → Leads file a b
   more : {a b c : ℕ} → Names file a b → Leads file b c → Leads file a c
 
--- Entity number a, a trait, leads back to itself.
+-- Entity number a, a trait or an interface, leads back to itself.
 abbrev pub InCycle : t.File → ℕ → Type 0
-InCycle file a = (e : t.Entity) × entity_at file a e × (is_trait e.kind ≡ true) × Leads file a a
+InCycle file a = (e : t.Entity) × entity_at file a e × (is_abstract e.kind ≡ true) × Leads file a a
 
 -- For each entity, the entities above it: each once, in ascending order.
 abbrev pub IsAbove : t.File → ℕ → List ℕ → Type 0

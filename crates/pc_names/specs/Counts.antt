@@ -1,7 +1,8 @@
 -- How many methods a file has.
 use Rattle.std.specs.Prelude.{ℕ, ◌+◌, ◌-◌, List, [], ◌∷◌, ◌++◌, length, Option, Some, None, slice_get, nat_lt, if◌then◌else◌}
+use Rattle.pc_tree.specs.Kinds.{is_abstract}
 use Rattle.pc_tree.specs.Tree as t
-use Rattle.pc_names.specs.Words.{Text, is_trait, has_added}
+use Rattle.pc_names.specs.Words.{Text, has_added}
 use Rattle.pc_names.specs.declared.fault.NameFault.{NameFault}
 use Rattle.pc_names.specs.declared.fault.NameFault.TheVariants as fault
 use Rattle.pc_names.specs.declared.fault.Which.TheVariants as which
@@ -21,7 +22,7 @@ abbrev pub names_above : List t.Entity → List ℕ → List Text
 names_above all [] = []
 names_above all (a ∷ as') = names_at all a ++ names_above all as'
 
--- A trait has its own methods and those of the traits above it, one of each name.
+-- A trait or an interface has its own methods and those of what is above it, one of each name.
 abbrev pub inherited_count : List t.Entity → t.Entity → List ℕ → ℕ
 inherited_count all e above = length (with_names [] (method_texts e.methods ++ names_above all above))
 
@@ -30,7 +31,7 @@ abbrev pub own_count : t.Entity → ℕ
 own_count e = if has_added e then length e.methods + 1 else length e.methods
 
 abbrev pub methods_of : List t.Entity → t.Entity → List ℕ → ℕ
-methods_of all e above = if is_trait e.kind then inherited_count all e above else own_count e
+methods_of all e above = if is_abstract e.kind then inherited_count all e above else own_count e
 
 -- how many methods a file may have
 abbrev pub method_limit : ℕ

@@ -1,6 +1,6 @@
 -- What holds of the names of every file.
 use Rattle.std.specs.Prelude.{◌≡◌, ℕ, ◌≤◌, ◌<◌, List, [], ◌∷◌, ◌++◌, map, drop, Option, Some, None}
-use Rattle.pc_core.specs.Words.{Has, Ascends}
+use Rattle.pc_lists.specs.Places.{Has, Ascends}
 use Rattle.pc_tree.specs.declared.file.ParamDef.{ParamDef}
 use Rattle.pc_tree.specs.declared.names.Name.{Name}
 use Rattle.pc_tree.specs.declared.names.TypeRef.{TypeRef}

@@ -14,8 +14,11 @@ use Rattle.pc_names.specs.declared.fault.NameFault.TheVariants as fault
 use Rattle.pc_names.specs.Words.{is_new}
 
 abbrev pub is_actor : EntityKind → Bool
+is_actor kind.Class = false
 is_actor kind.Actor = true
-is_actor k = false
+is_actor kind.Primitive = false
+is_actor kind.Trait = false
+is_actor kind.Interface = false
 
 -- `val`, which is also what an `Env` without a capability is.
 abbrev pub is_val : Option Cap → Bool

@@ -1,6 +1,6 @@
 -- What is collected of a file.
 use Rattle.std.specs.Prelude.{◌≡◌, ℕ, List, [], ◌++◌, drop}
-use Rattle.pc_core.specs.Words.{Differ}
+use Rattle.pc_lists.specs.Places.{Differ}
 use Rattle.pc_tree.specs.Tree as t
 use Rattle.pc_names.specs.declared.fault.NameFault.{NameFault}
 use Rattle.pc_names.specs.Words.{Text, built_in_names, entity_names}

@@ -1,5 +1,6 @@
 -- What is reached along edges, each number once, in the order in which it is found.
-use Rattle.std.specs.Prelude.{ℕ, zero, suc, ◌+◌, ◌≡◌, ◌⊎◌, Bool, true, false, List, [], ◌∷◌, ◌++◌, length, Option, Some, None, slice_get, nat_eq, if◌then◌else◌}
+use Rattle.std.specs.Prelude.{ℕ, zero, suc, ◌+◌, Bool, true, false, List, [], ◌∷◌, ◌++◌, length, Option, Some, None, slice_get, nat_eq, if◌then◌else◌}
+use Rattle.pc_lists.specs.Places.{IsIn}
 
 -- For each number, those to which an edge goes from it.
 abbrev pub Edges : Type 0
@@ -11,10 +12,6 @@ or_nil (Some l) = l
 
 abbrev pub next : Edges → ℕ → List ℕ
 next e a = or_nil (slice_get e a)
-
-abbrev pub IsIn : ℕ → List ℕ → Type 0
-IsIn b [] = ⊥
-IsIn b (x ∷ xs) = (b ≡ x) ⊎ IsIn b xs
 
 abbrev pub has : List ℕ → ℕ → Bool
 has [] b = false
@@ -47,7 +44,7 @@ reached e a = reached_in (length e + 1) e a
 -- ---- in ascending order
 
 -- Those of the numbers from `at` on that were found, for so many numbers.
-abbrev pub ascending : List ℕ → ℕ → ℕ → List ℕ
+abbrev pub ascending : (found : List ℕ) → (at count : ℕ) → List ℕ
 ascending found at zero = []
 ascending found at (suc k) = if has found at then at ∷ ascending found (suc at) k else ascending found (suc at) k
 

@@ -2,10 +2,9 @@
 use Rattle.std.specs.Prelude.{ℕ, Bool, true, false, List, [], ◌∷◌, ◌++◌, map, Option, position, codes, if◌then◌else◌}
 use Rattle.std.specs.List.{list_any}
 use Rattle.std.specs.Str.{bytes_eq}
-use Rattle.pc_tree.specs.declared.kinds.EntityKind.{EntityKind}
-use Rattle.pc_tree.specs.declared.kinds.EntityKind.TheVariants as kind
 use Rattle.pc_tree.specs.declared.kinds.MethodWord.{MethodWord}
 use Rattle.pc_tree.specs.declared.kinds.MethodWord.TheVariants as word
+use Rattle.pc_tree.specs.Kinds.{may_stand}
 use Rattle.pc_tree.specs.Tree as t
 
 abbrev pub Text : Type 0
@@ -27,10 +26,6 @@ texts_of es = map (λ (e : t.Entity). e.name.text) es
 abbrev pub entity_names : t.File → List Text
 entity_names file = built_in_names ++ texts_of file.entities
 
-abbrev pub is_trait : EntityKind → Bool
-is_trait kind.Trait = true
-is_trait k = false
-
 -- The number of the entity of this name.
 abbrev pub entity_of : t.File → Text → Option ℕ
 entity_of file name = position (bytes_eq name) (entity_names file)
@@ -38,17 +33,13 @@ entity_of file name = position (bytes_eq name) (entity_names file)
 -- ---- constructors
 
 abbrev pub is_new : MethodWord → Bool
+is_new word.Fun = false
+is_new word.Be = false
 is_new word.New = true
-is_new w = false
-
--- Classes and actors without a constructor have `create` added.
-abbrev pub may_be_created : EntityKind → Bool
-may_be_created kind.Class = true
-may_be_created kind.Actor = true
-may_be_created k = false
 
 abbrev pub has_constructor : t.Entity → Bool
 has_constructor e = list_any (λ (m : t.Method). is_new m.word) e.methods
 
+-- Where constructors may stand, in classes and actors, an entity without one has `create` added.
 abbrev pub has_added : t.Entity → Bool
-has_added e = if has_constructor e then false else may_be_created e.kind
+has_added e = if has_constructor e then false else may_stand e.kind word.New

@@ -5,7 +5,7 @@ ghost use Rattle.pc_tree.specs.Tree as tree;
 ghost use Rattle.pc_tree.specs.View.{entity_view, method_view};
 ghost use Rattle.pc_names.specs.Words as spec;
 
-use pc_tree::{Entity, EntityKind, MethodDef, MethodWord};
+use pc_tree::{Entity, MethodDef, MethodWord};
 
 /// Whether the word is `new`.
 pub(crate) fn is_new(word: MethodWord) -> bool
@@ -26,13 +26,6 @@ fn has_constructor(methods: &[MethodDef]) -> bool
     false
 }
 
-// Whether `create` is added to entities of this kind that have no constructor.
-fn may_be_created(kind: EntityKind) -> bool
-    ensures { result ≡ spec.may_be_created kind }
-{
-    matches!(kind, EntityKind::Class | EntityKind::Actor)
-}
-
 /// Whether the constructor `create` is added to the entity: it is a class or an actor and has no constructor.
 pub fn has_added(entity: &Entity) -> bool
     ensures { result ≡ spec.has_added (entity_view entity.now) }
@@ -40,6 +33,6 @@ pub fn has_added(entity: &Entity) -> bool
     if has_constructor(entity.methods.as_slice()) {
         false
     } else {
-        may_be_created(entity.kind)
+        entity.kind.may_hold(MethodWord::New)
     }
 }

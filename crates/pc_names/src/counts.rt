@@ -10,7 +10,7 @@ use crate::fault::{NameFault, Which};
 use crate::table::NameTable;
 use crate::texts::add_methods;
 use pc_caps::List;
-use pc_tree::{Entity, EntityKind};
+use pc_tree::Entity;
 use std::alloc::{AllocError, Global};
 
 /// How many entities are built in.
@@ -40,7 +40,7 @@ fn add_names_above(table: &mut NameTable, all: &[Entity], above: &[u32]) -> Resu
     Ok(())
 }
 
-// How many methods a trait has, its own and those of the traits above it, one of each name.
+// How many methods a trait or an interface has, its own and those of what is above it, one of each name.
 #[tactic(auto, using(crate::proofs::Tables::names_in_parts))]
 fn count_inherited(
     alloc: Global,
@@ -56,7 +56,7 @@ fn count_inherited(
     Ok(table.len() as usize)
 }
 
-// How many methods an entity that is no trait has, its own and an added `create`.
+// How many methods an entity of another kind has, its own and an added `create`.
 fn count_own(entity: &Entity) -> usize
     ensures { result ≡ spec.own_count (entity_view entity.now) }
 {
@@ -77,9 +77,10 @@ fn count_methods(
 ) -> Result<usize, AllocError>
     ensures { IfOk result (λ n. n ≡ spec.methods_of (map entity_view all.now) (entity_view entity.now) above.now) }
 {
-    match entity.kind {
-        EntityKind::Trait => count_inherited(alloc, all, entity, above),
-        _ => Ok(count_own(entity)),
+    if entity.kind.is_abstract() {
+        count_inherited(alloc, all, entity, above)
+    } else {
+        Ok(count_own(entity))
     }
 }
 

@@ -1,14 +1,14 @@
-//! Traits that lead back to themselves.
+//! Traits and interfaces that lead back to themselves.
 ghost use Rattle.std.specs.Prelude.{◌≡◌, ◌&&◌, ◌+◌, ◌<◌, ◌^◌, map, length};
+ghost use Rattle.pc_tree.specs.Kinds.{is_abstract};
 ghost use Rattle.pc_tree.specs.View.{entity_view};
 ghost use Rattle.pc_names.specs.Cycles.{cycle_faults};
 ghost use Rattle.pc_names.specs.Faults.{Tells};
 ghost use Rattle.pc_names.specs.Reach as reach;
-ghost use Rattle.pc_names.specs.Words.{is_trait};
 
 use crate::fault::NameFault;
 use pc_caps::List;
-use pc_tree::{Entity, EntityKind};
+use pc_tree::Entity;
 
 // Whether the number is in the list.
 fn has(numbers: &[u32], wanted: u32) -> bool
@@ -22,14 +22,14 @@ fn has(numbers: &[u32], wanted: u32) -> bool
     false
 }
 
-// Whether the entity of this number is a trait that stands among those above it.
+// Whether the entity of this number is a trait or an interface that stands among those above it.
 fn is_in_cycle(entity: &Entity, above: &[u32], number: u32) -> bool
-    ensures { result ≡ (is_trait entity.now.kind && reach.has above.now number) }
+    ensures { result ≡ (is_abstract entity.now.kind && reach.has above.now number) }
 {
-    matches!(entity.kind, EntityKind::Trait) && has(above, number)
+    entity.kind.is_abstract() && has(above, number)
 }
 
-/// No trait of these entities, of which the first has this number, stands above itself.
+/// No trait or interface of these entities, of which the first has this number, stands above itself.
 pub(crate) fn check_cycles(
     first: u32,
     entities: &[Entity],

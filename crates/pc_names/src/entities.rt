@@ -7,7 +7,7 @@ ghost use Rattle.pc_names.specs.Words.{built_in_names, entity_names, texts_of};
 
 use crate::fault::{NameFault, Which};
 use crate::table::NameTable;
-use pc_tree::{Entity, EntityKind, File};
+use pc_tree::{Entity, File};
 use std::alloc::{AllocError, Global};
 
 /// How many entities there may be, with the six that are built in.
@@ -54,19 +54,19 @@ pub(crate) fn table_entities(alloc: Global, file: &File) -> Result<NameTable, Na
     add_entities(table_built_in(alloc)?, file.entities.as_slice())
 }
 
-// Puts the names of the traits among these entities behind the others.
+// Puts the names of the traits and interfaces among these entities behind the others.
 fn add_traits(mut table: NameTable, entities: &[Entity]) -> Result<NameTable, AllocError>
     ensures { IfOk result (λ t. t ≡ with_traits table (map entity_view entities.now)) }
 {
     for entity in entities {
-        if matches!(entity.kind, EntityKind::Trait) {
+        if entity.kind.is_abstract() {
             table.add(entity.name.text.as_slice())?;
         }
     }
     Ok(table)
 }
 
-/// The names of the traits of a file.
+/// The names of the traits and interfaces of a file.
 pub(crate) fn table_traits(alloc: Global, file: &File) -> Result<NameTable, AllocError>
     ensures { IfOk result (λ t. t ≡ trait_names (file_view file.now).entities) }
 {

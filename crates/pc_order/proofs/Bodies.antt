@@ -14,8 +14,8 @@ use Rattle.pc_token.specs.declared.words.Word.{Word}
 use Rattle.pc_token.specs.declared.words.Word.TheVariants as w
 use Rattle.pc_grammar.specs.Spells.{over, SpellsType, SpellsTyped, Spells, SpellsTerms, SpellsMoreTerms, SpellsSuffixes, SpellsArgs, SpellsMoreArgs, SpellsArm, SpellsArms, SpellsMoreArms, SpellsOther, SpellsSeq, SpellsItems, SpellsMoreItems, SpellsItem}
 use Rattle.pc_grammar.specs.SpellsFile.{SpellsValue, SpellsField, SpellsFields, SpellsBody, SpellsMethod, SpellsMethods, SpellsEntity}
-use Rattle.pc_stands.specs.Bodies.{initial_fields}
-use Rattle.pc_stands.specs.Places.{written_places, places, exprs_places, suffixes_places, arm_places, arms_places, other_places, seq_places, items_places, item_places, value_places, initial_places, written_body_places, body_places}
+use Rattle.pc_body_spec.specs.Bodies.{initial_fields}
+use Rattle.pc_body_spec.specs.Places.{written_places, places, exprs_places, suffixes_places, arm_places, arms_places, other_places, seq_places, items_places, item_places, value_places, initial_places, written_body_places, body_places}
 use Rattle.pc_order.specs.Laws.{BodiesAscend}
 use Rattle.pc_order.proofs.Among.{Among, nothing, put, after, both, past, before, moved, among_ascends}
 use Rattle.pc_order.proofs.Files.{file_in}

@@ -1,3 +1,4 @@
+//! The laws on the order of tokens and names, as calls that do nothing.
 ghost use Rattle.pc_order.specs.Laws.{BodiesAscend, DeclarationsAscend, TokensAscend, TokensEnd};
 
 /// Each token of a text starts before those behind it, and the last one is `End`.

@@ -10,8 +10,8 @@ use Rattle.pc_grammar.specs.ReadingFile as rules
 use Rattle.pc_grammar.specs.FileAnswers.{FileAnswer, spelled, unexpected, too_deep, IsFileAnswer}
 use Rattle.pc_grammar.specs.Laws.{AnswersFor}
 use Rattle.pc_grammar.proofs.FileAnswers.{file_is_answered, one_file_answer}
-use Rattle.pc_expr.specs.declared.stop.Stop.{Stop}
-use Rattle.pc_expr.specs.declared.stop.Stop.TheVariants as stop
+use Rattle.pc_expr.specs.declared.stop.ParseStop.{ParseStop}
+use Rattle.pc_expr.specs.declared.stop.ParseStop.TheVariants as stop
 use Rattle.pc_expr.specs.declared.fault.ParseFault.{ParseFault}
 use Rattle.pc_expr.specs.declared.fault.ParseFault.TheVariants as fault
 use Rattle.pc_expr.specs.Gives.{Stops}
@@ -45,7 +45,7 @@ goes_on tokens to f read within =
     let some : 0 < length (drop to tokens) = simp length-drop (omega (arith, within)) in
     (within, some_left tokens (drop to tokens) f some (answers tokens _ read))
 
-pub stops_right : (tokens : List Token) (e : Stop) → Stops tokens e (rules.file 199 tokens) → StopsRight tokens e
+pub stops_right : (tokens : List Token) (e : ParseStop) → Stops tokens e (rules.file 199 tokens) → StopsRight tokens e
 stops_right tokens (stop.Unexpected k) s =
     let within = s.1 in
     let some : 0 < length (drop k tokens) = simp length-drop (omega (arith, within)) in
@@ -55,7 +55,7 @@ stops_right tokens stop.Memory s = tt
 
 -- ---- faults, by the first byte of their token
 
-pub refused : (tokens : List Token) (e : Stop) (f : ParseFault) → StopsRight tokens e → Names tokens e f → Refuses tokens f
+pub refused : (tokens : List Token) (e : ParseStop) (f : ParseFault) → StopsRight tokens e → Names tokens e f → Refuses tokens f
 refused tokens (stop.Unexpected k) f s named = subst (λ v. Refuses tokens v) (sym named.1) (k, named.2, s.1)
 refused tokens (stop.TooDeep k) f s named = subst (λ v. Refuses tokens v) (sym named.1) (k, named.2, s.1)
 refused tokens stop.Memory f s named = subst (λ v. Refuses tokens v) (sym named) tt

@@ -4,8 +4,8 @@ use Rattle.pc_token.specs.declared.kinds.Token.{Token}
 use Rattle.pc_tree.specs.declared.file.File.{File}
 use Rattle.pc_tree.specs.View.{file_view}
 use Rattle.pc_grammar.specs.FileAnswers.{FileAnswer, spelled, unexpected, too_deep, IsFileAnswer}
-use Rattle.pc_expr.specs.declared.stop.Stop.{Stop}
-use Rattle.pc_expr.specs.declared.stop.Stop.TheVariants as stop
+use Rattle.pc_expr.specs.declared.stop.ParseStop.{ParseStop}
+use Rattle.pc_expr.specs.declared.stop.ParseStop.TheVariants as stop
 use Rattle.pc_expr.specs.declared.fault.ParseFault.{ParseFault}
 use Rattle.pc_expr.specs.declared.fault.ParseFault.TheVariants as fault
 use Rattle.pc_expr.specs.Answers.{Places}
@@ -29,7 +29,7 @@ abbrev pub IsOnly : List Token → Result File ParseFault → Type 0
 IsOnly tokens result = (answer : FileAnswer) → IsFileAnswer tokens answer → Is answer result
 
 -- Why there is no tree, by the place of the token. Or memory ran out.
-abbrev pub StopsRight : List Token → Stop → Type 0
+abbrev pub StopsRight : List Token → ParseStop → Type 0
 StopsRight tokens (stop.Unexpected k) = (k < length tokens) × IsFileAnswer tokens (unexpected (drop k tokens))
 StopsRight tokens (stop.TooDeep k) = (k < length tokens) × IsFileAnswer tokens (too_deep (drop k tokens))
 StopsRight tokens stop.Memory = Unit {0}

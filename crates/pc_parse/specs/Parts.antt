@@ -1,12 +1,12 @@
 -- The rules of the grammar of files by their parts, with the levels that a file has.
-use Rattle.std.specs.Prelude.{List, [], ◌∷◌, Option, Some, if◌then◌else◌}
+use Rattle.std.specs.Prelude.{List, [], ◌∷◌, if◌then◌else◌}
 use Rattle.pc_tree.specs.Tree as t
 use Rattle.pc_tree.specs.declared.names.Name.{Name}
 use Rattle.pc_tree.specs.declared.file.ParamDef.{ParamDef}
 use Rattle.pc_tree.specs.declared.kinds.EntityKind.{EntityKind}
 use Rattle.pc_token.specs.declared.signs.Sign.TheVariants as s
 use Rattle.pc_token.specs.Asking.{is_sign}
-use Rattle.pc_grammar.specs.Reading.{Parser, ◌>>=◌, ◌>>◌, pure, peek, take_if, all, after, at, type_name, seq}
+use Rattle.pc_grammar.specs.Reading.{Parser, ◌>>=◌, ◌>>◌, pure, peek, take_if, all, after, at, type_name}
 use Rattle.pc_grammar.specs.ReadingFile.{is_end, maybe_doc, param, begins_field, some_field, begins_method, some_method, begins_entity, entity}
 use Rattle.pc_expr.specs.Onto.{onto}
 
@@ -37,10 +37,6 @@ one_type_name = type_name >>= λ m. pure (m ∷ [])
 -- {Field}
 abbrev pub all_fields : Parser (List t.Field)
 all_fields = all (at begins_field) (some_field 199)
-
--- "=>" [doc] Seq
-unfoldable pub whole_body : Parser (Option t.Seq)
-whole_body = take_if (is_sign s.Arrow) >> maybe_doc >> seq 199 >>= λ b. pure (Some b)
 
 -- {Method}
 abbrev pub all_methods : EntityKind → Parser (List t.Method)

@@ -10,7 +10,7 @@ use crate::methods::methods;
 use crate::provides::provides;
 use crate::tokens::{after_doc, at_entity, entity_word};
 use pc_caps::{Cap, List};
-use pc_expr::parsers::{Stop, look, maybe_cap, take_word, type_name};
+use pc_expr::parsers::{ParseStop, look, maybe_cap, take_word, type_name};
 use pc_token::{Token, Word, is_word};
 use pc_tree::{Entity, EntityKind};
 use std::alloc::Global;
@@ -21,9 +21,10 @@ fn entity_cap(tokens: &[Token], at: usize, kind: EntityKind) -> (Option<Cap>, us
     ensures gives { rules.entity_cap kind (drop at tokens.now) ≡ Ok (result.0, drop result.1 tokens.now) }
     ensures moves { (at ≤ result.1) × At tokens.now result.1 }
 {
-    match kind {
-        EntityKind::Class | EntityKind::Trait => maybe_cap(tokens, at),
-        EntityKind::Actor | EntityKind::Primitive => (None, at),
+    if kind.may_have_cap() {
+        maybe_cap(tokens, at)
+    } else {
+        (None, at)
     }
 }
 
@@ -34,7 +35,7 @@ fn entity_of(
     tokens: &[Token],
     at: usize,
     kind: EntityKind,
-) -> Result<(Entity, usize), Stop>
+) -> Result<(Entity, usize), ParseStop>
     requires { At tokens.now at }
     ensures gives { Gives entity_view tokens.now result (rules.entity_of 199 kind (drop at tokens.now)) }
     ensures moves { IfOk result (λ r. Moves tokens.now at r.1) }
@@ -61,7 +62,7 @@ fn entity_of(
 
 /// ("class" [Cap] | "trait" [Cap] | "actor" | "primitive") TypeName, and what stands behind it.
 #[tactic(auto, unfolding(pc_grammar::specs::ReadingFile::entity, pc_grammar::specs::Reading::peek))]
-fn entity(alloc: Global, tokens: &[Token], at: usize) -> Result<(Entity, usize), Stop>
+fn entity(alloc: Global, tokens: &[Token], at: usize) -> Result<(Entity, usize), ParseStop>
     requires { At tokens.now at }
     ensures gives { Gives entity_view tokens.now result (rules.entity 199 (drop at tokens.now)) }
     ensures moves { IfOk result (λ r. Moves tokens.now at r.1) }
@@ -76,7 +77,7 @@ fn entity(alloc: Global, tokens: &[Token], at: usize) -> Result<(Entity, usize),
     } else if is_word(token, Word::TraitWord) {
         entity_of(alloc, tokens, at, EntityKind::Trait)
     } else {
-        Err(Stop::Unexpected(at))
+        Err(ParseStop::Unexpected(at))
     }
 }
 
@@ -86,7 +87,7 @@ fn more_entities(
     tokens: &[Token],
     at: usize,
     so_far: List<Entity>,
-) -> Result<(List<Entity>, usize), Stop>
+) -> Result<(List<Entity>, usize), ParseStop>
     requires { At tokens.now at }
     ensures gives { Gives (map entity_view) tokens.now result (parts.more_entities (map entity_view so_far) (drop at tokens.now)) }
     ensures moves { IfOk result (λ r. (at ≤ r.1) × At tokens.now r.1) }
@@ -107,7 +108,7 @@ pub fn some_entities(
     alloc: Global,
     tokens: &[Token],
     at: usize,
-) -> Result<(List<Entity>, usize), Stop>
+) -> Result<(List<Entity>, usize), ParseStop>
     requires { At tokens.now at }
     ensures gives { Gives (map entity_view) tokens.now result (parts.some_entities (drop at tokens.now)) }
     ensures moves { IfOk result (λ r. Moves tokens.now at r.1) }

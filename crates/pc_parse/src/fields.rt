@@ -8,14 +8,16 @@ ghost use Rattle.pc_parse.specs.Parts as parts;
 use crate::levels::LEVELS;
 use crate::tokens::{after_doc, at_field};
 use pc_caps::List;
-use pc_expr::parsers::{Stop, infix, local_word, look, name, take_sign, take_word, written_type};
+use pc_expr::parsers::{
+    ParseStop, infix, local_word, look, name, take_sign, take_word, written_type,
+};
 use pc_token::{Sign, Token, Word, is_sign, is_word};
 use pc_tree::{EntityKind, Expr, FieldDef};
 use std::alloc::Global;
 
 /// ["=" Infix]
 #[tactic(auto, unfolding(pc_grammar::specs::ReadingFile::value, pc_grammar::specs::Reading::peek))]
-fn value(alloc: Global, tokens: &[Token], at: usize) -> Result<(Option<Expr>, usize), Stop>
+fn value(alloc: Global, tokens: &[Token], at: usize) -> Result<(Option<Expr>, usize), ParseStop>
     requires { At tokens.now at }
     ensures gives { Gives maybe_expr tokens.now result (rules.value 199 (drop at tokens.now)) }
     ensures moves { IfOk result (λ r. (at ≤ r.1) × At tokens.now r.1) }
@@ -30,7 +32,12 @@ fn value(alloc: Global, tokens: &[Token], at: usize) -> Result<(Option<Expr>, us
 
 /// ("var" | "let") Name ":" Type ["=" Infix] [doc], with the word that is given.
 #[tactic(auto, unfolding(pc_grammar::specs::ReadingFile::field))]
-fn field(alloc: Global, tokens: &[Token], at: usize, fixed: bool) -> Result<(FieldDef, usize), Stop>
+fn field(
+    alloc: Global,
+    tokens: &[Token],
+    at: usize,
+    fixed: bool,
+) -> Result<(FieldDef, usize), ParseStop>
     requires { At tokens.now at }
     ensures gives { Gives field_view tokens.now result (rules.field 199 fixed (drop at tokens.now)) }
     ensures moves { IfOk result (λ r. Moves tokens.now at r.1) }
@@ -54,7 +61,7 @@ fn field(alloc: Global, tokens: &[Token], at: usize, fixed: bool) -> Result<(Fie
 
 /// ("var" | "let") Name ":" Type ["=" Infix] [doc]
 #[tactic(auto, unfolding(pc_grammar::specs::ReadingFile::some_field, pc_grammar::specs::Reading::peek))]
-fn some_field(alloc: Global, tokens: &[Token], at: usize) -> Result<(FieldDef, usize), Stop>
+fn some_field(alloc: Global, tokens: &[Token], at: usize) -> Result<(FieldDef, usize), ParseStop>
     requires { At tokens.now at }
     ensures gives { Gives field_view tokens.now result (rules.some_field 199 (drop at tokens.now)) }
     ensures moves { IfOk result (λ r. Moves tokens.now at r.1) }
@@ -64,7 +71,11 @@ fn some_field(alloc: Global, tokens: &[Token], at: usize) -> Result<(FieldDef, u
 }
 
 /// {Field}
-fn all_fields(alloc: Global, tokens: &[Token], at: usize) -> Result<(List<FieldDef>, usize), Stop>
+fn all_fields(
+    alloc: Global,
+    tokens: &[Token],
+    at: usize,
+) -> Result<(List<FieldDef>, usize), ParseStop>
     requires { At tokens.now at }
     ensures gives { Gives (map field_view) tokens.now result (parts.all_fields (drop at tokens.now)) }
     ensures moves { IfOk result (λ r. (at ≤ r.1) × At tokens.now r.1) }
@@ -85,13 +96,14 @@ pub fn fields(
     tokens: &[Token],
     at: usize,
     kind: EntityKind,
-) -> Result<(List<FieldDef>, usize), Stop>
+) -> Result<(List<FieldDef>, usize), ParseStop>
     requires { At tokens.now at }
     ensures gives { Gives (map field_view) tokens.now result (rules.fields 199 kind (drop at tokens.now)) }
     ensures moves { IfOk result (λ r. (at ≤ r.1) × At tokens.now r.1) }
 {
-    match kind {
-        EntityKind::Class | EntityKind::Actor => all_fields(alloc, tokens, at),
-        EntityKind::Primitive | EntityKind::Trait => Ok((List::new(alloc), at)),
+    if kind.may_have_fields() {
+        all_fields(alloc, tokens, at)
+    } else {
+        Ok((List::new(alloc), at))
     }
 }

@@ -10,7 +10,7 @@ use crate::parameters::params;
 use crate::tokens::{after_doc, at_method, begins, method_word};
 use crate::types::method_result;
 use pc_caps::{Cap, List};
-use pc_expr::parsers::{Stop, look, maybe_cap, name, seq, take_sign, take_word};
+use pc_expr::parsers::{ParseStop, look, maybe_cap, name, seq, take_sign, take_word};
 use pc_token::{Sign, Token};
 use pc_tree::{EntityKind, MethodDef, MethodWord, Seq};
 use std::alloc::Global;
@@ -26,17 +26,22 @@ fn method_cap(
     ensures gives { rules.method_cap kind word (drop at tokens.now) ≡ Ok (result.0, drop result.1 tokens.now) }
     ensures moves { (at ≤ result.1) × At tokens.now result.1 }
 {
-    match (word, kind) {
-        (MethodWord::Fun, _) | (MethodWord::New, EntityKind::Class) => maybe_cap(tokens, at),
-        _ => (None, at),
+    if kind.may_have_method_cap(word) {
+        maybe_cap(tokens, at)
+    } else {
+        (None, at)
     }
 }
 
 /// "=>" [doc] Seq
-#[tactic(auto, unfolding(crate::specs::Parts::whole_body))]
-fn whole_body(alloc: Global, tokens: &[Token], at: usize) -> Result<(Option<Seq>, usize), Stop>
+#[tactic(auto, unfolding(pc_grammar::specs::ReadingFile::written_body))]
+fn written_body(
+    alloc: Global,
+    tokens: &[Token],
+    at: usize,
+) -> Result<(Option<Seq>, usize), ParseStop>
     requires { At tokens.now at }
-    ensures gives { Gives maybe_seq tokens.now result (parts.whole_body (drop at tokens.now)) }
+    ensures gives { Gives maybe_seq tokens.now result (rules.written_body 199 (drop at tokens.now)) }
     ensures moves { IfOk result (λ r. (at ≤ r.1) × At tokens.now r.1) }
 {
     let (_, begin) = take_sign(tokens, at, Sign::Arrow)?;
@@ -45,23 +50,21 @@ fn whole_body(alloc: Global, tokens: &[Token], at: usize) -> Result<(Option<Seq>
     Ok((Some(body), to))
 }
 
-/// "=>" [doc] Seq, or nothing in a trait.
-#[tactic(auto, unfolding(crate::specs::Parts::whole_body))]
+/// "=>" [doc] Seq, or nothing in a trait or an interface.
 fn body(
     alloc: Global,
     tokens: &[Token],
     at: usize,
     kind: EntityKind,
-) -> Result<(Option<Seq>, usize), Stop>
+) -> Result<(Option<Seq>, usize), ParseStop>
     requires { At tokens.now at }
     ensures gives { Gives maybe_seq tokens.now result (rules.body 199 kind (drop at tokens.now)) }
     ensures moves { IfOk result (λ r. (at ≤ r.1) × At tokens.now r.1) }
 {
-    match kind {
-        EntityKind::Trait => Ok((None, at)),
-        EntityKind::Class | EntityKind::Actor | EntityKind::Primitive => {
-            whole_body(alloc, tokens, at)
-        }
+    if kind.is_abstract() {
+        Ok((None, at))
+    } else {
+        written_body(alloc, tokens, at)
     }
 }
 
@@ -73,7 +76,7 @@ fn method_of(
     at: usize,
     kind: EntityKind,
     word: MethodWord,
-) -> Result<(MethodDef, usize), Stop>
+) -> Result<(MethodDef, usize), ParseStop>
     requires { At tokens.now at }
     ensures gives { Gives method_view tokens.now result (rules.method_of 199 kind word (drop at tokens.now)) }
     ensures moves { IfOk result (λ r. Moves tokens.now at r.1) }
@@ -105,7 +108,7 @@ fn some_method(
     tokens: &[Token],
     at: usize,
     kind: EntityKind,
-) -> Result<(MethodDef, usize), Stop>
+) -> Result<(MethodDef, usize), ParseStop>
     requires { At tokens.now at }
     ensures gives { Gives method_view tokens.now result (rules.some_method 199 kind (drop at tokens.now)) }
     ensures moves { IfOk result (λ r. Moves tokens.now at r.1) }
@@ -126,7 +129,7 @@ pub fn methods(
     tokens: &[Token],
     at: usize,
     kind: EntityKind,
-) -> Result<(List<MethodDef>, usize), Stop>
+) -> Result<(List<MethodDef>, usize), ParseStop>
     requires { At tokens.now at }
     ensures gives { Gives (map method_view) tokens.now result (parts.all_methods kind (drop at tokens.now)) }
     ensures moves { IfOk result (λ r. (at ≤ r.1) × At tokens.now r.1) }

@@ -5,14 +5,14 @@ ghost use Rattle.pc_expr.specs.Gives.{At, Moves, Gives};
 ghost use Rattle.pc_parse.specs.Parts as parts;
 
 use pc_caps::List;
-use pc_expr::parsers::{Stop, after_comma, look, name, take_sign, written_type};
+use pc_expr::parsers::{ParseStop, after_comma, look, name, take_sign, written_type};
 use pc_token::{Sign, Token, is_sign};
 use pc_tree::ParamDef;
 use std::alloc::Global;
 
 /// Name ":" Type
 #[tactic(auto, unfolding(pc_grammar::specs::ReadingFile::param))]
-fn param(alloc: Global, tokens: &[Token], at: usize) -> Result<(ParamDef, usize), Stop>
+fn param(alloc: Global, tokens: &[Token], at: usize) -> Result<(ParamDef, usize), ParseStop>
     requires { At tokens.now at }
     ensures gives { Gives (λ m. m) tokens.now result (rules.param (drop at tokens.now)) }
     ensures moves { IfOk result (λ r. Moves tokens.now at r.1) }
@@ -29,7 +29,7 @@ fn more_params(
     tokens: &[Token],
     at: usize,
     so_far: List<ParamDef>,
-) -> Result<(List<ParamDef>, usize), Stop>
+) -> Result<(List<ParamDef>, usize), ParseStop>
     requires { At tokens.now at }
     ensures gives { Gives (λ m. m) tokens.now result (parts.more_params so_far (drop at tokens.now)) }
     ensures moves { IfOk result (λ r. (at ≤ r.1) × At tokens.now r.1) }
@@ -46,7 +46,11 @@ fn more_params(
 
 /// Name ":" Type {"," Name ":" Type}
 #[tactic(auto, unfolding(crate::specs::Parts::some_params))]
-fn some_params(alloc: Global, tokens: &[Token], at: usize) -> Result<(List<ParamDef>, usize), Stop>
+fn some_params(
+    alloc: Global,
+    tokens: &[Token],
+    at: usize,
+) -> Result<(List<ParamDef>, usize), ParseStop>
     requires { At tokens.now at }
     ensures gives { Gives (λ m. m) tokens.now result (parts.some_params (drop at tokens.now)) }
     ensures moves { IfOk result (λ r. Moves tokens.now at r.1) }
@@ -59,7 +63,11 @@ fn some_params(alloc: Global, tokens: &[Token], at: usize) -> Result<(List<Param
 
 /// [Name ":" Type {"," Name ":" Type}], before a ")"
 #[tactic(auto, using(crate::proofs::Parts::params_by_parts), unfolding(crate::specs::Parts::param_list_parts, pc_grammar::specs::Reading::peek))]
-fn param_list(alloc: Global, tokens: &[Token], at: usize) -> Result<(List<ParamDef>, usize), Stop>
+fn param_list(
+    alloc: Global,
+    tokens: &[Token],
+    at: usize,
+) -> Result<(List<ParamDef>, usize), ParseStop>
     requires { At tokens.now at }
     ensures gives { Gives (λ m. m) tokens.now result (rules.param_list (drop at tokens.now)) }
     ensures moves { IfOk result (λ r. (at ≤ r.1) × At tokens.now r.1) }
@@ -72,7 +80,11 @@ fn param_list(alloc: Global, tokens: &[Token], at: usize) -> Result<(List<ParamD
 
 /// "(" [Name ":" Type {"," Name ":" Type}] ")"
 #[tactic(auto, unfolding(pc_grammar::specs::ReadingFile::params))]
-pub fn params(alloc: Global, tokens: &[Token], at: usize) -> Result<(List<ParamDef>, usize), Stop>
+pub fn params(
+    alloc: Global,
+    tokens: &[Token],
+    at: usize,
+) -> Result<(List<ParamDef>, usize), ParseStop>
     requires { At tokens.now at }
     ensures gives { Gives (λ m. m) tokens.now result (rules.params (drop at tokens.now)) }
     ensures moves { IfOk result (λ r. Moves tokens.now at r.1) }

@@ -9,14 +9,14 @@ ghost use Rattle.pc_parse.specs.Answers.{StopsRight, Refuses, IsOnly};
 use crate::entities::some_entities;
 use crate::tokens::{after_doc, is_end};
 use pc_expr::ParseFault;
-use pc_expr::parsers::{Stop, fault, look};
+use pc_expr::parsers::{ParseStop, fault, look};
 use pc_token::Token;
 use pc_tree::File;
 use std::alloc::Global;
 
 /// [doc] Entity {Entity} End, with the place behind it.
 #[tactic(auto, using(crate::proofs::Parts::file_by_parts), unfolding(crate::specs::Parts::file_parts, pc_grammar::specs::Reading::take_if))]
-fn front(alloc: Global, tokens: &[Token]) -> Result<(File, usize), Stop>
+fn front(alloc: Global, tokens: &[Token]) -> Result<(File, usize), ParseStop>
     requires { At tokens.now 0 }
     ensures gives { Gives file_view tokens.now result (rules.file 199 tokens.now) }
     ensures within { IfOk result (λ r. r.1 ≤ length tokens.now) }
@@ -24,20 +24,20 @@ fn front(alloc: Global, tokens: &[Token]) -> Result<(File, usize), Stop>
     let begin = after_doc(tokens, 0);
     let (entities, end) = some_entities(alloc, tokens, begin)?;
     if !is_end(look(tokens, end)) {
-        return Err(Stop::Unexpected(end));
+        return Err(ParseStop::Unexpected(end));
     }
     Ok((File { entities }, end + 1))
 }
 
 /// [doc] Entity {Entity} End, and nothing behind it.
-fn whole(alloc: Global, tokens: &[Token]) -> Result<File, Stop>
+fn whole(alloc: Global, tokens: &[Token]) -> Result<File, ParseStop>
     requires { At tokens.now 0 }
     ensures read { IfOk result (λ f. IsFileAnswer tokens.now (spelled (file_view f))) }
     ensures refused { IfErr result (StopsRight tokens.now) }
 {
     let (file, to) = front(alloc, tokens)?;
     if to < tokens.len() {
-        return Err(Stop::Unexpected(to));
+        return Err(ParseStop::Unexpected(to));
     }
     Ok(file)
 }

@@ -6,7 +6,7 @@ ghost use Rattle.pc_parse.specs.Parts as parts;
 
 use crate::tokens::after_ampersand;
 use pc_caps::List;
-use pc_expr::parsers::{Stop, look, take_sign, take_word, type_name};
+use pc_expr::parsers::{ParseStop, look, take_sign, take_word, type_name};
 use pc_token::{Sign, Token, Word, is_sign, is_word};
 use pc_tree::Name;
 use std::alloc::Global;
@@ -17,7 +17,7 @@ fn more_type_names(
     tokens: &[Token],
     at: usize,
     so_far: List<Name>,
-) -> Result<(List<Name>, usize), Stop>
+) -> Result<(List<Name>, usize), ParseStop>
     requires { At tokens.now at }
     ensures gives { Gives (λ m. m) tokens.now result (parts.more_type_names so_far (drop at tokens.now)) }
     ensures moves { IfOk result (λ r. (at ≤ r.1) × At tokens.now r.1) }
@@ -34,7 +34,7 @@ fn more_type_names(
 
 /// TypeName {"&" TypeName}
 #[tactic(auto, using(crate::proofs::Parts::type_names_by_parts), unfolding(crate::specs::Parts::some_type_names))]
-fn type_names(alloc: Global, tokens: &[Token], at: usize) -> Result<(List<Name>, usize), Stop>
+fn type_names(alloc: Global, tokens: &[Token], at: usize) -> Result<(List<Name>, usize), ParseStop>
     requires { At tokens.now at }
     ensures gives { Gives (λ m. m) tokens.now result (rules.type_names (drop at tokens.now)) }
     ensures moves { IfOk result (λ r. Moves tokens.now at r.1) }
@@ -47,7 +47,11 @@ fn type_names(alloc: Global, tokens: &[Token], at: usize) -> Result<(List<Name>,
 
 /// TypeName, as a list of one.
 #[tactic(auto, unfolding(crate::specs::Parts::one_type_name))]
-fn one_type_name(alloc: Global, tokens: &[Token], at: usize) -> Result<(List<Name>, usize), Stop>
+fn one_type_name(
+    alloc: Global,
+    tokens: &[Token],
+    at: usize,
+) -> Result<(List<Name>, usize), ParseStop>
     requires { At tokens.now at }
     ensures gives { Gives (λ m. m) tokens.now result (parts.one_type_name (drop at tokens.now)) }
     ensures moves { IfOk result (λ r. Moves tokens.now at r.1) }
@@ -60,7 +64,7 @@ fn one_type_name(alloc: Global, tokens: &[Token], at: usize) -> Result<(List<Nam
 
 /// TypeName  |  "(" TypeName {"&" TypeName} ")"
 #[tactic(auto, unfolding(pc_grammar::specs::ReadingFile::provided, crate::specs::Parts::one_type_name, pc_grammar::specs::Reading::peek))]
-fn provided(alloc: Global, tokens: &[Token], at: usize) -> Result<(List<Name>, usize), Stop>
+fn provided(alloc: Global, tokens: &[Token], at: usize) -> Result<(List<Name>, usize), ParseStop>
     requires { At tokens.now at }
     ensures gives { Gives (λ m. m) tokens.now result (rules.provided (drop at tokens.now)) }
     ensures moves { IfOk result (λ r. Moves tokens.now at r.1) }
@@ -76,7 +80,11 @@ fn provided(alloc: Global, tokens: &[Token], at: usize) -> Result<(List<Name>, u
 
 /// ["is" (TypeName | "(" TypeName {"&" TypeName} ")")]
 #[tactic(auto, unfolding(pc_grammar::specs::ReadingFile::provides, pc_grammar::specs::Reading::peek))]
-pub fn provides(alloc: Global, tokens: &[Token], at: usize) -> Result<(List<Name>, usize), Stop>
+pub fn provides(
+    alloc: Global,
+    tokens: &[Token],
+    at: usize,
+) -> Result<(List<Name>, usize), ParseStop>
     requires { At tokens.now at }
     ensures gives { Gives (λ m. m) tokens.now result (rules.provides (drop at tokens.now)) }
     ensures moves { IfOk result (λ r. (at ≤ r.1) × At tokens.now r.1) }

@@ -88,23 +88,11 @@ pub fn method_word(word: MethodWord) -> Word
     }
 }
 
-/// Whether such a method may stand in such an entity.
-fn may_stand(kind: EntityKind, word: MethodWord) -> bool
-    ensures { result ≡ grammar.may_stand kind word }
-{
-    match (kind, word) {
-        (_, MethodWord::Fun)
-        | (EntityKind::Actor | EntityKind::Trait, MethodWord::Be)
-        | (EntityKind::Class | EntityKind::Actor, MethodWord::New) => true,
-        _ => false,
-    }
-}
-
 /// Whether such a method begins with the token, and may stand in such an entity.
 pub fn begins(kind: EntityKind, word: MethodWord, token: &Token) -> bool
     ensures { result ≡ rules.word_in kind word token.now }
 {
-    may_stand(kind, word) && is_word(token, method_word(word))
+    kind.may_hold(word) && is_word(token, method_word(word))
 }
 
 #[tactic(auto, unfolding(pc_grammar::specs::ReadingFile::begins_method))]
@@ -139,6 +127,7 @@ pub fn entity_word(kind: EntityKind) -> Word
         EntityKind::Actor => Word::ActorWord,
         EntityKind::Primitive => Word::PrimitiveWord,
         EntityKind::Trait => Word::TraitWord,
+        EntityKind::Interface => Word::InterfaceWord,
     }
 }
 

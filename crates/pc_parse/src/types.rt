@@ -3,7 +3,7 @@ ghost use Rattle.std.specs.Prelude.{◌≡◌, ◌≤◌, drop, IfOk, Ok};
 ghost use Rattle.pc_grammar.specs.ReadingFile as rules;
 ghost use Rattle.pc_expr.specs.Gives.{At, Moves, Gives};
 
-use pc_expr::parsers::{Stop, look, maybe_cap, take_sign, type_name};
+use pc_expr::parsers::{ParseStop, look, maybe_cap, take_sign, type_name};
 use pc_token::{Sign, Token, is_sign};
 use pc_tree::{MethodWord, TypeRef};
 use std::alloc::Global;
@@ -24,7 +24,7 @@ fn maybe_hat(tokens: &[Token], at: usize) -> (bool, usize)
 
 /// TypeName [Cap] ["^"]
 #[tactic(auto, unfolding(pc_grammar::specs::ReadingFile::result_type))]
-fn result_type(alloc: Global, tokens: &[Token], at: usize) -> Result<(TypeRef, usize), Stop>
+fn result_type(alloc: Global, tokens: &[Token], at: usize) -> Result<(TypeRef, usize), ParseStop>
     requires { At tokens.now at }
     ensures gives { Gives (λ m. m) tokens.now result (rules.result_type (drop at tokens.now)) }
     ensures moves { IfOk result (λ r. Moves tokens.now at r.1) }
@@ -37,7 +37,11 @@ fn result_type(alloc: Global, tokens: &[Token], at: usize) -> Result<(TypeRef, u
 
 /// [":" Result]
 #[tactic(auto, unfolding(pc_grammar::specs::ReadingFile::returns, pc_grammar::specs::Reading::peek))]
-fn returns(alloc: Global, tokens: &[Token], at: usize) -> Result<(Option<TypeRef>, usize), Stop>
+fn returns(
+    alloc: Global,
+    tokens: &[Token],
+    at: usize,
+) -> Result<(Option<TypeRef>, usize), ParseStop>
     requires { At tokens.now at }
     ensures gives { Gives (λ m. m) tokens.now result (rules.returns (drop at tokens.now)) }
     ensures moves { IfOk result (λ r. (at ≤ r.1) × At tokens.now r.1) }
@@ -56,7 +60,7 @@ pub fn method_result(
     tokens: &[Token],
     at: usize,
     word: MethodWord,
-) -> Result<(Option<TypeRef>, usize), Stop>
+) -> Result<(Option<TypeRef>, usize), ParseStop>
     requires { At tokens.now at }
     ensures gives { Gives (λ m. m) tokens.now result (rules.method_result word (drop at tokens.now)) }
     ensures moves { IfOk result (λ r. (at ≤ r.1) × At tokens.now r.1) }

@@ -48,6 +48,7 @@ fn entity_text(kind: EntityKind) -> &'static [u8]
         EntityKind::Actor => b"actor",
         EntityKind::Primitive => b"primitive",
         EntityKind::Trait => b"trait",
+        EntityKind::Interface => b"interface",
     }
 }
 

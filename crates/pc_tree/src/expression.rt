@@ -1,3 +1,4 @@
+//! Trees of expressions and sequences.
 use crate::kinds::Op;
 use crate::names::{Name, TypeRef};
 use pc_caps::{Cap, List, Span};

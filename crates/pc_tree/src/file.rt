@@ -1,3 +1,4 @@
+//! Trees of files: entities, fields, methods.
 use crate::expression::{Expr, Seq};
 use crate::kinds::{EntityKind, MethodWord};
 use crate::names::{Name, TypeRef};
@@ -9,11 +10,11 @@ pub struct File {
     pub entities: List<Entity>,
 }
 
-/// A class, an actor, a primitive or a trait (the Pony tutorial).
+/// A class, an actor, a primitive, a trait or an interface (the Pony tutorial).
 #[derive(Debug, Drop)]
 pub struct Entity {
     pub kind: EntityKind,
-    /// The default capability, where one is written: only after `class` and `trait`.
+    /// The default capability, where one is written: only after `class`, `trait` and `interface`.
     pub cap: Option<Cap>,
     pub name: Name,
     /// The type names after `is`.

@@ -1,4 +1,6 @@
 //! The kinds of entities and of infix operators.
+ghost use Rattle.std.specs.Prelude.{◌≡◌};
+ghost use Rattle.pc_tree.specs.Kinds as spec;
 
 /// The kind of an entity, by the word that begins it (the Pony tutorial).
 #[derive(Clone, Copy, Debug, PartialEq, Eq)]
@@ -7,6 +9,74 @@ pub enum EntityKind {
     Actor,
     Primitive,
     Trait,
+    /// An interface. No text spells one so far.
+    Interface,
+}
+
+impl EntityKind {
+    /// Whether it is a trait or an interface, of which there are no objects.
+    pub fn is_abstract(self) -> bool
+        ensures { result ≡ spec.is_abstract self }
+    {
+        match self {
+            EntityKind::Class | EntityKind::Actor | EntityKind::Primitive => false,
+            EntityKind::Trait | EntityKind::Interface => true,
+        }
+    }
+
+    /// Whether a capability may be written behind its word.
+    pub fn may_have_cap(self) -> bool
+        ensures { result ≡ spec.may_have_cap self }
+    {
+        match self {
+            EntityKind::Class | EntityKind::Trait | EntityKind::Interface => true,
+            EntityKind::Actor | EntityKind::Primitive => false,
+        }
+    }
+
+    /// Whether it may have fields.
+    pub fn may_have_fields(self) -> bool
+        ensures { result ≡ spec.may_have_fields self }
+    {
+        match self {
+            EntityKind::Class | EntityKind::Actor => true,
+            EntityKind::Primitive | EntityKind::Trait | EntityKind::Interface => false,
+        }
+    }
+
+    /// Whether methods with this word may stand in it.
+    pub fn may_hold(self, word: MethodWord) -> bool
+        ensures { result ≡ spec.may_stand self word }
+    {
+        match word {
+            MethodWord::Fun => true,
+            MethodWord::Be => match self {
+                EntityKind::Actor | EntityKind::Trait | EntityKind::Interface => true,
+                EntityKind::Class | EntityKind::Primitive => false,
+            },
+            MethodWord::New => match self {
+                EntityKind::Class | EntityKind::Actor => true,
+                EntityKind::Primitive | EntityKind::Trait | EntityKind::Interface => false,
+            },
+        }
+    }
+
+    /// Whether a capability may be written behind the word of such a method in it.
+    pub fn may_have_method_cap(self, word: MethodWord) -> bool
+        ensures { result ≡ spec.may_have_method_cap self word }
+    {
+        match word {
+            MethodWord::Fun => true,
+            MethodWord::Be => false,
+            MethodWord::New => match self {
+                EntityKind::Class => true,
+                EntityKind::Actor
+                | EntityKind::Primitive
+                | EntityKind::Trait
+                | EntityKind::Interface => false,
+            },
+        }
+    }
 }
 
 /// An infix operator. There is no precedence among them: different ones are kept apart by parentheses (the Pony

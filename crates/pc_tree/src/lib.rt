@@ -2,6 +2,9 @@
 //!
 //! Every list is a `List`, also the terms of an operator, the suffixes behind an atom and the arms of an `if`. So a tree
 //! is as deep as its brackets are, however long it is, and what goes through it goes no deeper.
+//!
+//! Proved: `size` is the number of expressions of a file's tree and `depth` its highest level, both up to their types'
+//! greatest numbers, by recursion on the tree. What may stand in which kind of entity is one table.
 #![tactic(auto)]
 
 mod expression;
@@ -10,8 +13,6 @@ mod kinds;
 mod level;
 mod measure;
 mod names;
-#[cfg(test)]
-mod tests;
 
 pub use expression::{Arm, Expr, Item, Seq, Suffix};
 pub use file::{Entity, FieldDef, File, MethodDef, ParamDef};

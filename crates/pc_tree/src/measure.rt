@@ -1,3 +1,4 @@
+//! The number of expressions of a tree.
 ghost use Rattle.std.specs.Prelude.{◌≡◌, ◌+◌, min, map, ◌-◌, ◌^◌};
 ghost use Rattle.pc_tree.specs.Measures.{size as expr_size, seq_size, item_size, suffix_size, arm_size, exprs_size, suffixes_size, arms_size, items_size, other_size, value_size, body_size, fields_size, methods_size, entities_size, file_size};
 ghost use Rattle.pc_tree.specs.View.{expr_view, item_view, suffix_view, arm_view, seq_view, exprs_view, suffixes_view, arms_view, items_view, other_view, maybe_expr, maybe_seq, field_view, method_view, entity_view, file_view};

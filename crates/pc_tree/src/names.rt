@@ -1,3 +1,4 @@
+//! Names and written types, with their places.
 use pc_caps::{Cap, List, Span};
 
 /// A name or a type name, as it is written.

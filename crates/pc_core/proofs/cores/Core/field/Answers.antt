@@ -3,10 +3,11 @@ use Rattle.std.specs.Prelude.{List, Some, Option, slice_get}
 use Rattle.std.specs.Option.{option_copied}
 use Rattle.pc_core.specs.declared.declarations.EntityDef.{EntityDef}
 use Rattle.pc_core.specs.declared.declarations.FieldInfo.{FieldInfo}
-use Rattle.pc_core.specs.Words.{◌>>=◌}
+use Rattle.pc_lists.specs.Options.{◌>>=◌}
 use Rattle.pc_core.specs.Lookup as spec
 use Rattle.pc_core.specs.Members.{field_exact}
 use Rattle.pc_core.proofs.cores.Core.field.Goals as goal
+use Rattle.pc_lists.specs.Lookup.{place_of}
 
 there : (c : goal.After-as_slice) → slice_get c.args.self.now.entities c.args.entity ≡ Some c.in_ok-found.found.now
 there c = sym c.entity_at.ensures ∙ ap option_copied (c.in_ok-found.was)
@@ -17,8 +18,8 @@ place_of_field-requires c = subst (λ (fs : List FieldInfo). length fs ≤ 64) (
 value : (c : goal.After-place_of_field) → c.place_of_field.result ≡ spec.field_named c.args.self.now c.args.entity c.args.name
 value c =
     c.place_of_field.ensures
-    ∙ ap (λ (fs : List FieldInfo). spec.place_of spec.field_name c.args.name fs 0) c.as_slice.ensures
-    ∙ sym (ap (λ (o : Option EntityDef). o >>= λ x. spec.place_of spec.field_name c.args.name x.fields 0) (sym c.entity_at.ensures ∙ ap option_copied (c.in_ok-found.was)))
+    ∙ ap (λ (fs : List FieldInfo). place_of spec.field_name c.args.name fs 0) c.as_slice.ensures
+    ∙ sym (ap (λ (o : Option EntityDef). o >>= λ x. place_of spec.field_name c.args.name x.fields 0) (sym c.entity_at.ensures ∙ ap option_copied (c.in_ok-found.was)))
 
 pub returns-clause-value : goal.returns-clause-value
 returns-clause-value c = value c

@@ -3,16 +3,17 @@ use Rattle.std.specs.Prelude.{List, None, Option, slice_get, slice_range}
 use Rattle.std.specs.Option.{option_copied}
 use Rattle.pc_core.specs.declared.declarations.EntityDef.{EntityDef}
 use Rattle.pc_core.specs.declared.declarations.Method.{Method}
-use Rattle.pc_core.specs.Words.{◌>>=◌}
+use Rattle.pc_lists.specs.Options.{◌>>=◌}
 use Rattle.pc_core.specs.Lookup as spec
 use Rattle.pc_core.specs.Members.{method_exact, methods_within, own_methods_within}
 use Rattle.pc_core.proofs.cores.Core.method.Goals as goal
+use Rattle.pc_lists.specs.Lookup.{place_of}
 
 pub returns-in_err-found-clause-exact : goal.returns-in_err-found-clause-exact
 returns-in_err-found-clause-exact c =
     let missing : None ≡ slice_get c.args.self.now.entities c.args.entity = c.in_err-found.ensures in
     method_exact c.args.self.now c.args.entity c.args.name c.from_residual.result c.formed.ensures
-    (c.from_residual.ensures ∙ ap (λ (o : Option EntityDef). o >>= λ x. spec.place_of spec.method_name c.args.name (spec.own_methods c.args.self.now x) x.first_method) missing)
+    (c.from_residual.ensures ∙ ap (λ (o : Option EntityDef). o >>= λ x. place_of spec.method_name c.args.name (spec.own_methods c.args.self.now x) x.first_method) missing)
 
 pub part-methods-requires : goal.part-methods-requires
 part-methods-requires c =
@@ -37,8 +38,8 @@ value c =
     let same : c.part-methods.result.now ≡ spec.own_methods c.args.self.now found =
     c.part-methods.ensures ∙ ap (λ (ms : List Method). slice_range ms found.first_method (found.first_method + found.methods)) c.methods.ensures in
     c.place_of_method.ensures
-    ∙ ap (λ (ms : List Method). spec.place_of spec.method_name c.args.name ms found.first_method) same
-    ∙ sym (ap (λ (o : Option EntityDef). o >>= λ x. spec.place_of spec.method_name c.args.name (spec.own_methods c.args.self.now x) x.first_method) (sym c.entity_at.ensures ∙ ap option_copied c.in_ok-found.was))
+    ∙ ap (λ (ms : List Method). place_of spec.method_name c.args.name ms found.first_method) same
+    ∙ sym (ap (λ (o : Option EntityDef). o >>= λ x. place_of spec.method_name c.args.name (spec.own_methods c.args.self.now x) x.first_method) (sym c.entity_at.ensures ∙ ap option_copied c.in_ok-found.was))
 
 pub returns-clause-value : goal.returns-clause-value
 returns-clause-value c = value c

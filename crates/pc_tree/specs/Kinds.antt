@@ -1,0 +1,85 @@
+-- What may stand in which kind of entity (the Pony tutorial):
+--
+--               a capability   fields   `fun`   `be`   `new`                  bodies
+--   class       yes            yes      yes     no     yes, with a capability  each method
+--   actor       no             yes      yes     yes    yes                     each method
+--   primitive   no             no       yes     no     no                      each method
+--   trait       yes            no       yes     yes    no                      none
+--   interface   yes            no       yes     yes    no                      none
+use Rattle.std.specs.Prelude.{◌≡◌, Bool, true, false, List, [], Option, Some, None}
+use Rattle.pc_caps.specs.declared.capability.Cap.{Cap}
+use Rattle.pc_tree.specs.declared.kinds.EntityKind.{EntityKind}
+use Rattle.pc_tree.specs.declared.kinds.EntityKind.TheVariants as kind
+use Rattle.pc_tree.specs.declared.kinds.MethodWord.{MethodWord}
+use Rattle.pc_tree.specs.declared.kinds.MethodWord.TheVariants as word
+use Rattle.pc_tree.specs.Tree as t
+
+-- A trait or an interface: it only says which methods others have, and no object is of it.
+abbrev pub is_abstract : EntityKind → Bool
+is_abstract kind.Class = false
+is_abstract kind.Actor = false
+is_abstract kind.Primitive = false
+is_abstract kind.Trait = true
+is_abstract kind.Interface = true
+
+-- A capability may be written behind the word of the entity.
+abbrev pub may_have_cap : EntityKind → Bool
+may_have_cap kind.Class = true
+may_have_cap kind.Actor = false
+may_have_cap kind.Primitive = false
+may_have_cap kind.Trait = true
+may_have_cap kind.Interface = true
+
+abbrev pub may_have_fields : EntityKind → Bool
+may_have_fields kind.Class = true
+may_have_fields kind.Actor = true
+may_have_fields kind.Primitive = false
+may_have_fields kind.Trait = false
+may_have_fields kind.Interface = false
+
+-- Behaviours stand in actors, traits and interfaces, and constructors in classes and actors.
+abbrev pub may_stand : EntityKind → MethodWord → Bool
+may_stand e word.Fun = true
+may_stand kind.Class word.Be = false
+may_stand kind.Actor word.Be = true
+may_stand kind.Primitive word.Be = false
+may_stand kind.Trait word.Be = true
+may_stand kind.Interface word.Be = true
+may_stand kind.Class word.New = true
+may_stand kind.Actor word.New = true
+may_stand kind.Primitive word.New = false
+may_stand kind.Trait word.New = false
+may_stand kind.Interface word.New = false
+
+-- A capability may be written behind the word of the method.
+abbrev pub may_have_method_cap : EntityKind → MethodWord → Bool
+may_have_method_cap e word.Fun = true
+may_have_method_cap e word.Be = false
+may_have_method_cap kind.Class word.New = true
+may_have_method_cap kind.Actor word.New = false
+may_have_method_cap kind.Primitive word.New = false
+may_have_method_cap kind.Trait word.New = false
+may_have_method_cap kind.Interface word.New = false
+
+-- ---- the same of the parts of a tree
+
+-- The capability is written only where one may be.
+abbrev pub CapIf : Bool → Option Cap → Type 0
+CapIf true c = Unit {0}
+CapIf false c = c ≡ None
+
+abbrev pub FieldsIf : Bool → List t.Field → Type 0
+FieldsIf true fs = Unit {0}
+FieldsIf false fs = fs ≡ []
+
+abbrev pub MayHaveFields : EntityKind → List t.Field → Type 0
+MayHaveFields e fs = FieldsIf (may_have_fields e) fs
+
+-- There is no body in a trait or an interface, and one elsewhere.
+abbrev pub BodyUnless : Bool → Option t.Seq → Type 0
+BodyUnless true b = b ≡ None
+BodyUnless false None = ⊥
+BodyUnless false (Some b) = Unit {0}
+
+abbrev pub HasBody : EntityKind → Option t.Seq → Type 0
+HasBody e b = BodyUnless (is_abstract e) b
