@@ -1,15 +1,15 @@
 -- The first member of each name, part by part.
-use Rattle.std.proofs.Common.{◌≡◌, List, [], ◌∷◌, ◌++◌, Bool, true, false, refl, sym, ap, ◌∙◌, append_assoc, ℕ, zero, suc, ◌+◌, ◌<◌, length, drop, get_or, arith, if◌then◌else◌}
+use Rattle.std.proofs.Common.{◌≡◌, List, [], ◌∷◌, ◌++◌, Bool, true, false, refl, sym, ap, ◌∙◌, append_assoc, ℕ, zero, suc, ◌+◌, length, drop, arith, if◌then◌else◌}
 use Rattle.std.specs.Prelude.{slice_get, Some, None, ◌≤◌}
-use Rattle.std.proofs.Math.Seq.{drop-cons}
 use Rattle.std.proofs.Math.ListN.{drop_of_length-le}
 use Rattle.std.proofs.lemmas.Option.{get_or_from_slice_get, none-some}
-use Rattle.pc_caps.specs.Gets.{get_below}
+use Rattle.pc_lists.proofs.Gets.{get_below}
 use Rattle.pc_tree.specs.declared.names.Name.{Name}
 use Rattle.pc_names.specs.Words.{Text, is_among}
 use Rattle.pc_names.specs.Tables.{find_name, with_names}
-use Rattle.pc_program.specs.Members.{Member, member_text}
+use Rattle.pc_file_spec.specs.Members.{Member, member_text}
 use Rattle.pc_elab.specs.Rounds.{first_members, member_texts, taken, taken_at}
+use Rattle.pc_lists.proofs.Cuts.{item_first}
 
 -- First those of the one list, then those of the other whose names are new.
 pub first_parts : (known : List Text) (xs ys : List Member) → first_members known (xs ++ ys) ≡ first_members known xs ++ first_members (with_names known (member_texts xs)) ys
@@ -33,10 +33,6 @@ taken_turn entities known next table ns rest x whole old new e w n k =
     ∙ sym (append_assoc old (first_members known here) (first_members (with_names known (member_texts here)) more))
     ∙ ap (λ ms. ms ++ first_members (with_names known (member_texts here)) more) (sym n)
     ∙ ap (λ ks. new ++ first_members ks more) (sym k)
-
--- The element at a place, and those behind it.
-pub item_first : {T : Type 0} → (xs : List T) (i : ℕ) (x : T) → i < length xs → x ≡ get_or xs i x → drop i xs ≡ x ∷ drop (i + 1) xs
-item_first xs i x l is = drop-cons xs i x l ∙ ap (λ y. y ∷ drop (suc i) xs) (sym is) ∙ ap (λ k. x ∷ drop k xs) (let e : suc i ≡ i + 1 = omega arith in e)
 
 -- The same where it is read as an option.
 pub get_some : {T : Type 0} → (xs front : List T) (i : ℕ) (x : T) → slice_get xs i ≡ Some x → xs ≡ front ++ drop i xs → xs ≡ (front ++ x ∷ []) ++ drop (i + 1) xs

@@ -2,11 +2,11 @@
 use Rattle.std.proofs.Common.{◌≡◌, ℕ, suc, List, [], ◌∷◌, ◌++◌, map, Ok, Err, Result, refl, sym, ap, ◌∙◌}
 use Rattle.pc_tree.specs.Tree as t
 use Rattle.pc_names.specs.declared.fault.NameFault.{NameFault}
-use Rattle.pc_stands.specs.Scopes.{Context}
-use Rattle.pc_program.specs.Members.{Member, Owned, owned, members, members_from}
-use Rattle.pc_program.specs.Known.{known_of, texts_of}
-use Rattle.pc_program.specs.Signatures.{placed_of, context_of}
-use Rattle.pc_program.specs.Parts.{Parts, if_ok, and_member, and_members}
+use Rattle.pc_body_spec.specs.Scopes.{Context}
+use Rattle.pc_file_spec.specs.Members.{Member, Owned, owned, members, members_from}
+use Rattle.pc_file_spec.specs.Known.{known_of, texts_of}
+use Rattle.pc_file_spec.specs.Signatures.{placed_of, context_of}
+use Rattle.pc_file_spec.specs.Parts.{Parts, if_ok, and_member, and_members}
 use Rattle.pc_elab.specs.Outcomes.{own_members, with_slots, with_members, entity_members, row_members}
 
 -- ---- as the members of the file

@@ -6,16 +6,16 @@ use Rattle.pc_caps.specs.declared.span.Span.{Span}
 use Rattle.pc_tree.specs.declared.names.Name.{Name}
 use Rattle.pc_tree.specs.Tree as t
 use Rattle.pc_core.specs.declared.nodes.Node.{Node}
-use Rattle.pc_stands.specs.Roses.{Rose, Numbered, and_then, put}
-use Rattle.pc_stands.specs.Scopes.{Context}
-use Rattle.pc_stands.specs.Faults.{Fault, unknown, double, long_text}
-use Rattle.pc_stands.specs.Slots.{Local}
-use Rattle.pc_stands.specs.Methods.{in_body, slots_full, nodes_full, Outcome, local_names, unless_fault, unless_name, numbered, put_body}
-use Rattle.pc_body.specs.declared.fault.BodyFault.{BodyFault}
-use Rattle.pc_body.specs.declared.fault.BodyFault.TheVariants as body
-use Rattle.pc_body.specs.Checking.{IsFirst}
-use Rattle.pc_nodes.specs.Giving.{put_written}
-use Rattle.pc_program.specs.Members.{Member}
+use Rattle.pc_body_spec.specs.Roses.{Rose, Numbered, and_then, put}
+use Rattle.pc_body_spec.specs.Scopes.{Context}
+use Rattle.pc_body_spec.specs.Faults.{Fault, unknown, double, long_text}
+use Rattle.pc_body_spec.specs.Slots.{Local}
+use Rattle.pc_body_spec.specs.Methods.{in_body, slots_full, nodes_full, Outcome, local_names, unless_fault, unless_name, numbered, put_body}
+use Rattle.pc_resolve.specs.declared.fault.BodyFault.{BodyFault}
+use Rattle.pc_resolve.specs.declared.fault.BodyFault.TheVariants as body
+use Rattle.pc_resolve.specs.Checking.{IsFirst}
+use Rattle.pc_emit.specs.Giving.{put_written}
+use Rattle.pc_file_spec.specs.Members.{Member}
 use Rattle.pc_elab.specs.Outcomes.{Passes, as_name_fault, member_faults, member_params, span_of, extra_slot, before_nodes}
 
 pub no_fault : (c : Context) (e : t.Entity) (x : Member) (locals : List Local) → member_faults c e x ≡ [] → extra_slot x locals ≡ None → (rest : Outcome) → before_nodes c e x locals rest ≡ rest

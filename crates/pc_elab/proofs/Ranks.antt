@@ -1,6 +1,6 @@
 -- A trait has fewer entities above it than one that names it. So traits that are taken by the count of what is above them come
 -- after those that they name.
-use Rattle.std.proofs.Common.{◌≡◌, ℕ, zero, suc, ◌+◌, ◌-◌, ◌<◌, ◌≤◌, List, [], ◌∷◌, ◌++◌, length, map, Option, Some, None, Bool, true, false, cond, refl, sym, ap, ◌∙◌, subst, arith, if◌then◌else◌}
+use Rattle.std.proofs.Common.{◌≡◌, ℕ, zero, suc, ◌+◌, ◌-◌, ◌<◌, ◌≤◌, List, [], ◌∷◌, ◌++◌, length, map, Option, Some, None, Bool, true, false, cond, refl, sym, ap, ◌∙◌, subst, arith, if◌then◌else◌, append-nil}
 use Rattle.std.specs.Prelude.{slice_get, replicate, position}
 use Rattle.std.specs.List.{position_from}
 use Rattle.std.specs.Str.{bytes_eq}
@@ -9,23 +9,25 @@ use Rattle.std.proofs.lemmas.List.{map-append}
 use Rattle.std.proofs.lemmas.List.Quantifiers.{position-Some}
 use Rattle.std.proofs.lemmas.Iterator.Adapters.{position_from-zero}
 use Rattle.indexmap.proofs.IndexTableLemmas.Probe.{pigeonhole}
-use Rattle.pc_caps.specs.Gets.{get_below, get_within}
+use Rattle.pc_lists.proofs.Gets.{get_below, get_within, get_append, get_map, map_get}
 use Rattle.pc_tree.specs.declared.names.Name.{Name}
+use Rattle.pc_tree.specs.declared.kinds.MethodWord.TheVariants as word
+use Rattle.pc_tree.specs.Kinds.{is_abstract, may_stand}
 use Rattle.pc_tree.specs.Tree as t
-use Rattle.pc_core.specs.Words.{Has, Differ, Ascends}
-use Rattle.pc_core.specs.Growing.{get_append}
-use Rattle.pc_core.specs.Runs.{get_map, map_get}
-use Rattle.pc_names.specs.Words.{Text, is_among, is_trait, built_in_names, texts_of, entity_names, has_added, has_constructor, may_be_created}
+use Rattle.pc_tree.proofs.KindFacts.{no_new}
+use Rattle.pc_lists.specs.Places.{Has, Differ, Ascends}
+use Rattle.pc_names.specs.Words.{Text, is_among, built_in_names, texts_of, entity_names, has_added, has_constructor}
 use Rattle.pc_names.specs.Reach.{or_nil}
 use Rattle.pc_names.specs.Tables.{find_name}
 use Rattle.pc_names.specs.Chains.{first_own, entity_at, Names, Leads, one, more, InCycle, IsAbove, Closes}
-use Rattle.pc_names.proofs.Differences.{same_text, true_false}
+use Rattle.pc_names.proofs.Differences.{same_text}
+use Rattle.pc_lists.proofs.Bools.{true_false}
 use Rattle.pc_names.proofs.Closings.{nobody, no_entity}
-use Rattle.pc_program.specs.Members.{Member, written, firsts, entity_named, of_entity, of_each, trait_methods, added_if, members}
-use Rattle.pc_program.proofs.Tables.{equal_texts, has_on}
-use Rattle.pc_program.proofs.Steps.{append_none}
-use Rattle.pc_program.proofs.Collects.{Collects}
-use Rattle.pc_program.proofs.Origins.{named_is, one_entity, is_trait_named, trait_is}
+use Rattle.pc_file_spec.specs.Members.{Member, written, firsts, entity_named, of_entity, of_each, trait_methods, added_if, members}
+use Rattle.pc_file_spec.proofs.Tables.{equal_texts}
+use Rattle.pc_lists.proofs.Elements.{has_on}
+use Rattle.pc_file_spec.proofs.Collects.{Collects}
+use Rattle.pc_file_spec.proofs.Origins.{named_is, one_entity, is_trait_named}
 use Rattle.pc_elab.specs.Rounds.{first_members, taken, taken_at, or_none, inherited, rank}
 
 -- ---- lists without equal elements
@@ -134,7 +136,7 @@ record Target (file : t.File) (n : Name) : Type 0 where
   place : ℕ
   entity : t.Entity
   is_entity : slice_get file.entities place ≡ Some entity
-  trait : is_trait entity.kind ≡ true
+  trait : is_abstract entity.kind ≡ true
   number : find_name (entity_names file) n.text ≡ Some (first_own + place)
   named : entity_named file.entities n.text ≡ Some entity
 
@@ -173,10 +175,10 @@ module _ (file : t.File) (above : List (List ℕ)) (c : Collects file above) (cl
       let g = get_within above (first_own + i) (omega (arith, l, n)) in
       record { list = g.0; is_list = ap or_nil g.1; is_above = closed.1 (first_own + i) g.0 g.1 }
 
-  with_itself : (i : ℕ) (e : t.Entity) (q : Listed i) → slice_get file.entities i ≡ Some e → is_trait e.kind ≡ true → Differ ((first_own + i) ∷ q.list)
+  with_itself : (i : ℕ) (e : t.Entity) (q : Listed i) → slice_get file.entities i ≡ Some e → is_abstract e.kind ≡ true → Differ ((first_own + i) ∷ q.list)
   with_itself i e q h is = with_one (first_own + i) q.list (ascends_differ q.list q.is_above.0) (λ b. acyclic (first_own + i) (e, number_at file i e h, is, (q.is_above.1 (first_own + i)).0 b))
 
-  rank_less : (i j : ℕ) (e f : t.Entity) → slice_get file.entities i ≡ Some e → slice_get file.entities j ≡ Some f → is_trait f.kind ≡ true → Names file (first_own + i) (first_own + j) → rank above j < rank above i
+  rank_less : (i j : ℕ) (e f : t.Entity) → slice_get file.entities i ≡ Some e → slice_get file.entities j ≡ Some f → is_abstract f.kind ≡ true → Names file (first_own + i) (first_own + j) → rank above j < rank above i
   rank_less i j e f he hf is n =
       let p = listed i (get_below file.entities i e he) in
       let q = listed j (get_below file.entities j f hf) in
@@ -186,7 +188,7 @@ module _ (file : t.File) (above : List (List ℕ)) (c : Collects file above) (cl
       let y = ap length q.is_list in
       omega (arith, l, x, y)
 
-  pub rank_few : (i : ℕ) (e : t.Entity) → slice_get file.entities i ≡ Some e → is_trait e.kind ≡ true → rank above i < length file.entities
+  pub rank_few : (i : ℕ) (e : t.Entity) → slice_get file.entities i ≡ Some e → is_abstract e.kind ≡ true → rank above i < length file.entities
   rank_few i e h is =
       let k = get_below file.entities i e h in
       let q = listed i k in
@@ -219,17 +221,16 @@ module _ (file : t.File) (above : List (List ℕ)) (c : Collects file above) (cl
 
   -- ---- the members of a trait
 
-  members_trait : (e : t.Entity) → is_trait e.kind ≡ true → members file.entities e ≡ map written (trait_methods (length file.entities) file.entities e)
+  members_trait : (e : t.Entity) → is_abstract e.kind ≡ true → members file.entities e ≡ map written (trait_methods (length file.entities) file.entities e)
   members_trait e is =
-      let k = trait_is e.kind is in
       let no : has_added e ≡ false = by (has_constructor e) ∙ refl in
       ap (λ b. map written (if b then trait_methods (length file.entities) file.entities e else e.methods) ++ added_if (has_added e)) is
       ∙ ap (λ b. map written (trait_methods (length file.entities) file.entities e) ++ added_if b) no
-      ∙ append_none (map written (trait_methods (length file.entities) file.entities e))
+      ∙ append-nil (map written (trait_methods (length file.entities) file.entities e))
     where
-      by : (b : Bool) → (if b then false else may_be_created e.kind) ≡ false
+      by : (b : Bool) → (if b then false else may_stand e.kind word.New) ≡ false
       by true = refl
-      by false = ap may_be_created (trait_is e.kind is)
+      by false = no_new e.kind is
 
   first_written : (known : List Text) (ms : List t.Method) → first_members known (map written ms) ≡ map written (firsts known ms)
   first_written known [] = refl
@@ -254,7 +255,7 @@ module _ (file : t.File) (above : List (List ℕ)) (c : Collects file above) (cl
       rw (here, taken_all table ns (λ m k. h m (has_on n ns m k))) (sym (map-append written (of_entity (trait_methods (length file.entities) file.entities) (entity_named file.entities n.text)) (of_each (trait_methods (length file.entities) file.entities) file.entities ns)))
 
   -- A trait's members, of a table that has those of the traits with fewer entities above them.
-  pub gathered : (table : List (List Member)) (i : ℕ) (e : t.Entity) → slice_get file.entities i ≡ Some e → is_trait e.kind ≡ true → ((j : ℕ) (f : t.Entity) → slice_get file.entities j ≡ Some f → is_trait f.kind ≡ true → rank above j < rank above i → IsKnown table j f) → inherited (entity_names file) table e ≡ members file.entities e
+  pub gathered : (table : List (List Member)) (i : ℕ) (e : t.Entity) → slice_get file.entities i ≡ Some e → is_abstract e.kind ≡ true → ((j : ℕ) (f : t.Entity) → slice_get file.entities j ≡ Some f → is_abstract f.kind ≡ true → rank above j < rank above i → IsKnown table j f) → inherited (entity_names file) table e ≡ members file.entities e
   gathered table i e h is known =
       let all : taken (entity_names file) table e.provides ≡ map written (of_each (trait_methods (length file.entities) file.entities) file.entities e.provides) =
       taken_all table e.provides (λ n hn. let q = target e n (i, h) hn in (q, known q.place q.entity q.is_entity q.trait (rank_less i q.place e q.entity h q.is_entity q.trait (named_by i e n q h hn)))) in

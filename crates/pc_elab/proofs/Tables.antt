@@ -3,15 +3,16 @@ use Rattle.std.proofs.Common.{◌≡◌, ◌≢◌, ℕ, suc, ◌+◌, ◌<◌, 
 use Rattle.std.specs.Prelude.{slice_get, slice_set}
 use Rattle.std.proofs.lemmas.Option.{same_Some, none-some}
 use Rattle.std.proofs.lemmas.List.{length-map, length-set}
-use Rattle.pc_caps.specs.Gets.{get_below, get_set_same, get_set_other}
+use Rattle.pc_lists.proofs.Gets.{get_below, get_set_same, get_set_other, get_map, map_get}
+use Rattle.pc_tree.specs.Kinds.{is_abstract}
 use Rattle.pc_tree.specs.Tree as t
-use Rattle.pc_core.specs.Runs.{get_map, map_get}
-use Rattle.pc_names.specs.Words.{is_trait, has_added}
+use Rattle.pc_names.specs.Words.{has_added}
 use Rattle.pc_names.specs.Chains.{first_own, InCycle}
 use Rattle.pc_names.specs.Names.{NamesData, Collected}
 use Rattle.pc_names.proofs.CycleFirsts.{no_cycle}
-use Rattle.pc_program.specs.Members.{Member, written, added_if, members, trait_methods}
-use Rattle.pc_program.proofs.Collects.{nil_left, nil_right, collects}
+use Rattle.pc_file_spec.specs.Members.{Member, written, added_if, members, trait_methods}
+use Rattle.pc_file_spec.proofs.Collects.{collects}
+use Rattle.pc_lists.proofs.Cuts.{nil_left, nil_right}
 use Rattle.pc_elab.specs.Rounds.{inherited, own_members, rank, Knows, IsReached}
 use Rattle.pc_elab.proofs.Ranks.{gathered, rank_few}
 
@@ -35,18 +36,18 @@ few_places file names i c l = let f = (collects file names c).few in omega (arit
 -- ---- places
 
 -- An entity that is no trait has the members that are written in it.
-own_all : (file : t.File) (e : t.Entity) → is_trait e.kind ≡ false → own_members e ≡ members file.entities e
+own_all : (file : t.File) (e : t.Entity) → is_abstract e.kind ≡ false → own_members e ≡ members file.entities e
 own_all file e h = ap (λ b. map written (if b then trait_methods (length file.entities) file.entities e else e.methods) ++ added_if (has_added e)) (sym h)
 
 pub knows_own : (file : t.File) (above : List (List ℕ)) (table : List (List Member)) → table ≡ map own_members file.entities → Knows file above 0 0 table
 knows_own file above table same =
-    record { count = ap length same ∙ length-map file.entities own_members; known = λ j e h r. by j e (is_trait e.kind) refl h r }
+    record { count = ap length same ∙ length-map file.entities own_members; known = λ j e h r. by j e (is_abstract e.kind) refl h r }
   where
     none : (j : ℕ) → IsReached above 0 0 j → ⊥
     none j (inl l) = no_less _ l
     none j (inr p) = no_less _ p.1
 
-    by : (j : ℕ) (e : t.Entity) (b : Bool) → is_trait e.kind ≡ b → slice_get file.entities j ≡ Some e → (b ≡ true → IsReached above 0 0 j) → slice_get table j ≡ Some (members file.entities e)
+    by : (j : ℕ) (e : t.Entity) (b : Bool) → is_abstract e.kind ≡ b → slice_get file.entities j ≡ Some e → (b ≡ true → IsReached above 0 0 j) → slice_get table j ≡ Some (members file.entities e)
     by j e true i h r = absurd (none j (r refl))
     by j e false i h r = ap (λ t. slice_get t j) same ∙ get_map own_members file.entities j e h ∙ ap (λ x. Some x) (own_all file e i)
 
@@ -61,13 +62,13 @@ one_place {T} above r i j (inr p) f g = by (nat_eq j i) refl
 
 -- Here stands no trait with so many entities above it.
 abbrev pub NotHere : t.File → List (List ℕ) → ℕ → ℕ → Type 0
-NotHere file above r i = (e : t.Entity) → slice_get file.entities i ≡ Some e → is_trait e.kind ≡ true → rank above i ≡ r → ⊥
+NotHere file above r i = (e : t.Entity) → slice_get file.entities i ≡ Some e → is_abstract e.kind ≡ true → rank above i ≡ r → ⊥
 
 pub reach_kept : (file : t.File) (above : List (List ℕ)) (r i : ℕ) (table : List (List Member)) → NotHere file above r i → Knows file above r i table → Knows file above r (i + 1) table
 reach_kept file above r i table other k =
     record { count = k.count; known = λ j f h q. k.known j f h (λ is. one_place above r i j (q is) (λ e g. absurd (other f (ap (slice_get file.entities) (sym e) ∙ h) is (ap (rank above) (sym e) ∙ g))) (λ x. x)) }
 
-pub reach_new : (file : t.File) (names : NamesData) (r i : ℕ) (e : t.Entity) (ms : List Member) (table next : List (List Member)) → Collected file names → slice_get file.entities i ≡ Some e → is_trait e.kind ≡ true → rank names.above i ≡ r
+pub reach_new : (file : t.File) (names : NamesData) (r i : ℕ) (e : t.Entity) (ms : List Member) (table next : List (List Member)) → Collected file names → slice_get file.entities i ≡ Some e → is_abstract e.kind ≡ true → rank names.above i ≡ r
     → Knows file names.above r i table → ms ≡ inherited names.entities table e → next ≡ slice_set table i ms → Knows file names.above r (i + 1) next
 reach_new file names r i e ms table next c h is g k same new =
     let all : ms ≡ members file.entities e =
@@ -75,7 +76,7 @@ reach_new file names r i e ms table next c h is g k same new =
     let within : i < length table = let l = get_below file.entities i e h in let n = k.count in omega (arith, l, n) in
     record { count = ap length new ∙ length-set table i ms ∙ k.count; known = λ j f hf q. ap (λ t. slice_get t j) new ∙ by all within j f hf q (nat_eq j i) refl }
   where
-    by : ms ≡ members file.entities e → i < length table → (j : ℕ) (f : t.Entity) → slice_get file.entities j ≡ Some f → (is_trait f.kind ≡ true → IsReached names.above r (i + 1) j) → (b : Bool) → nat_eq j i ≡ b → slice_get (slice_set table i ms) j ≡ Some (members file.entities f)
+    by : ms ≡ members file.entities e → i < length table → (j : ℕ) (f : t.Entity) → slice_get file.entities j ≡ Some f → (is_abstract f.kind ≡ true → IsReached names.above r (i + 1) j) → (b : Bool) → nat_eq j i ≡ b → slice_get (slice_set table i ms) j ≡ Some (members file.entities f)
     by all within j f hf q true d =
         let here : j ≡ i = search (arith, d) in
         let one : e ≡ f = same_Some e f (sym h ∙ ap (slice_get file.entities) (sym here) ∙ hf) in

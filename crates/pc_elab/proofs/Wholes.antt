@@ -1,5 +1,5 @@
 -- The whole of a file.
-use Rattle.std.proofs.Common.{◌≡◌, ℕ, zero, suc, ◌+◌, ◌<◌, ◌^◌, List, [], ◌∷◌, ◌++◌, map, length, Option, Some, None, Ok, Err, Result, refl, sym, ap, ◌∙◌, subst, arith}
+use Rattle.std.proofs.Common.{◌≡◌, ℕ, zero, suc, ◌+◌, ◌<◌, ◌^◌, List, [], ◌∷◌, ◌++◌, map, length, Some, Ok, Err, Result, refl, sym, ap, ◌∙◌, subst, arith}
 use Rattle.std.specs.Prelude.{slice_get}
 use Rattle.std.proofs.lemmas.List.{length-map}
 use Rattle.std.proofs.lemmas.Option.{same_Some, none-some}
@@ -9,9 +9,6 @@ use Rattle.pc_tree.specs.Tree as t
 use Rattle.pc_token.specs.declared.kinds.Token.{Token}
 use Rattle.pc_grammar.specs.SpellsFile as s
 use Rattle.pc_tree.specs.declared.kinds.EntityKind.{EntityKind}
-use Rattle.pc_tree.specs.declared.kinds.EntityKind.TheVariants as kind
-use Rattle.pc_tree.specs.declared.kinds.MethodWord.{MethodWord}
-use Rattle.pc_tree.specs.declared.kinds.MethodWord.TheVariants as word
 use Rattle.pc_core.specs.declared.declarations.EntityDef.{EntityDef}
 use Rattle.pc_core.specs.Formed.{Formed}
 use Rattle.pc_core.specs.CoreData.{CoreData}
@@ -20,16 +17,16 @@ use Rattle.pc_names.specs.declared.fault.NameFault.TheVariants as fault
 use Rattle.pc_names.specs.Chains.{first_own}
 use Rattle.pc_names.specs.Names.{NamesData, Collected}
 use Rattle.pc_order.specs.Laws.{BodiesAscend}
-use Rattle.pc_stands.specs.Scopes.{Context}
-use Rattle.pc_program.specs.Members.{Member, members, members_from}
-use Rattle.pc_program.specs.Known.{known_of, known_from, texts_of, built_in_known}
-use Rattle.pc_program.specs.Order as o
-use Rattle.pc_program.specs.Cores.{built_ins, entities_from, core_with, core_of, Stands}
-use Rattle.pc_program.specs.Laws.{StandsIsFormed}
-use Rattle.pc_program.specs.Parts.{Parts, parts_of, and_members, if_ok, built_in_parts}
-use Rattle.pc_program.proofs.Collects.{collects}
-use Rattle.pc_program.proofs.Steps.{same_ok}
-use Rattle.pc_program.proofs.Owners.{known_count}
+use Rattle.pc_body_spec.specs.Scopes.{Context}
+use Rattle.pc_file_spec.specs.Members.{Member, members, members_from}
+use Rattle.pc_file_spec.specs.Known.{known_of, known_from, texts_of, built_in_known}
+use Rattle.pc_file_spec.specs.Order as o
+use Rattle.pc_file_spec.specs.Cores.{built_ins, entities_from, core_with, core_of, Stands}
+use Rattle.pc_file_spec.specs.Laws.{StandsIsFormed}
+use Rattle.pc_file_spec.specs.Parts.{Parts, parts_of, and_members, if_ok, built_in_parts}
+use Rattle.pc_file_spec.proofs.Collects.{collects}
+use Rattle.pc_file_spec.proofs.Steps.{same_ok}
+use Rattle.pc_file_spec.proofs.Owners.{known_count}
 use Rattle.pc_elab.specs.Cores.{Makes, Spelled, made_view}
 use Rattle.pc_elab.specs.declared.elaborating.Made.{Made}
 use Rattle.pc_elab.specs.declared.member.Member.{Member as CodeMember}
@@ -61,35 +58,6 @@ few_known file names c = let f = (collects file names c).few in let n = known_co
 pub in_order : (file : t.File) → BodiesAscend → Spelled file → o.InOrder file
 in_order file law h e he = let r = law file h.0 h.1 h.2 he.0 e he.1 in (r.0, λ m hm. r.1 hm.0 m hm.1)
 
-stands : (k : EntityKind) (w : MethodWord) → s.may_stand k w ≡ o.may_stand k w
-stands kind.Class word.Fun = refl
-stands kind.Class word.Be = refl
-stands kind.Class word.New = refl
-stands kind.Actor word.Fun = refl
-stands kind.Actor word.Be = refl
-stands kind.Actor word.New = refl
-stands kind.Trait word.Fun = refl
-stands kind.Trait word.Be = refl
-stands kind.Trait word.New = refl
-stands kind.Primitive word.Fun = refl
-stands kind.Primitive word.Be = refl
-stands kind.Primitive word.New = refl
-
-fields_place : (k : EntityKind) (fs : List t.Field) → s.MayHaveFields k fs → o.MayHaveFields k fs
-fields_place kind.Class fs h = h
-fields_place kind.Actor fs h = h
-fields_place kind.Primitive fs h = h
-fields_place kind.Trait fs h = h
-
-body_place : (k : EntityKind) (b : Option t.Seq) → s.HasBody k b → o.HasBody k b
-body_place kind.Class None h = h
-body_place kind.Class (Some b) h = h
-body_place kind.Actor None h = h
-body_place kind.Actor (Some b) h = h
-body_place kind.Primitive None h = h
-body_place kind.Primitive (Some b) h = h
-body_place kind.Trait b h = h
-
 more_entities : (es : List t.Entity) (ts : List Token) (i : ℕ) (e : t.Entity) → s.SpellsMoreEntities es ts → slice_get es i ≡ Some e → (us : List Token) × s.SpellsEntity e us
 more_entities [] ts i e h g = absurd (none-some e g)
 more_entities (x ∷ es) ts zero e h g = (h.0, subst (λ y. s.SpellsEntity y h.0) (same_Some x e g) h.3)
@@ -110,7 +78,7 @@ pub in_place : (file : t.File) → Spelled file → o.InPlace file
 in_place file h e he =
     let r = all_entities file.entities h.1.1 he.0 e h.1.5 he.1 in
     let q = r.1 in
-    (fields_place e.kind e.fields q.16, λ m hm. let u = (all_methods e.kind e.methods q.6 hm.0 m q.14 hm.1).1 in (sym (stands e.kind m.word) ∙ u.15, body_place e.kind m.body u.18))
+    (q.16, λ m hm. let u = (all_methods e.kind e.methods q.6 hm.0 m q.14 hm.1).1 in (u.15, u.18))
 
 -- ---- as the code has them
 

@@ -6,10 +6,10 @@ use Rattle.pc_grammar.specs.SpellsFile.{SpellsFile}
 use Rattle.pc_order.specs.Laws.{starts}
 use Rattle.pc_core.specs.CoreData.{CoreData}
 use Rattle.pc_core.specs.Formed.{Formed}
-use Rattle.pc_core.specs.Words.{Ascends}
+use Rattle.pc_lists.specs.Places.{Ascends}
 use Rattle.pc_names.specs.declared.fault.NameFault.{NameFault}
 use Rattle.pc_names.specs.declared.fault.NameFault.TheVariants as fault
-use Rattle.pc_program.specs.Cores.{Stands, IsElabFault}
+use Rattle.pc_file_spec.specs.Cores.{Stands, IsElabFault}
 use Rattle.pc_elab.specs.declared.elaborating.Made.{Made}
 
 -- Some tokens in the order of a text spell the file.

@@ -7,18 +7,18 @@ use Rattle.pc_core.specs.declared.nodes.Node.{Node}
 use Rattle.pc_names.specs.declared.fault.NameFault.{NameFault}
 use Rattle.pc_names.specs.declared.fault.NameFault.TheVariants as fault
 use Rattle.pc_names.specs.declared.fault.Which.TheVariants as which
-use Rattle.pc_body.specs.declared.fault.BodyFault.{BodyFault}
-use Rattle.pc_body.specs.declared.fault.BodyFault.TheVariants as body
+use Rattle.pc_resolve.specs.declared.fault.BodyFault.{BodyFault}
+use Rattle.pc_resolve.specs.declared.fault.BodyFault.TheVariants as body
 use Rattle.pc_names.specs.Faults.{field_texts}
-use Rattle.pc_stands.specs.Roses.{Rose}
-use Rattle.pc_stands.specs.Scopes.{Context, Placed}
-use Rattle.pc_stands.specs.Bodies.{body_of, added_body}
-use Rattle.pc_stands.specs.Faults.{Fault, body_faults, initial_faults}
-use Rattle.pc_stands.specs.Slots.{Local}
-use Rattle.pc_stands.specs.Methods.{MethodFault, Outcome, param_names, local_names, unless_fault, unless_full, put_body}
-use Rattle.pc_program.specs.Members.{Member, written, added, Owned, owned, member_span, member_text}
-use Rattle.pc_program.specs.Signatures.{placed_of, slots_from, declared}
-use Rattle.pc_program.specs.Parts.{Parts, name_fault, if_ok, and_member}
+use Rattle.pc_body_spec.specs.Roses.{Rose}
+use Rattle.pc_body_spec.specs.Scopes.{Context, Placed}
+use Rattle.pc_body_spec.specs.Bodies.{body_of, added_body}
+use Rattle.pc_body_spec.specs.Faults.{Fault, body_faults, initial_faults}
+use Rattle.pc_body_spec.specs.Slots.{Local}
+use Rattle.pc_body_spec.specs.Methods.{MethodFault, Outcome, param_names, local_names, unless_fault, unless_full, put_body}
+use Rattle.pc_file_spec.specs.Members.{Member, written, added, Owned, owned, member_span, member_text}
+use Rattle.pc_file_spec.specs.Signatures.{placed_of, slots_from, declared}
+use Rattle.pc_file_spec.specs.Parts.{Parts, name_fault, if_ok, and_member}
 
 -- What the fault of a body is among those of a file's names.
 abbrev pub as_name_fault : BodyFault → NameFault

@@ -1,12 +1,13 @@
--- What a trait has of its own, and of the traits that it names where these are known.
+-- What a trait or an interface has of its own, and of what it names where this is known.
 use Rattle.std.specs.Prelude.{◌≡◌, ◌⊎◌, ◌<◌, true, ℕ, ◌-◌, ◌+◌, List, [], ◌∷◌, ◌++◌, map, length, Option, Some, None, slice_get, if◌then◌else◌}
 use Rattle.pc_tree.specs.declared.names.Name.{Name}
+use Rattle.pc_tree.specs.Kinds.{is_abstract}
 use Rattle.pc_tree.specs.Tree as t
-use Rattle.pc_names.specs.Words.{Text, is_among, is_trait, has_added}
+use Rattle.pc_names.specs.Words.{Text, is_among, has_added}
 use Rattle.pc_names.specs.Tables.{find_name}
 use Rattle.pc_names.specs.Chains.{first_own}
 use Rattle.pc_names.specs.Reach.{or_nil}
-use Rattle.pc_program.specs.Members.{Member, member_text, written, added_if, members}
+use Rattle.pc_file_spec.specs.Members.{Member, member_text, written, added_if, members}
 
 -- Of members of one name, the first. Those whose names are known are none of them.
 abbrev pub first_members : List Text → List Member → List Member
@@ -37,15 +38,15 @@ inherited entities table e = first_members [] (map written e.methods ++ taken en
 abbrev pub rank : List (List ℕ) → ℕ → ℕ
 rank above i = length (or_nil (slice_get above (first_own + i)))
 
--- What is written in an entity, and its added `create`: all members of an entity that is no trait.
+-- What is written in an entity, and its added `create`: all members of an entity that is no trait or interface.
 abbrev pub own_members : t.Entity → List Member
 own_members e = map written e.methods ++ added_if (has_added e)
 
--- The table has the members of each entity that is no trait, of each trait with fewer entities above it than this rank, and of
--- each with so many above it that stands before this place.
-abbrev pub IsReached : List (List ℕ) → ℕ → ℕ → ℕ → Type 0
+-- The table has the members of each entity that is no trait or interface, of each of these with fewer entities above it than this
+-- rank, and of each with so many above it that stands before this place.
+abbrev pub IsReached : List (List ℕ) → (bound place entity : ℕ) → Type 0
 IsReached above r i j = (rank above j < r) ⊎ ((rank above j ≡ r) × (j < i))
 
 pub record Knows (file : t.File) (above : List (List ℕ)) (r i : ℕ) (table : List (List Member)) : Type 0 where
   pub count : length table ≡ length file.entities
-  pub known : (j : ℕ) (e : t.Entity) → slice_get file.entities j ≡ Some e → (is_trait e.kind ≡ true → IsReached above r i j) → slice_get table j ≡ Some (members file.entities e)
+  pub known : (j : ℕ) (e : t.Entity) → slice_get file.entities j ≡ Some e → (is_abstract e.kind ≡ true → IsReached above r i j) → slice_get table j ≡ Some (members file.entities e)

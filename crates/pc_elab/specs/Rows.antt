@@ -5,10 +5,10 @@ use Rattle.pc_core.specs.declared.declarations.EntityDef.{EntityDef}
 use Rattle.pc_names.specs.Names.{NamesData}
 use Rattle.pc_names.specs.Chains.{numbers_of}
 use Rattle.pc_names.specs.Reach.{or_nil}
-use Rattle.pc_stands.specs.Scopes.{Known, Context}
-use Rattle.pc_program.specs.Members.{Member}
-use Rattle.pc_program.specs.Known.{default_cap, constructors_from}
-use Rattle.pc_program.specs.Cores.{field_of}
+use Rattle.pc_body_spec.specs.Scopes.{Known, Context}
+use Rattle.pc_file_spec.specs.Members.{Member}
+use Rattle.pc_file_spec.specs.Known.{default_cap, constructors_from}
+use Rattle.pc_file_spec.specs.Cores.{field_of}
 
 -- What bodies see of an entity with these members, of which the first has this number among the methods.
 abbrev pub known_with : ℕ → t.Entity → List Member → Known

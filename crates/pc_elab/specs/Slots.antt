@@ -4,10 +4,10 @@ use Rattle.pc_core.specs.declared.declarations.ParamInfo.{ParamInfo}
 use Rattle.pc_core.specs.declared.nodes.Slot.{Slot}
 use Rattle.pc_core.specs.declared.nodes.SlotKind.TheVariants as slot
 use Rattle.pc_core.specs.Methods.{param_slot}
-use Rattle.pc_stands.specs.Scopes.{Context}
-use Rattle.pc_stands.specs.Slots.{Local, local_slot}
-use Rattle.pc_program.specs.Members.{Member, written, added}
-use Rattle.pc_program.specs.Signatures.{receiver_of}
+use Rattle.pc_body_spec.specs.Scopes.{Context}
+use Rattle.pc_body_spec.specs.Slots.{Local, local_slot}
+use Rattle.pc_file_spec.specs.Members.{Member, written, added}
+use Rattle.pc_file_spec.specs.Signatures.{receiver_of}
 
 -- The index of the slot of the first local.
 abbrev pub first_local : Member → ℕ

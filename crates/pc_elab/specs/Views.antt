@@ -1,11 +1,11 @@
--- The members of `pc_program` that those of the code are.
+-- The members of `pc_file_spec` that those of the code are.
 use Rattle.std.specs.Prelude.{List, map, Option, Some, None}
 use Rattle.pc_tree.specs.View.{method_view}
 use Rattle.pc_elab.specs.declared.member.Member.{Member}
 use Rattle.pc_elab.specs.declared.member.Member.TheVariants as m
 use Rattle.pc_elab.specs.declared.parts.Parts.{Parts}
-use Rattle.pc_program.specs.Members as spec
-use Rattle.pc_program.specs.Parts as parts
+use Rattle.pc_file_spec.specs.Members as spec
+use Rattle.pc_file_spec.specs.Parts as parts
 
 abbrev pub member_view : Member → spec.Member
 member_view (m.Written method) = spec.written (method_view method.now)

@@ -2,9 +2,9 @@
 ghost use Rattle.std.specs.Prelude.{◌≡◌, ◌<◌, ◌^◌, map, length, IfOk, IfErr};
 ghost use Rattle.pc_tree.specs.View.{file_view};
 ghost use Rattle.pc_names.specs.Names.{Collected};
-ghost use Rattle.pc_program.specs.Cores.{Stands, core_of};
-ghost use Rattle.pc_program.specs.Known.{known_of, texts_of};
-ghost use Rattle.pc_program.specs.Members.{members};
+ghost use Rattle.pc_file_spec.specs.Cores.{Stands, core_of};
+ghost use Rattle.pc_file_spec.specs.Known.{known_of, texts_of};
+ghost use Rattle.pc_file_spec.specs.Members.{members};
 ghost use Rattle.pc_elab.specs.Cores as spec;
 ghost use Rattle.pc_elab.specs.Views.{table_view};
 
@@ -15,12 +15,12 @@ use crate::member::Member;
 use crate::members::add_entities;
 use crate::parts::{Parts, built_in_parts};
 use crate::texts::{list_texts, table_texts};
-use pc_body::Context;
 use pc_caps::List;
 use pc_core::{Core, EntityDef};
+use pc_file_spec::cores_are_formed;
 use pc_names::{NameFault, Names};
 use pc_order::names_are_in_order;
-use pc_program::cores_are_formed;
+use pc_resolve::Context;
 use pc_tree::File;
 use std::alloc::{AllocError, Global};
 

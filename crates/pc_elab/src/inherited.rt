@@ -5,15 +5,14 @@ ghost use Rattle.pc_tree.specs.View.{entity_view, file_view};
 ghost use Rattle.pc_names.specs.Chains.{first_own};
 ghost use Rattle.pc_names.specs.Names.{Collected};
 ghost use Rattle.pc_names.specs.Tables.{find_name, with_names};
-ghost use Rattle.pc_names.specs.Words.{is_trait as is_trait_kind};
-ghost use Rattle.pc_program.specs.Members.{members};
+ghost use Rattle.pc_file_spec.specs.Members.{members};
 ghost use Rattle.pc_elab.specs.Rounds as spec;
 ghost use Rattle.pc_elab.specs.Views.{maybe_members, members_view, table_view};
 
 use crate::member::{Member, add_written, own_members};
 use pc_caps::List;
 use pc_names::{NameTable, Names};
-use pc_tree::{Entity, EntityKind, File, Name};
+use pc_tree::{Entity, File, Name};
 use std::alloc::{AllocError, Global};
 
 /// How many entities are built in.
@@ -109,13 +108,6 @@ fn inherit<'a>(
     Ok(list)
 }
 
-// Whether the entity is a trait.
-fn is_trait(entity: &Entity) -> bool
-    ensures { result ≡ is_trait_kind entity.now.kind }
-{
-    matches!(entity.kind, EntityKind::Trait)
-}
-
 // How many entities are above that at this place of the file.
 fn rank_of(names: &Names, place: usize) -> usize
     requires { first_own + place < 2 ^ 32 }
@@ -127,7 +119,7 @@ fn rank_of(names: &Names, place: usize) -> usize
     }
 }
 
-// The table with the members of each entity that is no trait; traits have only what is written in them.
+// The table with the members of each entity that is no trait or interface; these have only what is written in them.
 fn list_own<'a>(alloc: Global, entities: &'a [Entity]) -> Result<List<List<Member<'a>>>, AllocError>
     ensures { IfOk result (λ l. table_view l ≡ map spec.own_members (map entity_view entities.now)) }
 {
@@ -138,7 +130,7 @@ fn list_own<'a>(alloc: Global, entities: &'a [Entity]) -> Result<List<List<Membe
     Ok(table)
 }
 
-// Where the entity at this place is a trait with so many entities above it, the table gets its members.
+// Where the entity at this place is a trait or an interface with so many entities above it, the table gets its members.
 fn reach_place<'a>(
     alloc: Global,
     file: &'a File,
@@ -155,14 +147,14 @@ fn reach_place<'a>(
     let Some(entity) = file.entities.get(place) else {
         return Ok(());
     };
-    if is_trait(entity) && rank_of(names, place) == rank {
+    if entity.kind.is_abstract() && rank_of(names, place) == rank {
         let members = inherit(alloc, names, table.as_slice(), entity)?;
         table.replace(place, members);
     }
     Ok(())
 }
 
-// The table gets the members of the traits with so many entities above them.
+// The table gets the members of the traits and interfaces with so many entities above them.
 fn reach_rank<'a>(
     alloc: Global,
     file: &'a File,

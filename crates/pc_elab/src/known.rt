@@ -1,14 +1,14 @@
 //! What the bodies of a file see of its entities.
 ghost use Rattle.std.specs.Prelude.{◌≡◌, ◌++◌, ◌∷◌, [], ◌+◌, ◌<◌, ◌^◌, map, length, IfOk, codes};
 ghost use Rattle.pc_tree.specs.View.{entity_view};
-ghost use Rattle.pc_program.specs.Known as spec;
-ghost use Rattle.pc_stands.specs.Slots.{cap_or as either_cap};
+ghost use Rattle.pc_file_spec.specs.Known as spec;
+ghost use Rattle.pc_body_spec.specs.Slots.{cap_or as either_cap};
 ghost use Rattle.pc_elab.specs.Rows as rows;
 ghost use Rattle.pc_elab.specs.Views.{members_view, table_view};
 
 use crate::member::Member;
-use pc_body::{Constructor, Known};
 use pc_caps::{Cap, List};
+use pc_resolve::{Constructor, Known};
 use pc_tree::{Entity, EntityKind};
 use std::alloc::{AllocError, Global};
 
@@ -25,12 +25,13 @@ pub(crate) fn cap_or(written: Option<Cap>, other: Cap) -> Cap
     }
 }
 
-/// The capability of an entity's type where none is written: that of its declaration, for classes and traits.
+/// The capability of an entity's type where none is written: that of its declaration, for classes, traits
+/// and interfaces.
 pub(crate) fn default_cap(kind: EntityKind, written: Option<Cap>) -> Cap
     ensures { result ≡ spec.default_cap kind written }
 {
     match kind {
-        EntityKind::Class | EntityKind::Trait => cap_or(written, Cap::Ref),
+        EntityKind::Class | EntityKind::Trait | EntityKind::Interface => cap_or(written, Cap::Ref),
         EntityKind::Actor => Cap::Tag,
         EntityKind::Primitive => Cap::Val,
     }

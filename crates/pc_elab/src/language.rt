@@ -1,7 +1,7 @@
 //! What each program has: the entities of the language.
 ghost use Rattle.std.specs.Prelude.{◌≡◌, ◌∷◌, [], IfOk};
 ghost use Rattle.pc_core.specs.Entities.{built_in, built_in_value, out_field, print_method};
-ghost use Rattle.pc_program.specs.Cores as spec;
+ghost use Rattle.pc_file_spec.specs.Cores as spec;
 
 use pc_caps::{Cap, Form, List, Span};
 use pc_core::{EntityDef, FieldInfo, Method, MethodKind, ParamInfo};

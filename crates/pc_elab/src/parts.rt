@@ -1,12 +1,12 @@
 //! The methods of a program with their slots and nodes, member by member.
 ghost use Rattle.std.specs.Prelude.{◌≡◌, slice_get, IfOk, OnOk};
 ghost use Rattle.pc_tree.specs.View.{entity_view};
-ghost use Rattle.pc_body.specs.Checking.{Tells};
-ghost use Rattle.pc_nodes.specs.Giving.{GivesBody};
-ghost use Rattle.pc_stands.specs.Methods.{local_names};
-ghost use Rattle.pc_program.specs.Members.{owned};
-ghost use Rattle.pc_program.specs.Parts.{and_member, built_in_parts as language_parts};
-ghost use Rattle.pc_program.specs.Signatures as signatures;
+ghost use Rattle.pc_resolve.specs.Checking.{Tells};
+ghost use Rattle.pc_emit.specs.Giving.{GivesBody};
+ghost use Rattle.pc_body_spec.specs.Methods.{local_names};
+ghost use Rattle.pc_file_spec.specs.Members.{owned};
+ghost use Rattle.pc_file_spec.specs.Parts.{and_member, built_in_parts as language_parts};
+ghost use Rattle.pc_file_spec.specs.Signatures as signatures;
 ghost use Rattle.pc_elab.specs.Outcomes as spec;
 ghost use Rattle.pc_elab.specs.Views.{member_view, parts_view};
 
@@ -14,11 +14,11 @@ use crate::language::make_print;
 use crate::member::Member;
 use crate::signature::{kind_of, params_of, receiver_of, result_of};
 use crate::slots::add_slots;
-use pc_body::{BodyFault, Context, Local, check, check_added};
 use pc_caps::{List, Span};
 use pc_core::{Method, Node, Slot};
+use pc_emit::{EmitStop, emit, emit_added};
 use pc_names::{NameFault, Which};
-use pc_nodes::{Stop, emit, emit_added};
+use pc_resolve::{BodyFault, Context, Local, check, check_added};
 use pc_tree::Entity;
 use std::alloc::{AllocError, Global};
 
@@ -105,7 +105,7 @@ fn put_body(
     nodes: &mut List<Node>,
     entity: &Entity,
     member: Member,
-) -> Result<Option<u32>, Stop>
+) -> Result<Option<u32>, EmitStop>
     ensures { GivesBody result nodes.new (spec.member_rose context.now (entity_view entity.now) (member_view member.entry)) method nodes.old }
 {
     let fields = entity.fields.as_slice();
@@ -155,8 +155,8 @@ fn member_outcome(
     check_member(alloc, context, entity, member, locals)?;
     match put_body(alloc, context, method, nodes, entity, member) {
         Ok(body) => Ok(body),
-        Err(Stop::Full) => Err(NameFault::TooMany(Which::Nodes, member.span(entity.name.span))),
-        Err(Stop::Memory) => Err(NameFault::Memory),
+        Err(EmitStop::Full) => Err(NameFault::TooMany(Which::Nodes, member.span(entity.name.span))),
+        Err(EmitStop::Memory) => Err(NameFault::Memory),
     }
 }
 

@@ -1,14 +1,15 @@
 //! What a member declares.
 ghost use Rattle.std.specs.Prelude.{◌≡◌, map, IfOk};
 ghost use Rattle.pc_tree.specs.View.{method_view};
-ghost use Rattle.pc_program.specs.Signatures as spec;
+ghost use Rattle.pc_core.specs.Methods as core_spec;
+ghost use Rattle.pc_file_spec.specs.Signatures as spec;
 ghost use Rattle.pc_elab.specs.Views.{member_view};
 
 use crate::known::cap_or;
 use crate::member::Member;
-use pc_body::Context;
 use pc_caps::{Cap, Form, List, plain, unalias};
 use pc_core::{MethodKind, ParamInfo};
+use pc_resolve::Context;
 use pc_tree::{EntityKind, MethodDef, MethodWord, ParamDef, TypeRef};
 use std::alloc::{AllocError, Global};
 
@@ -65,11 +66,12 @@ pub(crate) fn params_of(
 
 // A constructor of an actor spawns it.
 fn constructor_kind(entity: EntityKind) -> MethodKind
-    ensures { result ≡ spec.constructor_kind entity }
+    ensures { result ≡ core_spec.constructor_kind entity }
 {
     match entity {
         EntityKind::Actor => MethodKind::Spawn,
-        _ => MethodKind::New,
+        EntityKind::Class | EntityKind::Primitive | EntityKind::Trait | EntityKind::Interface =>
+            MethodKind::New,
     }
 }
 
@@ -128,7 +130,10 @@ fn object_of(entity: EntityKind, number: u32, cap: Cap) -> (u32, Form)
 {
     match entity {
         EntityKind::Actor => (number, Form::Tag),
-        _ => (number, unalias(cap)),
+        EntityKind::Class | EntityKind::Primitive | EntityKind::Trait | EntityKind::Interface => (
+            number,
+            unalias(cap),
+        ),
     }
 }
 

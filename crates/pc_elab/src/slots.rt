@@ -3,16 +3,16 @@ ghost use Rattle.std.specs.Prelude.{◌≡◌, ◌++◌, ◌∷◌, [], map, IfO
 ghost use Rattle.std.specs.Option.{option_copied};
 ghost use Rattle.pc_tree.specs.View.{entity_view};
 ghost use Rattle.pc_core.specs.Methods as methods;
-ghost use Rattle.pc_stands.specs.Slots as local_specs;
-ghost use Rattle.pc_program.specs.Signatures as spec;
+ghost use Rattle.pc_body_spec.specs.Slots as local_specs;
+ghost use Rattle.pc_file_spec.specs.Signatures as spec;
 ghost use Rattle.pc_elab.specs.Slots as counts;
 ghost use Rattle.pc_elab.specs.Views.{member_view};
 
 use crate::member::Member;
 use crate::signature::receiver_of;
-use pc_body::{Context, Local, Placed, added_locals, locals, slots};
 use pc_caps::{Cap, List};
 use pc_core::{ParamInfo, Slot, SlotKind};
+use pc_resolve::{Context, Local, Placed, added_locals, locals, slots};
 use pc_tree::{Entity, TypeRef};
 use std::alloc::{AllocError, Global};
 

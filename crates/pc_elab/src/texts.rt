@@ -1,11 +1,11 @@
 //! The texts of a file.
 ghost use Rattle.std.specs.Prelude.{◌≡◌, ◌<◌, ◌^◌, length, IfOk};
 ghost use Rattle.pc_tree.specs.View.{file_view};
-ghost use Rattle.pc_program.specs.Known.{texts_of};
+ghost use Rattle.pc_file_spec.specs.Known.{texts_of};
 
-use pc_body::add_texts;
 use pc_caps::List;
 use pc_names::{NameTable, add_member_texts};
+use pc_resolve::add_texts;
 use pc_tree::File;
 use std::alloc::{AllocError, Global};
 

@@ -1,6 +1,6 @@
 use Rattle.std.proofs.Common.{◌≡◌, ◌++◌, drop, map}
 use Rattle.pc_tree.specs.View.{field_view}
-use Rattle.pc_program.specs.Cores.{field_of}
+use Rattle.pc_file_spec.specs.Cores.{field_of}
 use Rattle.pc_elab.proofs.entities.list_fields.Given as goal
 
 abbrev pub invariant-loop-field : goal.invariant-loop-field

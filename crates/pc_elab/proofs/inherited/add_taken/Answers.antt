@@ -1,6 +1,7 @@
 use Rattle.std.proofs.Common.{◌+◌, drop, arith}
 use Rattle.pc_elab.specs.Views.{members_view, table_view}
-use Rattle.pc_elab.proofs.Firsts.{item_first, taken_turn}
+use Rattle.pc_elab.proofs.Firsts.{taken_turn}
+use Rattle.pc_lists.proofs.Cuts.{item_first}
 use Rattle.pc_elab.proofs.inherited.add_taken.Goals as goal
 
 pub loop-name-preserved : goal.loop-name-preserved

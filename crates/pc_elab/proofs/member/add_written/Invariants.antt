@@ -1,6 +1,6 @@
 use Rattle.std.proofs.Common.{◌≡◌, ◌++◌, map, drop}
 use Rattle.pc_tree.specs.View.{method_view}
-use Rattle.pc_program.specs.Members as spec
+use Rattle.pc_file_spec.specs.Members as spec
 use Rattle.pc_elab.specs.Views.{members_view}
 use Rattle.pc_elab.proofs.member.add_written.Given as goal
 

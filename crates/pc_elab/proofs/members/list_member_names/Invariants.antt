@@ -1,5 +1,5 @@
 use Rattle.std.proofs.Common.{◌≡◌, ◌++◌, drop, map}
-use Rattle.pc_program.specs.Members.{member_text}
+use Rattle.pc_file_spec.specs.Members.{member_text}
 use Rattle.pc_elab.specs.Views.{members_view}
 use Rattle.pc_elab.proofs.members.list_member_names.Given as goal
 

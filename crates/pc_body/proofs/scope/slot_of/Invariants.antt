@@ -1,6 +1,0 @@
-use Rattle.std.proofs.Common.{◌≡◌, drop}
-use Rattle.pc_stands.specs.Scopes as spec
-use Rattle.pc_body.proofs.scope.slot_of.Given as goal
-
-abbrev pub invariant-loop-visible : goal.invariant-loop-visible
-invariant-loop-visible l = spec.slot_of (drop l.visible-index l.scope) l.name ≡ spec.slot_of l.scope l.name

@@ -1,0 +1,16 @@
+-- The small bodies compute.
+use Rattle.std.proofs.Common.{refl}
+use Rattle.pc_body_spec.specs.Roses.{push}
+use Rattle.pc_body_spec.specs.Example.{FirstStands, SecondStands, ThirdStands}
+
+pub first_stands : FirstStands
+unfolding push
+first_stands = (refl, refl, refl, refl)
+
+pub second_stands : SecondStands
+unfolding push
+second_stands = (refl, refl, refl)
+
+pub third_stands : ThirdStands
+unfolding push
+third_stands = (refl, refl, refl, refl)

@@ -1,0 +1,35 @@
+-- How often locals are defined.
+use Rattle.std.specs.Prelude.{ℕ, ◌+◌, Bool, List, [], ◌∷◌, nat_eq, ◌&&◌}
+use Rattle.pc_core.specs.declared.nodes.NodeKind.{NodeKind}
+use Rattle.pc_core.specs.declared.nodes.NodeKind.TheVariants as node
+use Rattle.pc_body_spec.specs.Roses.{Rose, Roses, rose, more, no_roses}
+use Rattle.pc_body_spec.specs.Scopes.{Context, slot_at}
+use Rattle.pc_body_spec.specs.Slots.{Local}
+use Rattle.pc_body_spec.specs.Places.{local_start}
+use Rattle.pc_lists.specs.Counts.{one_if}
+
+-- A kind and depth count where they are those of a definition that passes a test on its slot and depth.
+abbrev pub kind_times : (ℕ → ℕ → Bool) → NodeKind → ℕ → ℕ
+kind_times test (node.Define n) d = one_if (test n d)
+kind_times test k d = 0
+
+-- The number of definitions in a rose that pass the test.
+abbrev mutual
+  pub times : (ℕ → ℕ → Bool) → Rose → ℕ
+  times test (rose k s d rs) = kind_times test k d + times_all test rs
+
+  pub times_all : (ℕ → ℕ → Bool) → Roses → ℕ
+  times_all test no_roses = 0
+  times_all test (more r rs) = times test r + times_all test rs
+
+-- The number of locals whose slot and depth pass it.
+abbrev pub local_times : Context → (ℕ → ℕ → Bool) → List Local → ℕ
+local_times c test [] = 0
+local_times c test (l ∷ ls) = one_if (test (slot_at c.slots (local_start l)) l.depth) + local_times c test ls
+
+-- The tests for a slot, and for a slot at a depth.
+abbrev pub has_slot : (wanted slot depth : ℕ) → Bool
+has_slot slot n d = nat_eq n slot
+
+abbrev pub has_place : (wanted_slot wanted_depth slot depth : ℕ) → Bool
+has_place slot depth n d = nat_eq n slot && nat_eq d depth

@@ -1,0 +1,161 @@
+-- What is true of the definitions.
+use Rattle.std.specs.Prelude.{◌≡◌, ◌⊎◌, ℕ, Bool, ◌+◌, ◌<◌, ◌≤◌, List, [], ◌∷◌, ◌++◌, length, Some, Ok, slice_get}
+use Rattle.pc_core.specs.declared.nodes.Node.{Node}
+use Rattle.pc_lists.specs.Places.{Each, Has, Ascends, IsIn}
+use Rattle.pc_core.specs.Methods.{PostOrder, Uses}
+use Rattle.pc_core.specs.declared.nodes.NodeKind.TheVariants as node
+use Rattle.pc_caps.specs.declared.span.Span.{Span}
+use Rattle.pc_core.specs.Nodes.{HasArity, inner_depth}
+use Rattle.pc_caps.specs.declared.capability.Cap.{Cap}
+use Rattle.pc_tree.specs.declared.names.TypeRef.{TypeRef}
+use Rattle.pc_tree.specs.Tree as t
+use Rattle.pc_body_spec.specs.Roses.{Rose, put, node_limit}
+use Rattle.pc_body_spec.specs.Scopes.{Context, Scope, params_scope, slot_at}
+use Rattle.pc_body_spec.specs.Expressions.{expr_of}
+use Rattle.pc_body_spec.specs.Shapes.{Shaped}
+use Rattle.pc_body_spec.specs.Visibility.{Scoped, slots}
+use Rattle.pc_body_spec.specs.Bodies.{body_of, added_body}
+use Rattle.pc_body_spec.specs.Methods.{slot_names, local_names, method_of, added_of}
+use Rattle.pc_body_spec.specs.Slots.{Local, locals_of, initial_locals, method_locals, slots_of, added_slots, written_of}
+use Rattle.pc_body_spec.specs.Counts.{times, local_times}
+use Rattle.pc_body_spec.specs.Places.{body_places, initial_places, fault_start, local_start}
+use Rattle.pc_body_spec.specs.Faults.{Fault, faults_of, written_faults, body_faults, initial_faults}
+use Rattle.pc_body_spec.specs.Meanings.{Every, Names}
+
+-- What is there when a rose of method m has been put behind some nodes: `own` are its nodes, and n is the last of them.
+pub record WasPut (m n : ℕ) (before after : List Node) : Type 0 where
+  pub own : List Node
+  pub behind : after ≡ before ++ own
+  pub last : length after ≡ n + 1
+  pub few : length after ≤ node_limit
+  pub method : Each (λ i x. x.method ≡ m) own
+  -- Whatever waits for its parent before them still waits behind them, and so does n.
+  pub order : (waiting : List ℕ) → PostOrder (length before) own waiting (waiting ++ n ∷ [])
+
+abbrev pub IsPostOrder : Type 0
+IsPostOrder = (m : ℕ) (r : Rose) (n : ℕ) (before after : List Node) → put m r before ≡ Some (n, after) → WasPut m n before after
+
+abbrev pub IsShaped : Type 0
+IsShaped = (c : Context) (scope : Scope) (d : ℕ) (e : t.Expr) → Shaped d (expr_of c scope d e)
+
+abbrev pub IsScoped : Type 0
+IsScoped = (c : Context) (scope : Scope) (d : ℕ) (e : t.Expr) → Scoped (slots scope) (expr_of c scope d e)
+
+-- Every program has texts, such as the names of the language itself.
+abbrev pub NothingIsMissing : Type 0
+NothingIsMissing = (c : Context) (scope : Scope) (d : ℕ) (e : t.Expr) → 0 < length c.texts → faults_of c scope e ≡ [] → Every (Names c) (expr_of c scope d e)
+
+-- A node of a list has as many children as its kind wants, and each of them stands in the list, as deep as it has to be.
+pub record HasChildren (nodes : List Node) (x : Node) : Type 0 where
+  pub arity : HasArity x.kind (length x.children)
+  pub depths : Each (λ i k. (y : Node) × (slice_get nodes k ≡ Some y) × (y.depth ≡ inner_depth x.kind x.depth)) x.children
+
+-- So it is with the nodes of a whole body. A depth is never so great that it would not be a number of 32 bits, since the
+-- nodes are not so many.
+abbrev pub NodesHaveChildren : Type 0
+NodesHaveChildren = (m : ℕ) (r : Rose) (n : ℕ) (before after : List Node) → Shaped 0 r → put m r before ≡ Some (n, after) → (i : ℕ) (x : Node) → length before ≤ i → slice_get after i ≡ Some x → HasChildren after x
+
+-- What is there when a whole body of method m has been put behind some nodes: its nodes, in post-order, of which the body is
+-- the last and the only one of its kind; each with its children; and what they name is there.
+pub record BodyStands (c : Context) (m n : ℕ) (before after : List Node) : Type 0 where
+  pub stands : WasPut m n before after
+  pub root : Node
+  pub is_root : slice_get after n ≡ Some root
+  pub is_body : root.kind ≡ node.Body
+  pub depth : root.depth ≡ 0
+  pub children : (i : ℕ) (x : Node) → length before ≤ i → slice_get after i ≡ Some x → HasChildren after x
+  pub names : (i : ℕ) (x : Node) → length before ≤ i → i < n → slice_get after i ≡ Some x → Names c x.kind
+
+abbrev pub BodiesStand : Type 0
+BodiesStand = (c : Context) (fs : List t.Field) (x : t.Method) (r : Rose) (m n : ℕ) (before after : List Node) → 0 < length c.texts → body_faults c fs x ≡ [] → body_of c fs x ≡ Some r → put m r before ≡ Some (n, after) → BodyStands c m n before after
+
+abbrev pub AddedBodiesStand : Type 0
+AddedBodiesStand = (c : Context) (fs : List t.Field) (name : Span) (m n : ℕ) (before after : List Node) → 0 < length c.texts → initial_faults c fs ≡ [] → put m (added_body c fs name) before ≡ Some (n, after) → BodyStands c m n before after
+
+-- A body names no local but its parameters and what it defines. The body of an added `create` has no parameters.
+abbrev pub BodiesAreScoped : Type 0
+BodiesAreScoped = (c : Context) (fs : List t.Field) (x : t.Method) (r : Rose) → body_of c fs x ≡ Some r → Scoped (slots (params_scope x.params)) r
+
+abbrev pub AddedBodiesAreScoped : Type 0
+AddedBodiesAreScoped = (c : Context) (fs : List t.Field) (name : Span) → Scoped [] (added_body c fs name)
+
+-- Node i is an item of a sequence that comes after it.
+pub record IsItem (nodes : List Node) (i : ℕ) : Type 0 where
+  pub sequence : ℕ
+  pub around : Node
+  pub is_around : slice_get nodes sequence ≡ Some around
+  pub is_sequence : around.kind ≡ node.Seq
+  pub item : Has around.children i
+  pub behind : i < sequence
+
+-- Node i stands in a later item of a sequence, of which an earlier one defines the local with slot s: between the two.
+pub record IsDefined (nodes : List Node) (i s : ℕ) : Type 0 where
+  pub define : ℕ
+  pub definition : Node
+  pub is_definition : slice_get nodes define ≡ Some definition
+  pub defines : definition.kind ≡ node.Define s
+  pub before : define < i
+  pub sequence : ℕ
+  pub around : Node
+  pub is_around : slice_get nodes sequence ≡ Some around
+  pub is_sequence : around.kind ≡ node.Seq
+  pub item : Has around.children define
+  pub behind : i < sequence
+
+-- When a rose that names only what is visible has been put: whatever uses a slot uses one of those that were visible from
+-- the start, or one that is defined before it; and each definition is an item of a sequence.
+abbrev pub LocalsAreDefined : Type 0
+LocalsAreDefined =
+    (visible : List ℕ) (m : ℕ) (r : Rose) (n : ℕ) (before after : List Node) → Scoped visible r → put m r before ≡ Some (n, after)
+    → (i : ℕ) (x : Node) → length before ≤ i → slice_get after i ≡ Some x
+    → ((s : ℕ) → Uses s x.kind → IsIn s visible ⊎ IsDefined after i s) × ((s : ℕ) → x.kind ≡ node.Define s → IsItem after i)
+
+-- Where the names of a body stand in the order of the text, as they do in a tree that a text spells: the first fault is the
+-- one with the smallest start.
+abbrev pub FirstIsLeast : Type 0
+FirstIsLeast = (c : Context) (fs : List t.Field) (x : t.Method) (g : Fault) (rest : List Fault) → Ascends (body_places fs x) → body_faults c fs x ≡ g ∷ rest → Each (λ i h. fault_start g ≤ fault_start h) (body_faults c fs x)
+
+-- Where they do, each local has the slot of its place among the locals, which no other one has.
+abbrev pub LocalsHaveSlots : Type 0
+LocalsHaveSlots = (fs : List t.Field) (x : t.Method) → Ascends (body_places fs x) → (i : ℕ) (l : Local) → slice_get (method_locals fs x) i ≡ Some l → slot_at (slots_of fs x) (local_start l) ≡ 1 + length x.params + i
+
+-- Where an expression has no fault, it has as many definitions as locals, also of those that pass a test on their slot and
+-- depth.
+abbrev pub IsDefinedAsOften : Type 0
+IsDefinedAsOften = (c : Context) (test : ℕ → ℕ → Bool) (scope : Scope) (d : ℕ) (e : t.Expr) → faults_of c scope e ≡ [] → times test (expr_of c scope d e) ≡ local_times c test (locals_of d e)
+
+-- Of the nodes that have been put, exactly one defines the slot, at this depth.
+pub record IsDefinedOnce (slot depth : ℕ) (before after : List Node) : Type 0 where
+  pub define : ℕ
+  pub definition : Node
+  pub behind : length before ≤ define
+  pub is_definition : slice_get after define ≡ Some definition
+  pub defines : definition.kind ≡ node.Define slot
+  pub deep : definition.depth ≡ depth
+  pub only : (k : ℕ) (x : Node) → length before ≤ k → slice_get after k ≡ Some x → x.kind ≡ node.Define slot → k ≡ define
+
+-- In a body without a fault, whose names stand in the order of the text, each local is defined once, with its slot and at its depth.
+abbrev pub LocalsAreDefinedOnce : Type 0
+LocalsAreDefinedOnce =
+    (c : Context) (fs : List t.Field) (x : t.Method) (r : Rose) (m n : ℕ) (before after : List Node) → c.slots ≡ slots_of fs x → Ascends (body_places fs x) → body_faults c fs x ≡ []
+    → body_of c fs x ≡ Some r → put m r before ≡ Some (n, after) → (i : ℕ) (l : Local) → slice_get (method_locals fs x) i ≡ Some l → IsDefinedOnce (1 + length x.params + i) l.depth before after
+
+abbrev pub AddedLocalsAreDefinedOnce : Type 0
+AddedLocalsAreDefinedOnce =
+    (c : Context) (fs : List t.Field) (name : Span) (m n : ℕ) (before after : List Node) → c.slots ≡ added_slots fs → Ascends (initial_places fs) → initial_faults c fs ≡ []
+    → put m (added_body c fs name) before ≡ Some (n, after) → (i : ℕ) (l : Local) → slice_get (initial_locals fs) i ≡ Some l → IsDefinedOnce (1 + i) l.depth before after
+
+-- A type that is written for a local is that of an entity, where it is no fault.
+abbrev pub WrittenTypesAreThere : Type 0
+WrittenTypesAreThere = (c : Context) (ty : TypeRef) → written_faults c (Some ty) ≡ [] → (p : ℕ × Cap) × (written_of c (Some ty) ≡ Some p) × (p.0 < length c.entities)
+
+-- A method that has no fault has at most 64 slots with that of `this`, and its body stands.
+abbrev pub MethodsStand : Type 0
+MethodsStand =
+    (c : Context) (m : ℕ) (fs : List t.Field) (x : t.Method) (n : ℕ) (before after : List Node) → 0 < length c.texts → method_of c m fs x before ≡ Ok (Some n, after)
+    → (1 + length (slot_names fs x) ≤ 64) × BodyStands c m n before after
+
+abbrev pub AddedMethodsStand : Type 0
+AddedMethodsStand =
+    (c : Context) (m : ℕ) (fs : List t.Field) (name : Span) (n : ℕ) (before after : List Node) → 0 < length c.texts → added_of c m fs name before ≡ Ok (Some n, after)
+    → (1 + length (local_names (initial_locals fs)) ≤ 64) × BodyStands c m n before after

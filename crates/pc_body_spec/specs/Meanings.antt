@@ -1,0 +1,40 @@
+-- What the numbers in a rose name is there.
+use Rattle.std.specs.Prelude.{◌≡◌, ◌⊎◌, ℕ, ◌<◌, ◌≤◌, true, length, Some, slice_get}
+use Rattle.pc_tree.specs.declared.kinds.EntityKind.{EntityKind}
+use Rattle.pc_tree.specs.declared.kinds.EntityKind.TheVariants as kind
+use Rattle.pc_core.specs.declared.nodes.NodeKind.{NodeKind}
+use Rattle.pc_core.specs.declared.nodes.NodeKind.TheVariants as node
+use Rattle.pc_lists.specs.Places.{Has}
+use Rattle.pc_core.specs.Nodes.{is_binary}
+use Rattle.pc_body_spec.specs.Roses.{Rose, Roses, rose, more, no_roses}
+use Rattle.pc_body_spec.specs.Scopes.{Context, Known, Constructor}
+
+-- Each node of a rose has this property.
+abbrev mutual
+  pub Every : (NodeKind → Type 0) → Rose → Type 0
+  Every P (rose k s d rs) = P k × EveryOf P rs
+
+  pub EveryOf : (NodeKind → Type 0) → Roses → Type 0
+  EveryOf P no_roses = Unit {0}
+  EveryOf P (more r rs) = Every P r × EveryOf P rs
+
+-- Entity number e is of this kind.
+abbrev pub IsOfKind : Context → EntityKind → ℕ → Type 0
+IsOfKind c k e = (x : Known) × (slice_get c.entities e ≡ Some x) × (x.kind ≡ k)
+
+-- The number of a constructor of an entity of this kind.
+abbrev pub IsConstructor : Context → EntityKind → ℕ → Type 0
+IsConstructor c k m = (e : ℕ) × (x : Known) × (slice_get c.entities e ≡ Some x) × (x.kind ≡ k) × ((y : Constructor) × Has x.constructors y × (y.method ≡ m))
+
+-- What a node of this kind names is there: None or a primitive of the program's own, a constructor of a class or of an
+-- actor, and a text; an operator is one that has no kind of its own. A body is nowhere.
+abbrev pub Names : Context → NodeKind → Type 0
+Names c (node.Prim e) = (e ≡ 0) ⊎ ((6 ≤ e) × IsOfKind c kind.Primitive e)
+Names c (node.New m) = IsConstructor c kind.Class m
+Names c (node.Spawn m) = IsConstructor c kind.Actor m
+Names c (node.Field f) = f < length c.texts
+Names c (node.SetField f) = f < length c.texts
+Names c (node.Call f) = f < length c.texts
+Names c (node.Binary o) = is_binary o ≡ true
+Names c node.Body = ⊥
+Names c k = Unit {0}

@@ -1,0 +1,62 @@
+-- What becomes of a method: its nodes behind those of the methods before it, or its first fault.
+use Rattle.std.specs.Prelude.{ℕ, List, [], ◌∷◌, ◌++◌, map, Option, Some, None, Result, Ok, Err, slice_get}
+use Rattle.pc_caps.specs.declared.span.Span.{Span}
+use Rattle.pc_tree.specs.declared.names.Name.{Name}
+use Rattle.pc_tree.specs.declared.file.ParamDef.{ParamDef}
+use Rattle.pc_tree.specs.Tree as t
+use Rattle.pc_core.specs.declared.nodes.Node.{Node}
+use Rattle.pc_body_spec.specs.Roses.{Rose, Numbered, put}
+use Rattle.pc_body_spec.specs.Scopes.{Context}
+use Rattle.pc_body_spec.specs.Bodies.{body_of, added_body}
+use Rattle.pc_body_spec.specs.Faults.{Fault, body_faults, initial_faults}
+use Rattle.pc_body_spec.specs.Slots.{Local, initial_locals, method_locals}
+
+pub data MethodFault : Type 0 where
+  -- a fault of its body
+  in_body : Fault → MethodFault
+  -- the name of its 65th slot
+  slots_full : Span → MethodFault
+  -- its own name, where the nodes of all methods so far are too many
+  nodes_full : Span → MethodFault
+
+-- The number of its body, if it has one, and all nodes so far.
+abbrev pub Outcome : Type 0
+Outcome = Result (Option ℕ × List Node) MethodFault
+
+abbrev pub param_names : List ParamDef → List Name
+param_names ps = map (λ p. p.name) ps
+
+abbrev pub local_names : List Local → List Name
+local_names ls = map (λ l. l.name) ls
+
+-- The names of the slots of a method, behind that of `this`.
+abbrev pub slot_names : List t.Field → t.Method → List Name
+slot_names fs x = param_names x.params ++ local_names (method_locals fs x)
+
+-- The first fault of the body comes before the 65th slot, and this before the count of the nodes.
+abbrev pub unless_fault : List Fault → Outcome → Outcome
+unless_fault [] rest = rest
+unless_fault (f ∷ fs) rest = Err (in_body f)
+
+abbrev pub unless_name : Option Name → Outcome → Outcome
+unless_name None rest = rest
+unless_name (Some n) rest = Err (slots_full n.span)
+
+abbrev pub unless_full : List Name → Outcome → Outcome
+unless_full names rest = unless_name (slice_get names 63) rest
+
+abbrev pub numbered : Span → Numbered ℕ → Outcome
+numbered name None = Err (nodes_full name)
+numbered name (Some r) = Ok (Some r.0, r.1)
+
+abbrev pub put_body : ℕ → Span → Option Rose → List Node → Outcome
+put_body m name None before = Ok (None, before)
+put_body m name (Some r) before = numbered name (put m r before)
+
+-- Method m, of an entity with these fields, behind the nodes of the methods before it.
+abbrev pub method_of : Context → ℕ → List t.Field → t.Method → List Node → Outcome
+method_of c m fs x before = unless_fault (body_faults c fs x) (unless_full (slot_names fs x) (put_body m x.name.span (body_of c fs x) before))
+
+-- A `create` that is added to an entity of this name.
+abbrev pub added_of : Context → ℕ → List t.Field → Span → List Node → Outcome
+added_of c m fs name before = unless_fault (initial_faults c fs) (unless_full (local_names (initial_locals fs)) (put_body m name (Some (added_body c fs name)) before))

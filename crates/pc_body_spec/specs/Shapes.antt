@@ -1,0 +1,25 @@
+-- How many children a rose has, and how deep they stand.
+use Rattle.std.specs.Prelude.{◌≡◌, ℕ, suc}
+use Rattle.pc_core.specs.declared.nodes.NodeKind.{NodeKind}
+use Rattle.pc_core.specs.declared.nodes.NodeKind.TheVariants as node
+use Rattle.pc_core.specs.Nodes.{HasArity}
+use Rattle.pc_body_spec.specs.Roses.{Rose, Roses, rose, more, no_roses}
+use Rattle.pc_body_spec.specs.Scopes.{deeper}
+
+abbrev pub count : Roses → ℕ
+count no_roses = 0
+count (more r rs) = suc (count rs)
+
+-- The depth of what stands in a node of this kind and depth.
+abbrev pub depth_inside : NodeKind → ℕ → ℕ
+depth_inside (node.Recover cap) d = deeper d
+depth_inside k d = d
+
+-- A rose of depth d in which each node has as many children as its kind wants, each as deep as it has to be.
+abbrev mutual
+  pub Shaped : ℕ → Rose → Type 0
+  Shaped d (rose k s e rs) = (e ≡ d) × HasArity k (count rs) × AllShaped (depth_inside k d) rs
+
+  pub AllShaped : ℕ → Roses → Type 0
+  AllShaped d no_roses = Unit {0}
+  AllShaped d (more r rs) = Shaped d r × AllShaped d rs

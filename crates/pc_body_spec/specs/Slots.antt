@@ -1,0 +1,127 @@
+-- The locals of a body, in the order in which their names stand in the text, and their slots.
+use Rattle.std.specs.Prelude.{ℕ, suc, ◌+◌, Bool, true, false, List, [], ◌∷◌, ◌++◌, length, Option, Some, None, if◌then◌else◌}
+use Rattle.std.specs.Str.{bytes_eq}
+use Rattle.pc_caps.specs.declared.capability.Cap.{Cap}
+use Rattle.pc_tree.specs.declared.names.Name.{Name}
+use Rattle.pc_tree.specs.declared.names.TypeRef.{TypeRef}
+use Rattle.pc_tree.specs.Tree as t
+use Rattle.pc_core.specs.declared.nodes.Slot.{Slot}
+use Rattle.pc_core.specs.declared.nodes.SlotKind.{SlotKind}
+use Rattle.pc_core.specs.declared.nodes.SlotKind.TheVariants as slot
+use Rattle.pc_body_spec.specs.Scopes.{Context, Known, Placed, deeper}
+use Rattle.pc_body_spec.specs.Bodies.{initial_fields}
+
+-- A local where it is defined.
+pub record Local : Type 0 where
+  -- whether the word is `let`
+  pub fixed : Bool
+  pub name : Name
+  -- its type, where one is written
+  pub ty : Option TypeRef
+  -- the number of `recover` bodies around its definition
+  pub depth : ℕ
+
+-- The locals that are defined in an expression at this depth.
+abbrev mutual
+  pub locals_of : ℕ → t.Expr → List Local
+  locals_of d (t.number n s) = []
+  locals_of d (t.truth b s) = []
+  locals_of d (t.text b s) = []
+  locals_of d (t.name n) = []
+  locals_of d (t.type_name n) = []
+  locals_of d (t.this s) = []
+  locals_of d (t.consume n s) = []
+  locals_of d (t.not_ e s) = locals_of d e
+  locals_of d (t.infix_ o es s) = exprs_locals d es
+  locals_of d (t.chain h ss s) = locals_of d h ++ suffixes_locals d ss
+  locals_of d (t.group b s) = seq_locals d b
+  locals_of d (t.if_ as' o s) = arms_locals d as' ++ other_locals d o
+  locals_of d (t.while_ cond b s) = seq_locals d cond ++ seq_locals d b
+  locals_of d (t.recover cap b s) = seq_locals (deeper d) b
+  locals_of d (t.assign l r s) = locals_of d l ++ locals_of d r
+
+  pub exprs_locals : ℕ → t.Exprs → List Local
+  exprs_locals d t.no_exprs = []
+  exprs_locals d (t.expr e es) = locals_of d e ++ exprs_locals d es
+
+  pub suffix_locals : ℕ → t.Suffix → List Local
+  suffix_locals d (t.dot n) = []
+  suffix_locals d (t.args es s) = exprs_locals d es
+
+  pub suffixes_locals : ℕ → t.Suffixes → List Local
+  suffixes_locals d t.no_suffixes = []
+  suffixes_locals d (t.suffix x ss) = suffix_locals d x ++ suffixes_locals d ss
+
+  pub arm_locals : ℕ → t.Arm → List Local
+  arm_locals d (t.arm_of cond b s) = seq_locals d cond ++ seq_locals d b
+
+  pub arms_locals : ℕ → t.Arms → List Local
+  arms_locals d t.no_arms = []
+  arms_locals d (t.arm a as') = arm_locals d a ++ arms_locals d as'
+
+  pub other_locals : ℕ → t.Other → List Local
+  other_locals d t.no_other = []
+  other_locals d (t.other b) = seq_locals d b
+
+  pub seq_locals : ℕ → t.Seq → List Local
+  seq_locals d (t.seq is s) = items_locals d is
+
+  pub items_locals : ℕ → t.Items → List Local
+  items_locals d t.no_items = []
+  items_locals d (t.item i is) = item_locals d i ++ items_locals d is
+
+  pub item_locals : ℕ → t.Item → List Local
+  item_locals d (t.local fixed n ty e s) = record { fixed = fixed; name = n; ty = ty; depth = d } ∷ locals_of d e
+  item_locals d (t.plain e) = locals_of d e
+
+abbrev pub value_locals : Option t.Expr → List Local
+value_locals None = []
+value_locals (Some e) = locals_of 0 e
+
+abbrev pub initial_locals : List t.Field → List Local
+initial_locals [] = []
+initial_locals (f ∷ fs) = value_locals f.value ++ initial_locals fs
+
+abbrev pub body_locals : Option t.Seq → List Local
+body_locals None = []
+body_locals (Some b) = seq_locals 0 b
+
+-- The locals of a method of an entity with these fields. Those of the initial values are in each constructor, before its
+-- own.
+abbrev pub method_locals : List t.Field → t.Method → List Local
+method_locals fs m = initial_locals (initial_fields m.word fs) ++ body_locals m.body
+
+-- Locals with the slots from this one on.
+abbrev pub placed_from : ℕ → List Local → List Placed
+placed_from at [] = []
+placed_from at (x ∷ xs) = record { start = x.name.span.start; slot = at } ∷ placed_from (suc at) xs
+
+-- The slots of a method's locals come after those of `this` and of the parameters.
+abbrev pub slots_of : List t.Field → t.Method → List Placed
+slots_of fs m = placed_from (1 + length m.params) (method_locals fs m)
+
+-- In an added `create` there are those of the initial values alone, after the slot of `this`.
+abbrev pub added_slots : List t.Field → List Placed
+added_slots fs = placed_from 1 (initial_locals fs)
+
+-- The capability that is written, or else that of the entity.
+abbrev pub cap_or : Option Cap → Cap → Cap
+cap_or (Some k) own = k
+cap_or None own = own
+
+-- The type of this name among entities, whose numbers begin with this one.
+abbrev pub type_of : ℕ → List Known → TypeRef → Option (ℕ × Cap)
+type_of at [] ty = None
+type_of at (x ∷ xs) ty = if bytes_eq x.name ty.name.text then Some (at, cap_or ty.cap x.cap) else type_of (suc at) xs ty
+
+abbrev pub written_of : Context → Option TypeRef → Option (ℕ × Cap)
+written_of c None = None
+written_of c (Some ty) = type_of 0 c.entities ty
+
+abbrev pub local_kind : Bool → SlotKind
+local_kind true = slot.Let
+local_kind false = slot.Var
+
+-- The slot of a local of method m.
+abbrev pub local_slot : Context → ℕ → Local → Slot
+local_slot c m l = record { method = m; kind = local_kind l.fixed; depth = l.depth; written = written_of c l.ty }

@@ -1,0 +1,16 @@
+//! What elaboration is: which nodes, slots and faults stand for the body of a method. Definitions, and what is true of them.
+//!
+//! Proved: What stands for the body of a method, as definitions: which nodes, slots and faults. Nodes stand in
+//! post-order, each with the children and depth of its kind; what they name is there where there is no fault; each
+//! local is defined once, before its uses; the first fault has the smallest start. Small bodies stand as written out by
+//! hand.
+#![tactic(auto)]
+
+mod laws;
+
+pub use laws::{
+    bodies_stand, children_are_shaped, locals_are_defined, locals_are_defined_as_often,
+    locals_are_defined_once, locals_are_visible, methods_stand, names_are_there,
+    names_stand_in_order, nodes_have_children, nodes_stand_in_post_order, small_bodies_stand,
+    written_types_are_there,
+};

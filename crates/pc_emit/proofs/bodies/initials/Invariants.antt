@@ -1,0 +1,9 @@
+use Rattle.std.proofs.Common.{◌≡◌, drop, map}
+use Rattle.pc_tree.specs.View.{field_view}
+use Rattle.pc_body_spec.specs.Roses.{Roses, puts}
+use Rattle.pc_body_spec.specs.Bodies.{initials_then}
+use Rattle.pc_emit.specs.Closing.{behind_tops}
+use Rattle.pc_emit.proofs.bodies.initials.Given as goal
+
+abbrev pub invariant-loop-field : goal.invariant-loop-field
+invariant-loop-field l = (rest : Roses) → puts l.number (initials_then l.context (map field_view l.fields) rest) l.fn.nodes ≡ behind_tops l.tops (puts l.number (initials_then l.context (map field_view (drop l.field-index l.fields)) rest) l.nodes)

@@ -1,0 +1,196 @@
+-- Nodes that wait for the number of a part.
+use Rattle.std.specs.Prelude.{ℕ, ◌-◌, ◌+◌, ◌≡◌, Bool, true, false, List, [], ◌∷◌, ◌++◌, Option, Some, None, Result, Ok, Err, take, drop, slice_get, if◌then◌else◌}
+use Rattle.pc_caps.specs.declared.span.Span.{Span}
+use Rattle.pc_core.specs.declared.nodes.Node.{Node}
+use Rattle.pc_core.specs.declared.nodes.NodeKind.{NodeKind}
+use Rattle.pc_core.specs.declared.nodes.NodeKind.TheVariants as node
+use Rattle.pc_tree.specs.declared.names.Name.{Name}
+use Rattle.pc_tree.specs.Tree as t
+use Rattle.pc_body_spec.specs.Roses.{Rose, rose, leaf, one, two, and_last, Numbered, and_then, push}
+use Rattle.pc_body_spec.specs.Scopes.{Context, Scope, Meaning, local, field, method, nothing, resolve, text_of}
+use Rattle.pc_body_spec.specs.Expressions.{join, gap, expr_of, exprs_of, chain_of, Start, with_value, Use, read, write}
+use Rattle.pc_emit.specs.declared.stop.EmitStop.{EmitStop}
+use Rattle.pc_emit.specs.declared.stop.EmitStop.TheVariants as stop
+use Rattle.pc_emit.specs.declared.waiting.OpenArm.{OpenArm}
+use Rattle.pc_emit.specs.declared.waiting.Link.{Link}
+use Rattle.pc_emit.specs.declared.waiting.OpenChain.{OpenChain}
+use Rattle.pc_emit.specs.declared.chains.First.{First}
+use Rattle.pc_emit.specs.declared.chains.First.TheVariants as first
+use Rattle.pc_emit.specs.declared.chains.Beginning.{Beginning}
+use Rattle.pc_emit.specs.declared.chains.Beginning.TheVariants as begins
+
+-- The nodes that wait, the outermost first, each closed by the number of what stands inside it.
+abbrev pub closing : {P : Type 0} → (P → ℕ → List Node → Numbered ℕ) → List P → ℕ → List Node → Numbered ℕ
+closing step [] n ns = Some (n, ns)
+closing step (p ∷ ps) n ns = and_then (closing step ps n ns) (step p)
+
+-- An arm waits for its `else`; each but the first stands in a sequence of its own.
+abbrev pub arm_after : Bool → ℕ → ℕ → Span → ℕ → List Node → Numbered ℕ
+arm_after true m d s chosen ns = Some (chosen, ns)
+arm_after false m d s chosen ns = push m node.Seq s d (chosen ∷ []) ns
+
+unfoldable pub arm_closes : ℕ → ℕ → OpenArm → ℕ → List Node → Numbered ℕ
+arm_closes m d w n ns = and_then (push m node.If w.span d (w.cond ∷ w.body ∷ n ∷ []) ns) (arm_after w.first m d w.span)
+
+-- A suffix waits for what stands before it, which is its last child.
+unfoldable pub link_closes : ℕ → ℕ → Link → ℕ → List Node → Numbered ℕ
+link_closes m d l n ns = push m l.kind l.span d (l.args ++ n ∷ []) ns
+
+-- A call on `this` has its arguments, and then `this`.
+unfoldable pub this_closes : ℕ → ℕ → Span → ℕ → Span → List ℕ → List Node → Numbered ℕ
+this_closes m d s n place args ns = and_then (push m node.This place d [] ns) (λ this. push m (node.Call n) s d (args ++ this ∷ []))
+
+-- A sequence without items gets the value None.
+unfoldable pub none_closes : ℕ → ℕ → Span → List ℕ → List Node → Numbered (List ℕ)
+none_closes m d s [] ns = and_then (push m (node.Prim 0) s d [] ns) (λ n. λ ns. Some (n ∷ [], ns))
+none_closes m d s (x ∷ xs) ns = Some (x ∷ xs, ns)
+
+unfoldable pub seq_closes : ℕ → ℕ → Span → List ℕ → List Node → Numbered ℕ
+seq_closes m d s tops ns = and_then (none_closes m d s tops ns) (push m node.Seq s d)
+
+-- What the code gives where nodes wait for an inner part, whose own nodes come next.
+abbrev pub Opens : {P : Type 0} → Result (List P) EmitStop → List Node → (P → ℕ → List Node → Numbered ℕ) → (List Node → Numbered ℕ) → Numbered ℕ → Type 0
+Opens (Ok ps) ns step inner want = want ≡ and_then (inner ns) (closing step ps)
+Opens (Err stop.Full) ns step inner want = want ≡ None
+Opens (Err stop.Memory) ns step inner want = Unit {0}
+
+abbrev pub OpensOne : {P : Type 0} → Result P EmitStop → List Node → (P → ℕ → List Node → Numbered ℕ) → (List Node → Numbered ℕ) → Numbered ℕ → Type 0
+OpensOne (Ok p) ns step inner want = want ≡ and_then (inner ns) (step p)
+OpensOne (Err stop.Full) ns step inner want = want ≡ None
+OpensOne (Err stop.Memory) ns step inner want = Unit {0}
+
+-- The node of a suffix behind what stands before it: a field, or a call of the name with this text.
+abbrev pub link_of : Context → Scope → ℕ → Span → ℕ → t.Suffix → Rose → Rose
+link_of c sc d s n (t.dot x) r = rose (node.Field n) (join s x.span) d (one r)
+link_of c sc d s n (t.args es sp) r = rose (node.Call n) (join s sp) d (and_last (exprs_of c sc d es) r)
+
+-- A chain whose beginning is there.
+abbrev pub rest_of : Context → Scope → ℕ → Span → Rose → List t.Suffix → Rose
+rest_of c sc d s origin ss = chain_of c sc d s read with_value origin (t.suffixes_of ss)
+
+-- The last of the first `left` suffixes serves the text n, and the first `before` ones stand before it.
+abbrev pub IsCut : Context → List t.Suffix → (left name before : ℕ) → Type 0
+IsCut c ss left n before = (sc : Scope) (d : ℕ) (s : Span) (origin : Rose) (x : t.Suffix) → slice_get ss (left - 1) ≡ Some x → rest_of c sc d s origin (take left ss) ≡ link_of c sc d s n x (rest_of c sc d s origin (take before ss))
+
+-- Arguments behind the first `left` suffixes serve the text n, and the first `before` ones stand before it.
+abbrev pub IsBefore : Context → List t.Suffix → (left name before : ℕ) → Type 0
+IsBefore c ss left n before = (sc : Scope) (d : ℕ) (s : Span) (origin : Rose) (es : t.Exprs) (sp : Span) → rest_of c sc d s origin (take left ss ++ t.args es sp ∷ []) ≡ link_of c sc d s n (t.args es sp) (rest_of c sc d s origin (take before ss))
+
+-- ---- how a chain begins
+
+abbrev pub is_args : Option t.Suffix → Bool
+is_args (Some (t.args es s)) = true
+is_args x = false
+
+abbrev pub is_empty_args : Option t.Suffix → Bool
+is_empty_args (Some (t.args t.no_exprs s)) = true
+is_empty_args x = false
+
+-- How many suffixes belong to the beginning.
+abbrev pub taken : Beginning → ℕ
+taken begins.Value = 0
+taken (begins.With f at) = at + 1
+
+-- The last of these has the arguments.
+abbrev pub first_of : Context → Scope → ℕ → Span → First → t.Suffix → Rose
+first_of c sc d s (first.Made k) (t.args es sp) = rose k (join s sp) d (exprs_of c sc d es)
+first_of c sc d s (first.OnThis n p) (t.args es sp) = rose (node.Call n) (join s sp) d (and_last (exprs_of c sc d es) (leaf node.This p d))
+first_of c sc d s first.Missing (t.args es sp) = gap (join s sp) d
+first_of c sc d s f (t.dot n) = gap (join s n.span) d
+
+abbrev pub first_at : Context → Scope → ℕ → Span → First → Rose → Option t.Suffix → Rose
+first_at c sc d s f origin (Some x) = first_of c sc d s f x
+first_at c sc d s f origin None = origin
+
+abbrev pub begun : Context → Scope → ℕ → Span → Beginning → List t.Suffix → Rose → Rose
+begun c sc d s begins.Value ss origin = origin
+begun c sc d s (begins.With f at) ss origin = first_at c sc d s f origin (slice_get ss at)
+
+-- A chain that starts so begins so, whatever is done with it.
+abbrev pub Begins : Context → Start → List t.Suffix → Beginning → Type 0
+Begins c st ss b = (sc : Scope) (d : ℕ) (s : Span) (u : Use) (origin : Rose) → chain_of c sc d s u st origin (t.suffixes_of ss) ≡ chain_of c sc d s u with_value (begun c sc d s b ss origin) (t.suffixes_of (drop (taken b) ss))
+
+-- With a new object of an actor or a class, by a constructor that may be missing.
+abbrev pub object : Bool → Option ℕ → ℕ → Beginning
+object actor (Some m) at = begins.With (first.Made (if actor then node.Spawn m else node.New m)) at
+object actor None at = begins.With first.Missing at
+
+-- What begins a chain: it has this number, or else it is the atom, whose nodes come next.
+abbrev pub begun_by : Option ℕ → (List Node → Numbered ℕ) → List Node → Numbered ℕ
+begun_by (Some n) atom ns = Some (n, ns)
+begun_by None atom ns = atom ns
+
+-- What the code gives of a chain: its suffixes wait for what begins it.
+abbrev pub OpensChain : Result OpenChain EmitStop → List Node → (Link → ℕ → List Node → Numbered ℕ) → (List Node → Numbered ℕ) → Numbered ℕ → Type 0
+OpensChain (Ok o) ns step atom want = want ≡ and_then (begun_by o.origin atom ns) (closing step o.links)
+OpensChain (Err stop.Full) ns step atom want = want ≡ None
+OpensChain (Err stop.Memory) ns step atom want = Unit {0}
+
+-- ---- expressions of one kind
+
+abbrev pub is_chain : t.Expr → Bool
+is_chain (t.chain head ss s) = true
+is_chain e = false
+
+-- With sequences in it.
+abbrev pub is_block : t.Expr → Bool
+is_block (t.group body s) = true
+is_block (t.if_ arms last s) = true
+is_block (t.while_ cond body s) = true
+is_block (t.recover cap body s) = true
+is_block e = false
+
+-- What stands for an expression of some kinds; for others, what stands for a missing name.
+abbrev pub only : (t.Expr → Bool) → Context → Scope → ℕ → t.Expr → Rose
+only kind c sc d e = if kind e then expr_of c sc d e else gap (t.span_of e) d
+
+-- ---- what is written to
+
+-- A bare name that nothing has, or that is a method.
+abbrev pub names_none : Meaning → Bool
+names_none (local x) = false
+names_none field = false
+names_none method = true
+names_none nothing = true
+
+abbrev pub is_missing : Context → Scope → t.Expr → Bool
+is_missing c sc (t.name n) = names_none (resolve c sc n.text)
+is_missing c sc e = false
+
+-- The node of what is written to a bare name that something has, behind the value.
+unfoldable pub name_closes : Context → ℕ → ℕ → Span → Name → Meaning → ℕ → List Node → Numbered ℕ
+name_closes c m d s n (local x) v ns = push m (node.Assign x) s d (v ∷ []) ns
+name_closes c m d s n w v ns = and_then (push m node.This n.span d [] ns) (λ this. push m (node.SetField (text_of c n.text)) s d (v ∷ this ∷ []))
+
+-- What is written to the field with this text at the end of a chain, or where it ends otherwise.
+abbrev pub written_kind : Option ℕ → NodeKind
+written_kind (Some n) = node.SetField n
+written_kind None = node.Seq
+
+abbrev pub written_end : ℕ → Span → Option ℕ → Rose → Rose → Rose
+written_end d s n v r = rose (written_kind n) s d (two v r)
+
+-- Such a chain ends with this field, behind so many suffixes.
+abbrev pub IsSplit : Context → List t.Suffix → Option ℕ → ℕ → Type 0
+IsSplit c ss n count = (sc : Scope) (d : ℕ) (s whole : Span) (v origin : Rose) → chain_of c sc d whole (write s v) with_value origin (t.suffixes_of ss) ≡ written_end d s n v (rest_of c sc d whole origin (take count ss))
+
+-- ---- bodies
+
+-- Numbers with others before them.
+abbrev pub behind_tops : List ℕ → Numbered (List ℕ) → Numbered (List ℕ)
+behind_tops tops o = and_then o (λ more. λ ns. Some (tops ++ more, ns))
+
+-- What the code gives of a list of parts, where others come behind them.
+abbrev pub LeadsOn : Result (List ℕ) EmitStop → List Node → (List Node → Numbered (List ℕ)) → Numbered (List ℕ) → Type 0
+LeadsOn (Ok tops) ns rest want = want ≡ behind_tops tops (rest ns)
+LeadsOn (Err stop.Full) ns rest want = want ≡ None
+LeadsOn (Err stop.Memory) ns rest want = Unit {0}
+
+-- The value None behind the items, where one is added.
+unfoldable pub ends_with : Bool → ℕ → ℕ → Span → List ℕ → List Node → Numbered (List ℕ)
+ends_with true m d s tops ns = and_then (push m (node.Prim 0) s d [] ns) (λ n. λ ns. Some (tops ++ n ∷ [], ns))
+ends_with false m d s tops ns = Some (tops, ns)
+
+-- A body around its sequence.
+unfoldable pub body_closes : ℕ → ℕ → Span → Span → List ℕ → List Node → Numbered ℕ
+body_closes m d name s tops ns = and_then (seq_closes m d s tops ns) (λ q. push m node.Body name d (q ∷ []))

@@ -1,0 +1,243 @@
+//! The nodes of whole bodies.
+ghost use Rattle.std.specs.Prelude.{◌≡◌, ◌++◌, [], IfOk, map};
+ghost use Rattle.pc_tree.specs.View.{expr_view, field_view, maybe_expr, items_view, method_view, seq_view};
+ghost use Rattle.pc_body_spec.specs.Bodies as spec;
+ghost use Rattle.pc_body_spec.specs.Roses.{Roses, put, puts};
+ghost use Rattle.pc_body_spec.specs.Scopes.{params_scope as scope_of};
+ghost use Rattle.pc_body_spec.specs.Expressions as parts;
+ghost use Rattle.pc_emit.specs.Giving.{Gives, GivesBody};
+ghost use Rattle.pc_emit.specs.Closing.{LeadsOn, behind_tops, ends_with, body_closes};
+
+use crate::names::write_field;
+use crate::nodes::{leaf, single};
+use crate::setting::Setting;
+use crate::stop::EmitStop;
+use crate::waiting::close_sequence;
+use crate::walk::{expr, items};
+use pc_caps::{List, Span};
+use pc_core::{Node, NodeKind};
+use pc_resolve::{Context, params_scope};
+use pc_tree::{Expr, FieldDef, MethodDef, MethodWord, Name, Seq, TypeRef};
+use std::alloc::{AllocError, Global};
+
+/// Puts the nodes of the body of a method behind the others, and answers its number, which is that of the last of them; or
+/// `None` where no body is written, which leaves the nodes as they were. The method has this number, and its entity these
+/// fields. It is `Full` exactly where there would be more than 200,000 nodes. After an `Err` the nodes may be any.
+pub fn emit(
+    alloc: Global,
+    context: &Context,
+    number: u32,
+    nodes: &mut List<Node>,
+    fields: &[FieldDef],
+    method: &MethodDef,
+) -> Result<Option<u32>, EmitStop>
+    ensures gives { GivesBody result nodes.new (spec.body_of context.now (map field_view fields.now) (method_view method.now)) number nodes.old }
+{
+    match &method.body {
+        Some(seq) => {
+            let body = written(alloc, context, number, nodes, fields, method, seq)?;
+            Ok(Some(body))
+        }
+        None => Ok(None),
+    }
+}
+
+/// Puts the nodes of the body of a `create` that is added to an entity, whose name stands at this place, and answers its
+/// number, as `emit` does.
+pub fn emit_added(
+    alloc: Global,
+    context: &Context,
+    number: u32,
+    nodes: &mut List<Node>,
+    fields: &[FieldDef],
+    name: Span,
+) -> Result<u32, EmitStop>
+    ensures gives { Gives result nodes.new (put number (spec.added_body context.now (map field_view fields.now) name) nodes.old) }
+{
+    let setting = Setting {
+        alloc,
+        context,
+        number,
+        depth: 0,
+    };
+    let mut items = initials(alloc, context, number, nodes, fields)?;
+    let none = leaf(&setting, nodes, NodeKind::Prim(0), name)?;
+    items.push(none)?;
+    close_body(&setting, nodes, name, name, items)
+}
+
+// The body of a method, as it is written.
+fn written(
+    alloc: Global,
+    context: &Context,
+    number: u32,
+    nodes: &mut List<Node>,
+    fields: &[FieldDef],
+    method: &MethodDef,
+    seq: &Seq,
+) -> Result<u32, EmitStop>
+    ensures { Gives result nodes.new (put number (spec.body_with context.now (map field_view fields.now) (method_view method.now) (seq_view seq.now)) nodes.old) }
+{
+    let fields = initial_fields(method.word, fields);
+    let first = initials(alloc, context, number, nodes, fields)?;
+    let own = own_items(alloc, context, number, nodes, method, seq)?;
+    let all = append(first, own.as_slice())?;
+    let setting = Setting {
+        alloc,
+        context,
+        number,
+        depth: 0,
+    };
+    close_body(&setting, nodes, method.name.span, seq.span, all)
+}
+
+// The items of the body of a method, and None behind them where a function has no written result.
+fn own_items(
+    alloc: Global,
+    context: &Context,
+    number: u32,
+    nodes: &mut List<Node>,
+    method: &MethodDef,
+    seq: &Seq,
+) -> Result<List<u32>, EmitStop>
+    ensures { Gives result nodes.new (puts number (spec.none_last (spec.gives_none method.now.word method.now.result) method.now.name.span (parts.items_of context.now (scope_of method.now.params) 0 (items_view seq.now.items))) nodes.old) }
+{
+    let mut scope = params_scope(alloc, method.params.as_slice())?;
+    let setting = Setting {
+        alloc,
+        context,
+        number,
+        depth: 0,
+    };
+    let own = items(&setting, &mut scope, nodes, seq.items.as_slice())?;
+    let adds = gives_none(method.word, &method.result);
+    none_last(&setting, nodes, method.name.span, adds, own)
+}
+
+// Only constructors begin with the initial values.
+fn initial_fields(word: MethodWord, fields: &[FieldDef]) -> &[FieldDef]
+    ensures { map field_view result.now ≡ spec.initial_fields word (map field_view fields.now) }
+{
+    match word {
+        MethodWord::New => fields,
+        MethodWord::Fun | MethodWord::Be => &[],
+    }
+}
+
+// Whether a method gives None where its items end: a function without a written result.
+fn gives_none(word: MethodWord, ty: &Option<TypeRef>) -> bool
+    ensures { result ≡ spec.gives_none word ty.now }
+{
+    match word {
+        MethodWord::Fun => ty.is_none(),
+        MethodWord::Be | MethodWord::New => false,
+    }
+}
+
+// Puts the value None behind the items, where one is added.
+#[tactic(auto, unfolding(crate::specs::Closing::ends_with))]
+fn none_last(
+    setting: &Setting,
+    nodes: &mut List<Node>,
+    span: Span,
+    adds: bool,
+    items: List<u32>,
+) -> Result<List<u32>, EmitStop>
+    ensures { Gives result nodes.new (ends_with adds setting.now.number setting.now.depth span items nodes.old) }
+{
+    if !adds {
+        return Ok(items);
+    }
+    let none = leaf(setting, nodes, NodeKind::Prim(0), span)?;
+    let mut items = items;
+    items.push(none)?;
+    Ok(items)
+}
+
+// The writes of the initial values to the fields, in order.
+#[tactic(auto, using(crate::proofs::Wholes::behind_none))]
+fn initials(
+    alloc: Global,
+    context: &Context,
+    number: u32,
+    nodes: &mut List<Node>,
+    fields: &[FieldDef],
+) -> Result<List<u32>, EmitStop>
+    ensures { (rest : Roses) → LeadsOn result nodes.new (puts number rest) (puts number (spec.initials_then context.now (map field_view fields.now) rest) nodes.old) }
+{
+    let mut tops = List::new(alloc);
+    for field in fields {
+        tops = add_initial(alloc, context, number, nodes, field, tops)?;
+    }
+    Ok(tops)
+}
+
+// The same with the initial value of one field more, if it has one.
+fn add_initial(
+    alloc: Global,
+    context: &Context,
+    number: u32,
+    nodes: &mut List<Node>,
+    field: &FieldDef,
+    tops: List<u32>,
+) -> Result<List<u32>, EmitStop>
+    ensures { (rest : Roses) → LeadsOn result nodes.new (puts number rest) (behind_tops tops (puts number (spec.initial_of context.now field.now.name (maybe_expr field.now.value) rest) nodes.old)) }
+{
+    match &field.value {
+        None => Ok(tops),
+        Some(value) => {
+            let top = initial(alloc, context, number, nodes, &field.name, value)?;
+            let mut tops = tops;
+            tops.push(top)?;
+            Ok(tops)
+        }
+    }
+}
+
+// The write of an initial value. No parameter is visible in it.
+fn initial(
+    alloc: Global,
+    context: &Context,
+    number: u32,
+    nodes: &mut List<Node>,
+    name: &Name,
+    value: &Expr,
+) -> Result<u32, EmitStop>
+    ensures { Gives result nodes.new (put number (parts.write_field context.now name.now.span name.now 0 (parts.expr_of context.now [] 0 (expr_view value.now)) (parts.added_this name.now 0)) nodes.old) }
+{
+    let mut scope = List::new(alloc);
+    let setting = Setting {
+        alloc,
+        context,
+        number,
+        depth: 0,
+    };
+    let value = expr(&setting, &mut scope, nodes, value)?;
+    write_field(&setting, nodes, name.span, name, value)
+}
+
+// These, and more behind them.
+fn append(first: List<u32>, more: &[u32]) -> Result<List<u32>, AllocError>
+    ensures { IfOk result (λ all. all ≡ first ++ more.now) }
+{
+    let mut all = first;
+    for x in more {
+        all.push(*x)?;
+    }
+    Ok(all)
+}
+
+// Puts the sequence of a body whose items have nodes, and the body.
+#[tactic(auto, unfolding(crate::specs::Closing::body_closes))]
+fn close_body(
+    setting: &Setting,
+    nodes: &mut List<Node>,
+    name: Span,
+    span: Span,
+    items: List<u32>,
+) -> Result<u32, EmitStop>
+    ensures { Gives result nodes.new (body_closes setting.now.number setting.now.depth name span items nodes.old) }
+{
+    let seq = close_sequence(setting, nodes, span, items)?;
+    single(setting, nodes, NodeKind::Body, name, seq)
+}

@@ -1,0 +1,267 @@
+//! How a chain of suffixes begins, and what its suffixes serve.
+ghost use Rattle.std.specs.Prelude.{◌≡◌, ◌<◌, ◌≤◌, ◌^◌, length, map, drop, slice_get, Some, if◌then◌else◌};
+ghost use Rattle.pc_emit.specs.declared.chains.Beginning.TheVariants as beginnings;
+ghost use Rattle.pc_tree.specs.View.{expr_view, suffix_view};
+ghost use Rattle.pc_body_spec.specs.Expressions.{start_of, start_with_name, with_type, with_method};
+ghost use Rattle.pc_body_spec.specs.Scopes.{resolve, type_meaning, created, primitive, constructor_named as constructor_in};
+ghost use Rattle.pc_emit.specs.Closing as spec;
+ghost use Rattle.pc_emit.specs.Closing.{Begins, IsCut, IsBefore, IsSplit, taken};
+
+use crate::names::object_kind;
+use pc_caps::Span;
+use pc_core::NodeKind;
+use pc_resolve::{Constructor, Context, Meaning, TypeMeaning, Visible, constructor_named};
+use pc_tree::{Expr, Name, Suffix};
+
+/// What the first arguments of a chain make with the atom and the suffixes before them.
+#[derive(Drop)]
+pub(crate) enum First {
+    /// A node of this kind, whose children are the arguments: a new object, or the value of a primitive.
+    Made(NodeKind),
+    /// A call of the method with this text on `this`, which stands at this place.
+    OnThis(u32, Span),
+    /// What stands for a missing constructor.
+    Missing,
+}
+
+/// How a chain begins.
+#[derive(Drop)]
+pub(crate) enum Beginning {
+    /// With the value of the atom.
+    Value,
+    /// With what the arguments at this place among the suffixes make.
+    With(First, usize),
+}
+
+/// How many suffixes belong to the beginning.
+pub(crate) fn count_taken(beginning: &Beginning) -> usize
+    requires { taken beginning.now < 2 ^ 64 }
+    ensures { result ≡ taken beginning.now }
+{
+    match beginning {
+        Beginning::Value => 0,
+        Beginning::With(_, at) => *at + 1,
+    }
+}
+
+/// How a chain of this atom and these suffixes begins.
+pub(crate) fn begin(
+    context: &Context,
+    scope: &[Visible],
+    head: &Expr,
+    suffixes: &[Suffix],
+) -> Beginning
+    ensures begins { Begins context.now (start_of context.now scope.now (expr_view head.now)) (map suffix_view suffixes.now) result }
+    ensures within { taken result ≤ length suffixes.now }
+{
+    match head {
+        Expr::Name(name) => begin_with_name(context, scope, name, suffixes),
+        Expr::TypeName(name) => begin_with_type(context, name, suffixes),
+        _ => Beginning::Value,
+    }
+}
+
+// With a bare name, which may be that of a method.
+fn begin_with_name(
+    context: &Context,
+    scope: &[Visible],
+    name: &Name,
+    suffixes: &[Suffix],
+) -> Beginning
+    ensures begins { Begins context.now (start_with_name name.now (resolve context.now scope.now name.now.text)) (map suffix_view suffixes.now) result }
+    ensures within { taken result ≤ length suffixes.now }
+{
+    match context.resolve(scope, name.text.as_slice()) {
+        Meaning::Method => begin_with_method(context, name, suffixes),
+        Meaning::Local(_) | Meaning::Field | Meaning::Nothing => Beginning::Value,
+    }
+}
+
+// With the bare name of a method, which is called where arguments follow it.
+fn begin_with_method(context: &Context, name: &Name, suffixes: &[Suffix]) -> Beginning
+    ensures begins { Begins context.now (with_method name.now) (map suffix_view suffixes.now) result }
+    ensures within { taken result ≤ length suffixes.now }
+{
+    if has_args(suffixes, 0) {
+        let text = context.text_of(name.text.as_slice());
+        Beginning::With(First::OnThis(text, name.span), 0)
+    } else {
+        Beginning::Value
+    }
+}
+
+// With a type name.
+fn begin_with_type(context: &Context, name: &Name, suffixes: &[Suffix]) -> Beginning
+    ensures begins { Begins context.now (with_type (type_meaning context.now name.now.text)) (map suffix_view suffixes.now) result }
+    ensures within { taken result ≤ length suffixes.now }
+{
+    match context.type_meaning(name.text.as_slice()) {
+        TypeMeaning::Primitive(entity) => begin_with_primitive(context, entity, suffixes),
+        TypeMeaning::Created {
+            actor,
+            constructors,
+        } => begin_with_object(context, actor, constructors, suffixes),
+        TypeMeaning::NoValue => Beginning::Value,
+    }
+}
+
+// With a primitive's value, which may have `()` behind its name.
+fn begin_with_primitive(context: &Context, entity: u32, suffixes: &[Suffix]) -> Beginning
+    ensures begins { Begins context.now (with_type (primitive entity)) (map suffix_view suffixes.now) result }
+    ensures within { taken result ≤ length suffixes.now }
+{
+    if has_no_arguments(suffixes) {
+        Beginning::With(First::Made(NodeKind::Prim(entity)), 0)
+    } else {
+        Beginning::Value
+    }
+}
+
+// With the name of a class or an actor, which calls a constructor where arguments follow it, or a name and arguments.
+fn begin_with_object(
+    context: &Context,
+    actor: bool,
+    constructors: &[Constructor],
+    suffixes: &[Suffix],
+) -> Beginning
+    ensures begins { Begins context.now (with_type (created actor constructors.now)) (map suffix_view suffixes.now) result }
+    ensures within { taken result ≤ length suffixes.now }
+{
+    let Some(first) = suffixes.first() else {
+        return Beginning::Value;
+    };
+    match first {
+        Suffix::Args { .. } => begin_object(actor, constructors, b"create", 0),
+        Suffix::Dot(name) => begin_behind_name(actor, constructors, name, suffixes),
+    }
+}
+
+// With the name of a class or an actor, and the name of a constructor behind it, where arguments follow.
+fn begin_behind_name(
+    actor: bool,
+    constructors: &[Constructor],
+    name: &Name,
+    suffixes: &[Suffix],
+) -> Beginning
+    ensures { result ≡ if spec.is_args (slice_get (map suffix_view suffixes.now) 1) then spec.object actor (constructor_in constructors.now name.now.text) 1 else beginnings.Value }
+{
+    if has_args(suffixes, 1) {
+        begin_object(actor, constructors, name.text.as_slice(), 1)
+    } else {
+        Beginning::Value
+    }
+}
+
+// Whether the suffix at this place is arguments.
+fn has_args(suffixes: &[Suffix], at: usize) -> bool
+    ensures { result ≡ spec.is_args (slice_get (map suffix_view suffixes.now) at) }
+{
+    match suffixes.get(at) {
+        Some(suffix) => is_args(suffix),
+        None => false,
+    }
+}
+
+fn is_args(suffix: &Suffix) -> bool
+    ensures { result ≡ spec.is_args (Some (suffix_view suffix.now)) }
+{
+    match suffix {
+        Suffix::Dot(_) => false,
+        Suffix::Args { .. } => true,
+    }
+}
+
+// Whether the first suffix is `()`.
+fn has_no_arguments(suffixes: &[Suffix]) -> bool
+    ensures { result ≡ spec.is_empty_args (slice_get (map suffix_view suffixes.now) 0) }
+{
+    match suffixes.first() {
+        Some(suffix) => is_empty_args(suffix),
+        None => false,
+    }
+}
+
+fn is_empty_args(suffix: &Suffix) -> bool
+    ensures { result ≡ spec.is_empty_args (Some (suffix_view suffix.now)) }
+{
+    match suffix {
+        Suffix::Dot(_) => false,
+        Suffix::Args { args, .. } => args.is_empty(),
+    }
+}
+
+// With a new object by the constructor of this name.
+fn begin_object(actor: bool, constructors: &[Constructor], name: &[u8], at: usize) -> Beginning
+    ensures { result ≡ spec.object actor (constructor_in constructors.now name.now) at }
+{
+    match constructor_named(constructors, name) {
+        Some(method) => Beginning::With(First::Made(object_kind(actor, method)), at),
+        None => Beginning::With(First::Missing, at),
+    }
+}
+
+/// The suffixes from this place on.
+pub(crate) fn behind(suffixes: &[Suffix], first: usize) -> &[Suffix]
+    requires { first ≤ length suffixes.now }
+    ensures { result.now ≡ drop first suffixes.now }
+{
+    &suffixes[first..]
+}
+
+/// The number of the text that the last of the first `left` suffixes serves, and how many suffixes stand before it: a
+/// name with arguments directly behind it is one call.
+pub(crate) fn cut(context: &Context, suffixes: &[Suffix], left: usize) -> (u32, usize)
+    requires some { 0 < left }
+    requires within { left ≤ length suffixes.now }
+    ensures less { result.1 < left }
+    ensures cut { IsCut context.now (map suffix_view suffixes.now) left result.0 result.1 }
+{
+    match &suffixes[left - 1] {
+        Suffix::Dot(name) => (context.text_of(name.text.as_slice()), left - 1),
+        Suffix::Args { .. } => cut_args(context, suffixes, left - 1),
+    }
+}
+
+// The number of the text that arguments behind the first `left` suffixes serve, and how many suffixes stand before it.
+fn cut_args(context: &Context, suffixes: &[Suffix], left: usize) -> (u32, usize)
+    requires within { left ≤ length suffixes.now }
+    ensures less { result.1 ≤ left }
+    ensures cut { IsBefore context.now (map suffix_view suffixes.now) left result.0 result.1 }
+{
+    if left == 0 {
+        return (context.text_of(b"apply"), 0);
+    }
+    match &suffixes[left - 1] {
+        Suffix::Dot(name) => (context.text_of(name.text.as_slice()), left - 1),
+        Suffix::Args { .. } => (context.text_of(b"apply"), left),
+    }
+}
+
+/// The number of the text of the field that a chain ends with, and how many suffixes stand before it; or all of them where
+/// it ends otherwise.
+pub(crate) fn split_field(context: &Context, suffixes: &[Suffix]) -> (Option<u32>, usize)
+    ensures within { result.1 ≤ length suffixes.now }
+    ensures split { IsSplit context.now (map suffix_view suffixes.now) result.0 result.1 }
+{
+    let count = suffixes.len();
+    if count == 0 {
+        return (None, 0);
+    }
+    match &suffixes[count - 1] {
+        Suffix::Dot(name) => (Some(context.text_of(name.text.as_slice())), count - 1),
+        Suffix::Args { .. } => (None, count),
+    }
+}
+
+/// Whether what is written to is a bare name of no local, parameter or field.
+pub(crate) fn is_missing(context: &Context, scope: &[Visible], left: &Expr) -> bool
+    ensures { result ≡ spec.is_missing context.now scope.now (expr_view left.now) }
+{
+    match left {
+        Expr::Name(name) => matches!(
+            context.resolve(scope, name.text.as_slice()),
+            Meaning::Method | Meaning::Nothing
+        ),
+        _ => false,
+    }
+}

@@ -1,0 +1,154 @@
+//! The nodes of names and texts that stand alone.
+ghost use Rattle.std.specs.Prelude.{◌≡◌, ◌∷◌, [], if◌then◌else◌};
+ghost use Rattle.pc_core.specs.declared.nodes.NodeKind.TheVariants as kinds;
+ghost use Rattle.pc_body_spec.specs.Roses as roses;
+ghost use Rattle.pc_body_spec.specs.Roses.{put};
+ghost use Rattle.pc_body_spec.specs.Scopes.{resolve, type_meaning, slot_of as slot_in, constructor_named as constructor_in, text_of as text_in};
+ghost use Rattle.pc_body_spec.specs.Expressions as spec;
+ghost use Rattle.pc_emit.specs.Giving.{Gives};
+ghost use Rattle.pc_emit.specs.Closing.{name_closes};
+
+use crate::nodes::{double, gap, leaf, single};
+use crate::setting::Setting;
+use crate::stop::EmitStop;
+use pc_caps::{List, Span};
+use pc_core::{Node, NodeKind};
+use pc_resolve::{Constructor, Meaning, TypeMeaning, Visible, constructor_named, slot_of};
+use pc_tree::Name;
+
+/// A bare name that is read.
+pub(crate) fn read_name(
+    setting: &Setting,
+    scope: &[Visible],
+    nodes: &mut List<Node>,
+    name: &Name,
+) -> Result<u32, EmitStop>
+    ensures { Gives result nodes.new (put setting.now.number (spec.read_name setting.now.context.now name.now setting.now.depth (resolve setting.now.context.now scope.now name.now.text)) nodes.old) }
+{
+    match setting.context.resolve(scope, name.text.as_slice()) {
+        Meaning::Local(slot) => leaf(setting, nodes, NodeKind::Local(slot), name.span),
+        Meaning::Field => read_field(setting, nodes, name),
+        Meaning::Method | Meaning::Nothing => gap(setting, nodes, name.span),
+    }
+}
+
+// A field of `this` that is read.
+fn read_field(setting: &Setting, nodes: &mut List<Node>, name: &Name) -> Result<u32, EmitStop>
+    ensures { Gives result nodes.new (put setting.now.number (spec.read_field setting.now.context.now name.now.span name.now setting.now.depth (spec.added_this name.now setting.now.depth)) nodes.old) }
+{
+    let this = leaf(setting, nodes, NodeKind::This, name.span)?;
+    let kind = NodeKind::Field(setting.context.text_of(name.text.as_slice()));
+    single(setting, nodes, kind, name.span, this)
+}
+
+/// A bare name that something has, and to which this value is written.
+#[tactic(auto, unfolding(crate::specs::Closing::name_closes))]
+pub(crate) fn write_name(
+    setting: &Setting,
+    scope: &[Visible],
+    nodes: &mut List<Node>,
+    span: Span,
+    name: &Name,
+    value: u32,
+) -> Result<u32, EmitStop>
+    ensures { Gives result nodes.new (name_closes setting.now.context.now setting.now.number setting.now.depth span name.now (resolve setting.now.context.now scope.now name.now.text) value nodes.old) }
+{
+    match setting.context.resolve(scope, name.text.as_slice()) {
+        Meaning::Local(slot) => single(setting, nodes, NodeKind::Assign(slot), span, value),
+        Meaning::Field | Meaning::Method | Meaning::Nothing => {
+            write_field(setting, nodes, span, name, value)
+        }
+    }
+}
+
+/// A field of `this` that is written, at this place and with this value.
+pub(crate) fn write_field(
+    setting: &Setting,
+    nodes: &mut List<Node>,
+    span: Span,
+    name: &Name,
+    value: u32,
+) -> Result<u32, EmitStop>
+    ensures { Gives result nodes.new (roses.and_then (roses.push setting.now.number kinds.This name.now.span setting.now.depth [] nodes.old) (λ this. roses.push setting.now.number (kinds.SetField (text_in setting.now.context.now name.now.text)) span setting.now.depth (value ∷ this ∷ []))) }
+{
+    let this = leaf(setting, nodes, NodeKind::This, name.span)?;
+    let kind = NodeKind::SetField(setting.context.text_of(name.text.as_slice()));
+    double(setting, nodes, kind, span, value, this)
+}
+
+/// A text.
+pub(crate) fn read_text(
+    setting: &Setting,
+    nodes: &mut List<Node>,
+    bytes: &[u8],
+    span: Span,
+) -> Result<u32, EmitStop>
+    ensures { Gives result nodes.new (put setting.now.number (roses.leaf (kinds.Text bytes.now) span setting.now.depth) nodes.old) }
+{
+    let bytes = List::from_slice(setting.alloc, bytes)?;
+    leaf(setting, nodes, NodeKind::Text(bytes), span)
+}
+
+/// A type name that no suffix follows.
+pub(crate) fn read_type(
+    setting: &Setting,
+    nodes: &mut List<Node>,
+    name: &Name,
+) -> Result<u32, EmitStop>
+    ensures { Gives result nodes.new (put setting.now.number (spec.read_type name.now setting.now.depth (type_meaning setting.now.context.now name.now.text)) nodes.old) }
+{
+    match setting.context.type_meaning(name.text.as_slice()) {
+        TypeMeaning::Primitive(entity) => {
+            let kind = NodeKind::Prim(entity);
+            leaf(setting, nodes, kind, name.span)
+        }
+        TypeMeaning::Created {
+            actor,
+            constructors,
+        } => create(setting, nodes, name.span, actor, constructors),
+        TypeMeaning::NoValue => gap(setting, nodes, name.span),
+    }
+}
+
+// A new object by `create`, without arguments.
+fn create(
+    setting: &Setting,
+    nodes: &mut List<Node>,
+    span: Span,
+    actor: bool,
+    constructors: &[Constructor],
+) -> Result<u32, EmitStop>
+    ensures { Gives result nodes.new (put setting.now.number (spec.new_object actor span setting.now.depth roses.no_roses (constructor_in constructors.now spec.create_name)) nodes.old) }
+{
+    match constructor_named(constructors, b"create") {
+        Some(method) => leaf(setting, nodes, object_kind(actor, method), span),
+        None => gap(setting, nodes, span),
+    }
+}
+
+/// The kind of a new object by this constructor: of an actor, or of a class.
+pub(crate) fn object_kind(actor: bool, method: u32) -> NodeKind
+    ensures { result ≡ if actor then kinds.Spawn method else kinds.New method }
+{
+    if actor {
+        NodeKind::Spawn(method)
+    } else {
+        NodeKind::New(method)
+    }
+}
+
+/// `consume` of a local or parameter.
+pub(crate) fn consume(
+    setting: &Setting,
+    scope: &[Visible],
+    nodes: &mut List<Node>,
+    name: &Name,
+    span: Span,
+) -> Result<u32, EmitStop>
+    ensures { Gives result nodes.new (put setting.now.number (spec.consumed span setting.now.depth (slot_in scope.now name.now.text)) nodes.old) }
+{
+    match slot_of(scope, name.text.as_slice()) {
+        Some(slot) => leaf(setting, nodes, NodeKind::Consume(slot), span),
+        None => gap(setting, nodes, span),
+    }
+}

@@ -1,0 +1,156 @@
+//! Single nodes, and the places at which they stand.
+ghost use Rattle.std.specs.Prelude.{◌≡◌, ◌∷◌, [], ◌++◌, IfOk};
+ghost use Rattle.pc_tree.specs.Tree as tree;
+ghost use Rattle.pc_tree.specs.View.{expr_view};
+ghost use Rattle.pc_body_spec.specs.Roses as roses;
+ghost use Rattle.pc_body_spec.specs.Expressions as spec;
+ghost use Rattle.pc_emit.specs.Giving.{Gives};
+
+use crate::setting::Setting;
+use crate::stop::EmitStop;
+use pc_caps::{List, Span};
+use pc_core::{Node, NodeKind};
+use pc_tree::{Expr, Op};
+use std::alloc::{AllocError, Global};
+
+/// How many nodes a program may have.
+const NODE_LIMIT: usize = 200_000;
+
+/// Puts a node of this method behind the others. Its number is its place.
+#[tactic(auto, unfolding(pc_body_spec::specs::Roses::push))]
+pub(crate) fn push(
+    setting: &Setting,
+    nodes: &mut List<Node>,
+    kind: NodeKind,
+    span: Span,
+    children: List<u32>,
+) -> Result<u32, EmitStop>
+    ensures { Gives result nodes.new (roses.push setting.now.number kind span setting.now.depth children nodes.old) }
+{
+    let place = nodes.len();
+    if place >= NODE_LIMIT {
+        return Err(EmitStop::Full);
+    }
+    nodes.push(Node {
+        kind,
+        children,
+        depth: setting.depth,
+        method: setting.number,
+        span,
+    })?;
+    Ok(place as u32)
+}
+
+/// Puts a node without children.
+pub(crate) fn leaf(
+    setting: &Setting,
+    nodes: &mut List<Node>,
+    kind: NodeKind,
+    span: Span,
+) -> Result<u32, EmitStop>
+    ensures { Gives result nodes.new (roses.push setting.now.number kind span setting.now.depth [] nodes.old) }
+{
+    push(setting, nodes, kind, span, List::new(setting.alloc))
+}
+
+/// Puts a node with one child.
+pub(crate) fn single(
+    setting: &Setting,
+    nodes: &mut List<Node>,
+    kind: NodeKind,
+    span: Span,
+    child: u32,
+) -> Result<u32, EmitStop>
+    ensures { Gives result nodes.new (roses.push setting.now.number kind span setting.now.depth (child ∷ []) nodes.old) }
+{
+    let children = one(setting.alloc, child)?;
+    push(setting, nodes, kind, span, children)
+}
+
+/// Puts a node with two children.
+pub(crate) fn double(
+    setting: &Setting,
+    nodes: &mut List<Node>,
+    kind: NodeKind,
+    span: Span,
+    first: u32,
+    second: u32,
+) -> Result<u32, EmitStop>
+    ensures { Gives result nodes.new (roses.push setting.now.number kind span setting.now.depth (first ∷ second ∷ []) nodes.old) }
+{
+    let mut children = one(setting.alloc, first)?;
+    children.push(second)?;
+    push(setting, nodes, kind, span, children)
+}
+
+/// Puts what stands for a missing name.
+pub(crate) fn gap(setting: &Setting, nodes: &mut List<Node>, span: Span) -> Result<u32, EmitStop>
+    ensures { Gives result nodes.new (roses.put setting.now.number (spec.gap span setting.now.depth) nodes.old) }
+{
+    let this = leaf(setting, nodes, NodeKind::This, span)?;
+    single(setting, nodes, NodeKind::Body, span, this)
+}
+
+/// A list of one number.
+pub(crate) fn one(alloc: Global, child: u32) -> Result<List<u32>, AllocError>
+    ensures { IfOk result (λ l. l ≡ child ∷ []) }
+{
+    let mut children = List::new(alloc);
+    children.push(child)?;
+    Ok(children)
+}
+
+/// From the start of the first to the end of the second.
+pub(crate) fn join(a: Span, b: Span) -> Span
+    ensures { result ≡ spec.join a b }
+{
+    Span {
+        start: a.start,
+        end: b.end,
+    }
+}
+
+/// The word `end` of an `if`.
+pub(crate) fn end_word(span: Span) -> Span
+    ensures { result ≡ spec.end_word span }
+{
+    Span {
+        start: span.end.saturating_sub(3),
+        end: span.end,
+    }
+}
+
+/// Where an expression stands.
+pub(crate) fn span_of(e: &Expr) -> Span
+    ensures { result ≡ tree.span_of (expr_view e.now) }
+{
+    match e {
+        Expr::Name(name) | Expr::TypeName(name) => name.span,
+        Expr::This(span) => *span,
+        Expr::Number { span, .. }
+        | Expr::Truth { span, .. }
+        | Expr::Text { span, .. }
+        | Expr::Consume { span, .. }
+        | Expr::Not { span, .. }
+        | Expr::Infix { span, .. }
+        | Expr::Chain { span, .. }
+        | Expr::Group { span, .. }
+        | Expr::If { span, .. }
+        | Expr::While { span, .. }
+        | Expr::Recover { span, .. }
+        | Expr::Assign { span, .. } => *span,
+    }
+}
+
+/// The kind of an operation.
+pub(crate) fn operation(op: Op) -> NodeKind
+    ensures { result ≡ spec.operation op }
+{
+    match op {
+        Op::And => NodeKind::And,
+        Op::Or => NodeKind::Or,
+        Op::Is => NodeKind::Same(true),
+        Op::Isnt => NodeKind::Same(false),
+        _ => NodeKind::Binary(op),
+    }
+}

@@ -1,0 +1,171 @@
+//! Nodes that wait for the number of a part.
+ghost use Rattle.std.specs.Prelude.{◌≡◌, ◌∷◌, []};
+ghost use Rattle.pc_body_spec.specs.Roses as roses;
+ghost use Rattle.pc_emit.specs.Giving.{Gives};
+ghost use Rattle.pc_emit.specs.Closing.{closing, arm_closes, link_closes, none_closes, seq_closes, this_closes, written_kind};
+
+use crate::nodes::{double, leaf, one, push, single};
+use crate::setting::Setting;
+use crate::stop::EmitStop;
+use pc_caps::{List, Span};
+use pc_core::{Node, NodeKind};
+
+/// The arm of an `if` whose condition and body have nodes. It waits for what is done else.
+#[derive(Drop)]
+pub(crate) struct OpenArm {
+    pub(crate) cond: u32,
+    pub(crate) body: u32,
+    /// Whether it is the first arm: each other one stands in a sequence of its own.
+    pub(crate) first: bool,
+    pub(crate) span: Span,
+}
+
+/// A suffix whose arguments have nodes. It waits for what stands before it.
+#[derive(Drop)]
+pub(crate) struct Link {
+    pub(crate) kind: NodeKind,
+    pub(crate) span: Span,
+    pub(crate) args: List<u32>,
+}
+
+/// A chain whose suffixes have their arguments. They wait for what begins the chain.
+#[derive(Drop)]
+pub(crate) struct OpenChain {
+    pub(crate) links: List<Link>,
+    /// The number of what begins the chain, where arguments belong to that. Else it begins with its atom.
+    pub(crate) origin: Option<u32>,
+}
+
+/// Puts the nodes of the arms around the last `else`, from the last arm on.
+#[tactic(auto, using(crate::proofs::Walks::closing_last))]
+pub(crate) fn close_arms(
+    setting: &Setting,
+    nodes: &mut List<Node>,
+    arms: List<OpenArm>,
+    last: u32,
+) -> Result<u32, EmitStop>
+    ensures { Gives result nodes.new (closing (arm_closes setting.now.number setting.now.depth) arms last nodes.old) }
+{
+    let mut arms = arms;
+    let mut top = last;
+    'close: while let Some(arm) = arms.pop() {
+        top = close_arm(setting, nodes, arm, top)?;
+    }
+    Ok(top)
+}
+
+// Puts the node of an arm around what is done else.
+#[tactic(auto, unfolding(crate::specs::Closing::arm_closes))]
+fn close_arm(
+    setting: &Setting,
+    nodes: &mut List<Node>,
+    arm: OpenArm,
+    other: u32,
+) -> Result<u32, EmitStop>
+    ensures { Gives result nodes.new (arm_closes setting.now.number setting.now.depth arm other nodes.old) }
+{
+    let mut children = one(setting.alloc, arm.cond)?;
+    children.push(arm.body)?;
+    children.push(other)?;
+    let chosen = push(setting, nodes, NodeKind::If, arm.span, children)?;
+    if arm.first {
+        return Ok(chosen);
+    }
+    single(setting, nodes, NodeKind::Seq, arm.span, chosen)
+}
+
+/// Puts the nodes of the suffixes behind what begins the chain, from the first suffix on.
+#[tactic(auto, using(crate::proofs::Walks::closing_last), unfolding(crate::specs::Closing::link_closes))]
+pub(crate) fn close_links(
+    setting: &Setting,
+    nodes: &mut List<Node>,
+    links: List<Link>,
+    origin: u32,
+) -> Result<u32, EmitStop>
+    ensures { Gives result nodes.new (closing (link_closes setting.now.number setting.now.depth) links origin nodes.old) }
+{
+    let mut links = links;
+    let mut top = origin;
+    'close: while let Some(link) = links.pop() {
+        let mut children = link.args;
+        children.push(top)?;
+        top = push(setting, nodes, link.kind, link.span, children)?;
+    }
+    Ok(top)
+}
+
+/// Puts the node of what is written at the end of a chain, behind the nodes of the chain.
+pub(crate) fn close_write(
+    setting: &Setting,
+    nodes: &mut List<Node>,
+    span: Span,
+    field: Option<u32>,
+    links: List<Link>,
+    origin: u32,
+    value: u32,
+) -> Result<u32, EmitStop>
+    ensures { Gives result nodes.new (roses.and_then (closing (link_closes setting.now.number setting.now.depth) links origin nodes.old) (λ top. roses.push setting.now.number (written_kind field) span setting.now.depth (value ∷ top ∷ []))) }
+{
+    let top = close_links(setting, nodes, links, origin)?;
+    let kind = written(field);
+    double(setting, nodes, kind, span, value, top)
+}
+
+// The kind of what is written to this field, or to what is no field.
+fn written(field: Option<u32>) -> NodeKind
+    ensures { result ≡ written_kind field }
+{
+    match field {
+        Some(text) => NodeKind::SetField(text),
+        None => NodeKind::Seq,
+    }
+}
+
+/// Puts a call on `this`, which stands at this place, behind the nodes of the arguments.
+#[tactic(auto, unfolding(crate::specs::Closing::this_closes))]
+pub(crate) fn call_this(
+    setting: &Setting,
+    nodes: &mut List<Node>,
+    span: Span,
+    text: u32,
+    place: Span,
+    args: List<u32>,
+) -> Result<u32, EmitStop>
+    ensures { Gives result nodes.new (this_closes setting.now.number setting.now.depth span text place args nodes.old) }
+{
+    let this = leaf(setting, nodes, NodeKind::This, place)?;
+    let mut children = args;
+    children.push(this)?;
+    push(setting, nodes, NodeKind::Call(text), span, children)
+}
+
+// The items of a sequence, or the value None where it has none.
+#[tactic(auto, unfolding(crate::specs::Closing::none_closes))]
+fn or_none(
+    setting: &Setting,
+    nodes: &mut List<Node>,
+    span: Span,
+    items: List<u32>,
+) -> Result<List<u32>, EmitStop>
+    ensures { Gives result nodes.new (none_closes setting.now.number setting.now.depth span items nodes.old) }
+{
+    if !items.is_empty() {
+        return Ok(items);
+    }
+    let none = leaf(setting, nodes, NodeKind::Prim(0), span)?;
+    Ok(one(setting.alloc, none)?)
+}
+
+/// Puts the node of a sequence whose items have nodes.
+#[tactic(auto, unfolding(crate::specs::Closing::seq_closes))]
+pub(crate) fn close_sequence(
+    setting: &Setting,
+    nodes: &mut List<Node>,
+    span: Span,
+    items: List<u32>,
+) -> Result<u32, EmitStop>
+    ensures { Gives result nodes.new (seq_closes setting.now.number setting.now.depth span items nodes.old) }
+{
+    let children = or_none(setting, nodes, span, items)?;
+    push(setting, nodes, NodeKind::Seq, span, children)
+}

@@ -1,0 +1,140 @@
+-- What a member declares fits.
+use Rattle.std.proofs.Common.{◌≡◌, ℕ, ◌+◌, ◌<◌, List, [], ◌++◌, length, Option, Some, None, Bool, true, false, refl, sym, ap, ◌∙◌, subst, arith, inl, inr}
+use Rattle.std.specs.Prelude.{◌⊎◌}
+use Rattle.std.proofs.lemmas.Option.{none-some}
+use Rattle.pc_caps.specs.declared.capability.Cap.{Cap}
+use Rattle.pc_caps.specs.declared.capability.Cap.TheVariants as cap
+use Rattle.pc_caps.specs.declared.capability.Form.{Form}
+use Rattle.pc_caps.specs.declared.capability.Form.TheVariants as form
+use Rattle.pc_tree.specs.declared.kinds.EntityKind.{EntityKind}
+use Rattle.pc_tree.specs.declared.kinds.EntityKind.TheVariants as kind
+use Rattle.pc_tree.specs.declared.kinds.MethodWord.{MethodWord}
+use Rattle.pc_tree.specs.declared.kinds.MethodWord.TheVariants as word
+use Rattle.pc_tree.specs.declared.names.TypeRef.{TypeRef}
+use Rattle.pc_tree.specs.Kinds.{is_abstract, may_stand, BodyUnless, HasBody}
+use Rattle.pc_tree.specs.Tree as t
+use Rattle.pc_tree.proofs.KindFacts.{no_new}
+use Rattle.pc_core.specs.declared.declarations.Method.{Method}
+use Rattle.pc_core.specs.declared.declarations.ParamInfo.{ParamInfo}
+use Rattle.pc_core.specs.Methods.{constructor_kind, word_kind, StandsIn, ResultFits}
+use Rattle.pc_lists.specs.Places.{Each, Has}
+use Rattle.pc_lists.proofs.Gets.{map_get}
+use Rattle.pc_names.specs.Words.{entity_names}
+use Rattle.pc_names.specs.Chains.{first_own}
+use Rattle.pc_lists.proofs.Bools.{true_false}
+use Rattle.pc_body_spec.specs.Roses.{Rose}
+use Rattle.pc_body_spec.specs.Scopes.{Context, Known}
+use Rattle.pc_body_spec.specs.Bodies.{maybe_body, initial_fields}
+use Rattle.pc_body_spec.specs.Slots.{cap_or, initial_locals, body_locals}
+use Rattle.pc_file_spec.specs.Members.{Member, written, added}
+use Rattle.pc_file_spec.specs.Known.{known_of}
+use Rattle.pc_file_spec.specs.Signatures.{param_of, params_of, kind_of, word_receiver, receiver_of, written_result, object_of, word_result, result_of, locals_of}
+use Rattle.pc_file_spec.specs.Order.{InOrder, InPlace}
+use Rattle.pc_file_spec.proofs.Steps.{member_rose}
+use Rattle.pc_file_spec.proofs.Collects.{Collects, TypesAre, IsType}
+use Rattle.pc_file_spec.proofs.Origins.{Origin, Sort, added_kind}
+use Rattle.pc_file_spec.proofs.Types.{type_below}
+use Rattle.pc_file_spec.proofs.Definitions.{MemberOrder}
+
+-- ---- where methods stand
+
+abbrev Placed : t.Entity → Member → Type 0
+Placed e (written x) = (may_stand e.kind x.word ≡ true) × HasBody e.kind x.body
+Placed e added = (e.kind ≡ kind.Class) ⊎ (e.kind ≡ kind.Actor)
+
+pub placed_of : (file : t.File) (e : t.Entity) (m : Member) → InPlace file → Sort file e m → Placed e m
+placed_of file e (written x) p o =
+    let there = (p o.origin o.is_entity).1 x o.is_method in
+    (sym (o.holds x.word) ∙ there.0, subst (λ b. BodyUnless b x.body) o.abstract there.1)
+placed_of file e added p h = added_kind e h
+
+pub member_stands : (e : t.Entity) (m : Member) → Placed e m → StandsIn (kind_of e.kind m) e.kind
+member_stands e (written x) p = (x.word, p.0, refl)
+member_stands e added (inl h) = (word.New, ap (λ k. may_stand k word.New) h, refl)
+member_stands e added (inr h) = (word.New, ap (λ k. may_stand k word.New) h, refl)
+
+-- ---- bodies
+
+-- A member without a body is that of a trait or an interface, and has no locals.
+no_locals : (k : EntityKind) (fs : List t.Field) (w : MethodWord) → is_abstract k ≡ true → may_stand k w ≡ true → initial_locals (initial_fields w fs) ≡ []
+no_locals k fs word.Fun e h = refl
+no_locals k fs word.Be e h = refl
+no_locals k fs word.New e h = absurd (true_false (sym h ∙ no_new k e))
+
+only_abstract : (b : Bool) → BodyUnless b None → b ≡ true
+only_abstract true h = refl
+only_abstract false h = absurd h
+
+no_seq : (c : Context) (fs : List t.Field) (x : t.Method) (o : Option t.Seq) → maybe_body c fs x o ≡ None → o ≡ None
+no_seq c fs x None h = refl
+no_seq c fs x (Some b) h = absurd (none-some _ (sym h))
+
+pub bodiless : (c : Context) (e : t.Entity) (m : Member) → Placed e m → member_rose c e m ≡ None → (is_abstract e.kind ≡ true) × (locals_of e m ≡ [])
+bodiless c e added p h = absurd (none-some _ (sym h))
+bodiless c e (written x) p h =
+    let none : x.body ≡ None = no_seq c e.fields x x.body h in
+    let is : is_abstract e.kind ≡ true = only_abstract (is_abstract e.kind) (subst (HasBody e.kind) none p.1) in
+    (is, ap (λ ls. ls ++ body_locals x.body) (no_locals e.kind e.fields x.word is p.0) ∙ ap body_locals none)
+
+no_body : (k : EntityKind) (b : Option t.Seq) → is_abstract k ≡ true → HasBody k b → b ≡ None
+no_body k b h p = subst (λ x. BodyUnless x b) h p
+
+-- A member with a body has its names in the order of the text.
+pub member_order : (file : t.File) (c : Context) (e : t.Entity) (m : Member) (r : Rose) → InOrder file → InPlace file → Has file.entities e → Sort file e m → member_rose c e m ≡ Some r → MemberOrder e m
+member_order file c e added r o p he h is = (o e he).0
+member_order file c e (written x) r o p he s is = by (is_abstract e.kind) refl
+  where
+    by : (b : Bool) → is_abstract e.kind ≡ b → MemberOrder e (written x)
+    by false d = subst (λ f. MemberOrder f (written x)) (s.own d) ((o s.origin s.is_entity).1 x s.is_method)
+    by true d =
+        let none : x.body ≡ None = no_body e.kind x.body d (placed_of file e (written x) p s).1 in
+        absurd (none-some r (sym (ap (maybe_body c e.fields x) none) ∙ is))
+
+-- ---- types
+
+pub types_are : (file : t.File) (above : List (List ℕ)) (e : t.Entity) (x : t.Method) → Collects file above → Origin file e x → TypesAre (entity_names file) x
+types_are file above e x c o = (c.sound o.origin o.is_entity).methods x o.is_method
+
+pub params_below : (file : t.File) (above : List (List ℕ)) (e : t.Entity) (m : Member) → Collects file above → Sort file e m → Each (λ i p. p.entity < first_own + length file.entities) (params_of (known_of file) m)
+params_below file above e added c s i p h = absurd (none-some p h)
+params_below file above e (written x) c s i p h =
+    let r = map_get (param_of (known_of file)) x.params i p h in
+    subst (λ (y : ParamInfo). y.entity < first_own + length file.entities) r.2 (type_below file r.0.ty ((types_are file above e x c s).params r.0 (i, r.1)))
+
+result_below : (file : t.File) (r : Option TypeRef) → ((ty : TypeRef) → r ≡ Some ty → IsType (entity_names file) ty) → (written_result (known_of file) r).0 < first_own + length file.entities
+result_below file None h = omega arith
+result_below file (Some ty) h = type_below file ty (h ty refl)
+
+object_below : (k : EntityKind) (n all : ℕ) (c : Cap) → n < all → (object_of k n c).0 < all
+object_below kind.Actor n all c l = l
+object_below kind.Class n all c l = l
+object_below kind.Primitive n all c l = l
+object_below kind.Trait n all c l = l
+object_below kind.Interface n all c l = l
+
+pub member_result : (file : t.File) (above : List (List ℕ)) (e : t.Entity) (n : ℕ) (m : Member) → Collects file above → Sort file e m → n < first_own + length file.entities → (result_of (known_of file) e.kind n m).0 < first_own + length file.entities
+member_result file above e n added c s l = object_below e.kind n (first_own + length file.entities) cap.Iso l
+member_result file above e n (written x) c s l = by x.word
+  where
+    by : (w : MethodWord) → (word_result (known_of file) e.kind n x w).0 < first_own + length file.entities
+    by word.Fun = result_below file x.result (types_are file above e x c s).result
+    by word.Be = omega arith
+    by word.New = object_below e.kind n (first_own + length file.entities) (cap_or x.cap cap.Ref) l
+
+-- ---- results
+
+object_fits : (k : EntityKind) (n : ℕ) (c : Cap) (x : Method) → x.receiver ≡ cap.Ref → x.entity ≡ n → x.result ≡ object_of k n c → ResultFits (constructor_kind k) x
+object_fits kind.Actor n c x r e o = (r, o ∙ ap (λ i. (i, form.Tag)) (sym e))
+object_fits kind.Class n c x r e o = (r, ap (λ (p : ℕ × Form). p.0) o ∙ sym e, (c, ap (λ (p : ℕ × Form). p.1) o))
+object_fits kind.Primitive n c x r e o = (r, ap (λ (p : ℕ × Form). p.0) o ∙ sym e, (c, ap (λ (p : ℕ × Form). p.1) o))
+object_fits kind.Trait n c x r e o = (r, ap (λ (p : ℕ × Form). p.0) o ∙ sym e, (c, ap (λ (p : ℕ × Form). p.1) o))
+object_fits kind.Interface n c x r e o = (r, ap (λ (p : ℕ × Form). p.0) o ∙ sym e, (c, ap (λ (p : ℕ × Form). p.1) o))
+
+word_fits : (entities : List Known) (k : EntityKind) (n : ℕ) (m : t.Method) (w : MethodWord) (x : Method) → x.receiver ≡ word_receiver w m.cap → x.entity ≡ n → x.result ≡ word_result entities k n m w → ResultFits (word_kind k w) x
+word_fits entities k n m word.Fun x r e o = tt
+word_fits entities k n m word.Be x r e o = (r, o)
+word_fits entities k n m word.New x r e o = object_fits k n (cap_or m.cap cap.Ref) x r e o
+
+pub member_fits : (entities : List Known) (k : EntityKind) (n : ℕ) (m : Member) (x : Method) → x.receiver ≡ receiver_of m → x.entity ≡ n → x.result ≡ result_of entities k n m → ResultFits (kind_of k m) x
+member_fits entities k n (written m) x r e o = word_fits entities k n m m.word x r e o
+member_fits entities k n added x r e o = object_fits k n cap.Iso x r e o

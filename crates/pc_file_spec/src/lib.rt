@@ -1,0 +1,14 @@
+//! Which core stands for a whole file. Definitions, and what is true of them.
+//!
+//! Proved: Which core stands for a file, as definitions. A file has one core or one fault (`cores_are_one`); its texts
+//! differ and each that is needed is there (`texts_are_there`); the core of a file whose parts stand where and in the
+//! order that the grammar has is formed (`cores_are_formed`). Two small files stand as written out by hand
+//! (`small_files_stand`).
+#![tactic(auto)]
+
+mod laws;
+
+pub use laws::{
+    cores_are_formed, cores_are_one, cores_are_small, small_files_stand, texts_are_there,
+    traits_inherit,
+};

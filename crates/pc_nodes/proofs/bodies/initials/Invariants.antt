@@ -1,9 +1,0 @@
-use Rattle.std.proofs.Common.{◌≡◌, drop, map}
-use Rattle.pc_tree.specs.View.{field_view}
-use Rattle.pc_stands.specs.Roses.{Roses, puts}
-use Rattle.pc_stands.specs.Bodies.{initials_then}
-use Rattle.pc_nodes.specs.Closing.{behind_tops}
-use Rattle.pc_nodes.proofs.bodies.initials.Given as goal
-
-abbrev pub invariant-loop-field : goal.invariant-loop-field
-invariant-loop-field l = (rest : Roses) → puts l.number (initials_then l.context (map field_view l.fields) rest) l.fn.nodes ≡ behind_tops l.tops (puts l.number (initials_then l.context (map field_view (drop l.field-index l.fields)) rest) l.nodes)

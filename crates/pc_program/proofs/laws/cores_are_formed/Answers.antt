@@ -1,5 +1,0 @@
-use Rattle.pc_program.proofs.Formation.{stands_is_formed}
-use Rattle.pc_program.proofs.laws.cores_are_formed.Goals as goal
-
-pub returns : goal.returns
-returns c = stands_is_formed

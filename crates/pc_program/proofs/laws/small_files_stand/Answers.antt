@@ -1,5 +1,0 @@
-use Rattle.pc_program.proofs.SmallCores.{first_stands, second_stands, third_is_refused}
-use Rattle.pc_program.proofs.laws.small_files_stand.Goals as goal
-
-pub returns : goal.returns
-returns c = record { first = first_stands; second = second_stands; third = third_is_refused }

@@ -1,5 +1,0 @@
-use Rattle.pc_program.proofs.Tables.{texts_there}
-use Rattle.pc_program.proofs.laws.texts_are_there.Goals as goal
-
-pub returns : goal.returns
-returns c = texts_there

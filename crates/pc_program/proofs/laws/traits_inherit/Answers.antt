@@ -1,6 +1,0 @@
-use Rattle.pc_program.proofs.Bounds.{traits_inherit, bound_is_enough}
-use Rattle.pc_program.proofs.Formation.{differ_in_entities}
-use Rattle.pc_program.proofs.laws.traits_inherit.Goals as goal
-
-pub returns : goal.returns
-returns c = record { names = traits_inherit; bound = bound_is_enough; differ = differ_in_entities }

@@ -1,0 +1,29 @@
+//! What the names in the body of a method mean, its first fault, its locals with their slots, and the names behind a `.`.
+//!
+//! Proved: What a name means in a body is exactly what the definitions say; `check` answers the first fault of a body,
+//! exactly; `locals` its locals and `add_texts` the names behind a `.`, in order; `slots` gives each local its slot.
+#![tactic(auto)]
+
+mod checks;
+mod context;
+mod definitions;
+mod dot_texts;
+mod fault;
+mod faults;
+mod local;
+mod meaning;
+mod params;
+mod placing;
+mod scope;
+mod starts;
+
+pub use context::{Constructor, Context, Known, Placed, constructor_named};
+pub use definitions::{added_locals, locals};
+pub use dot_texts::add_texts;
+pub use fault::BodyFault;
+pub use faults::{check, check_added};
+pub use local::Local;
+pub use meaning::{Meaning, TypeMeaning};
+pub use params::params_scope;
+pub use placing::slots;
+pub use scope::{Visible, slot_of};

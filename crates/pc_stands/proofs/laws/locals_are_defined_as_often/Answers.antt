@@ -1,5 +1,0 @@
-use Rattle.pc_stands.proofs.Counts.{defined_as_often}
-use Rattle.pc_stands.proofs.laws.locals_are_defined_as_often.Goals as goal
-
-pub returns : goal.returns
-returns c = defined_as_often

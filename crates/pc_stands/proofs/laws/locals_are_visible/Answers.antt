@@ -1,6 +1,0 @@
-use Rattle.pc_stands.proofs.Scopes.{scoped}
-use Rattle.pc_stands.proofs.BodyScopes.{bodies_are_scoped, added_bodies_are_scoped}
-use Rattle.pc_stands.proofs.laws.locals_are_visible.Goals as goal
-
-pub returns : goal.returns
-returns c = record { expressions = scoped; bodies = bodies_are_scoped; added = added_bodies_are_scoped }

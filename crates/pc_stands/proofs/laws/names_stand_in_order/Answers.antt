@@ -1,5 +1,0 @@
-use Rattle.pc_stands.proofs.Places.{first_is_least, locals_have_slots}
-use Rattle.pc_stands.proofs.laws.names_stand_in_order.Goals as goal
-
-pub returns : goal.returns
-returns c = record { first = first_is_least; slots = locals_have_slots }

@@ -1,5 +1,0 @@
-use Rattle.pc_stands.proofs.Nodes.{nodes_have_children}
-use Rattle.pc_stands.proofs.laws.nodes_have_children.Goals as goal
-
-pub returns : goal.returns
-returns c = nodes_have_children

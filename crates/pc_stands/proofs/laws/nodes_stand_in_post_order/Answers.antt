@@ -1,5 +1,0 @@
-use Rattle.pc_stands.proofs.PostOrders.{post_order}
-use Rattle.pc_stands.proofs.laws.nodes_stand_in_post_order.Goals as goal
-
-pub returns : goal.returns
-returns c = post_order

@@ -1,5 +1,0 @@
-use Rattle.pc_stands.proofs.Examples.{first_stands, second_stands, third_stands}
-use Rattle.pc_stands.proofs.laws.small_bodies_stand.Goals as goal
-
-pub returns : goal.returns
-returns c = record { first = first_stands; second = second_stands; third = third_stands }
