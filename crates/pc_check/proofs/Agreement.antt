@@ -5,7 +5,7 @@ use Rattle.std.proofs.Common.{Ok, Err, inl, inr, ap, sym, subst, ◌∙◌, arit
 use Rattle.std.proofs.lemmas.List.{length-set}
 use Rattle.std.proofs.lemmas.Option.{same_Some, none-some}
 use Rattle.std.proofs.lemmas.Bool.Decides.{eqb_tells}
-use Rattle.pc_caps.specs.Gets.{get_below, get_within, get_set_same, get_set_other}
+use Rattle.pc_lists.proofs.Gets.{get_below, get_within, get_set_same, get_set_other}
 use Rattle.pc_caps.specs.declared.capability.Cap.{Cap}
 use Rattle.pc_core.specs.declared.declarations.Method.{Method}
 use Rattle.pc_core.specs.declared.nodes.Slot.{Slot}
@@ -22,10 +22,12 @@ use Rattle.pc_rules.specs.Rules.{says, said_by, Meets}
 use Rattle.pc_rules.specs.Valid.{Valid, KeepsWritten, Reaches, MeetsReached, DifferAt, is_else}
 use Rattle.pc_rules.specs.Valid.Reaches.{body, first_child, else_branch, next_child}
 use Rattle.pc_rules.specs.Trees.{Tree, Forest, tree, empty, more, tree_le}
-use Rattle.pc_rules.specs.Homes.{own_tree, children_of, children_before}
-use Rattle.pc_rules.specs.Threads.{false_true, then_way, else_way, is_branch, threads, if_threads, first_starts, next_starts}
-use Rattle.pc_rules.specs.Alike.{looked_at, LooksAlike, slot_same, says_same}
-use Rattle.pc_rules.specs.Agreeing.{Agree, body_says_at, body_starts, node_step, this_alike, use_alike}
+use Rattle.pc_rules.proofs.Homes.{own_tree, children_of, children_before}
+use Rattle.pc_rules.proofs.Bridge.{meets_threads, meets_if_threads}
+use Rattle.pc_rules.proofs.Threads.{then_way, else_way, is_branch, first_starts, next_starts}
+use Rattle.pc_lists.proofs.Bools.{false_true}
+use Rattle.pc_rules.proofs.Alike.{looked_at, LooksAlike, slot_same, says_same}
+use Rattle.pc_rules.proofs.Agreeing.{Agree, body_says_at, body_starts, node_step, this_alike, use_alike}
 use Rattle.pc_sub.specs.Faults.{faulted}
 use Rattle.pc_rules.specs.Statements.{OneValid}
 use Rattle.pc_check.specs.declared.fault.CheckFault.{CheckFault}
@@ -125,8 +127,8 @@ module _ (core : CoreData) (b : Ann) (formed : Formed core) (v : Valid core b) w
   first_of p n x s t g hs e ht =
       let m = valid_meets core b p x s v g hs in
       elim (branches x.kind) [
-        | inl plain ↦ first_starts b x.children (before s) n t (threads core b x (before s) (said_by s) s.rule x.kind plain (formed.nodes p x g).arity m) e ht
-        | inr if ↦ first_starts b (then_way x.children) (before s) n t (if_threads core b x (before s) (said_by s) s.rule if m).0 (then_first x.children n (arity p x g if) e) ht
+        | inl plain ↦ first_starts b x.children (before s) n t (meets_threads core b x s plain (formed.nodes p x g).arity m) e ht
+        | inr if ↦ first_starts b (then_way x.children) (before s) n t (meets_if_threads core b x s if m).0 (then_first x.children n (arity p x g if) e) ht
       ]
 
   else_of : (p c n : ℕ) (x : Node) (t u : Note) → slice_get core.nodes p ≡ Some x → x.kind ≡ node.If → slice_get x.children 2 ≡ Some n → slice_get x.children 0 ≡ Some c → slice_get b.notes c ≡ Some t → slice_get b.notes n ≡ Some u → before u ≡ after t
@@ -134,16 +136,16 @@ module _ (core : CoreData) (b : Ann) (formed : Formed core) (v : Valid core b) w
       let s = note_at p x g in
       let m = valid_meets core b p x s.0 v g s.1 in
       let way = else_both x.children c n (arity p x g k) f e in
-      next_starts b (else_way x.children) (before s.0) 0 c n t u (if_threads core b x (before s.0) (said_by s.0) s.0.rule k m).1 way.0 way.1 ht hu
+      next_starts b (else_way x.children) (before s.0) 0 c n t u (meets_if_threads core b x s.0 k m).1 way.0 way.1 ht hu
 
   next_of : (p c n i : ℕ) (x : Node) (t u : Note) → slice_get core.nodes p ≡ Some x → is_else x.kind (suc i) ≡ false → slice_get x.children (suc i) ≡ Some n → slice_get x.children i ≡ Some c → slice_get b.notes c ≡ Some t → slice_get b.notes n ≡ Some u → before u ≡ after t
   next_of p c n i x t u g k e f ht hu =
       let s = note_at p x g in
       let m = valid_meets core b p x s.0 v g s.1 in
       elim (branches x.kind) [
-        | inl plain ↦ next_starts b x.children (before s.0) i c n t u (threads core b x (before s.0) (said_by s.0) s.0.rule x.kind plain (formed.nodes p x g).arity m) f e ht hu
+        | inl plain ↦ next_starts b x.children (before s.0) i c n t u (meets_threads core b x s.0 plain (formed.nodes p x g).arity m) f e ht hu
         | inr if ↦ let way = then_both x.children i c n (arity p x g if) (subst (λ j. is_else j (suc i) ≡ false) if k) f e in
-            next_starts b (then_way x.children) (before s.0) 0 c n t u (if_threads core b x (before s.0) (said_by s.0) s.0.rule if m).0 way.0 way.1 ht hu
+            next_starts b (then_way x.children) (before s.0) 0 c n t u (meets_if_threads core b x s.0 if m).0 way.0 way.1 ht hu
       ]
 
   valid_reached : (n : ℕ) (m : Masks) (t : Note) → slice_get b.notes n ≡ Some t → Reaches core b n m → before t ≡ m

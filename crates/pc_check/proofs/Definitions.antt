@@ -2,7 +2,7 @@
 use Rattle.std.specs.Prelude.{◌≡◌, ◌⊎◌, ℕ, ◌+◌, ◌<◌, Option, Some, None, slice_get, refl}
 use Rattle.std.proofs.Common.{inl, inr, ap, sym, subst, ◌∙◌, arith}
 use Rattle.std.proofs.lemmas.Option.{same_Some, none-some}
-use Rattle.pc_caps.specs.Gets.{get_below}
+use Rattle.pc_lists.proofs.Gets.{get_below}
 use Rattle.pc_caps.specs.Tables.{stored}
 use Rattle.pc_caps.specs.declared.capability.Cap.{Cap}
 use Rattle.pc_core.specs.declared.declarations.Method.{Method}
@@ -11,17 +11,16 @@ use Rattle.pc_core.specs.declared.nodes.Node.{Node}
 use Rattle.pc_core.specs.declared.nodes.NodeKind.{NodeKind}
 use Rattle.pc_core.specs.declared.nodes.NodeKind.TheVariants as node
 use Rattle.pc_core.specs.CoreData.{CoreData}
-use Rattle.pc_core.specs.Members.{bind_some}
+use Rattle.pc_lists.proofs.Options.{bind_some, bind_is}
 use Rattle.pc_core.specs.Methods.{LocalFits, Uses, this_slot}
 use Rattle.pc_core.specs.Nodes.{NamesFit}
 use Rattle.pc_core.specs.Formed.{Formed}
 use Rattle.pc_ann.specs.declared.annotation.Ann.{Ann}
 use Rattle.pc_rules.specs.Parts.{Ty, type_of, one_child}
-use Rattle.pc_rules.specs.Alike.{looked_at}
-use Rattle.pc_rules.specs.Threads.{bind_is}
-use Rattle.pc_rules.specs.Slotted.{slot_known, this_known}
+use Rattle.pc_rules.proofs.Alike.{looked_at}
+use Rattle.pc_rules.proofs.Slotted.{slot_known, this_known}
 use Rattle.pc_check.specs.Inference.{unwritten, slot_type, inferred_slot}
-use Rattle.pc_rules.specs.Homes.{home, home_method}
+use Rattle.pc_rules.proofs.Homes.{home, home_method}
 
 -- ---- what follows for the slot
 

@@ -4,22 +4,21 @@ use Rattle.std.proofs.Common.{inl, inr, ap, sym, subst, ◌∙◌, arith}
 use Rattle.std.proofs.lemmas.List.{length-map, length-set}
 use Rattle.std.proofs.lemmas.Option.{same_Some, none-some, slice_get-get_or}
 use Rattle.std.proofs.lemmas.Bool.{cases_lt}
-use Rattle.pc_caps.specs.Gets.{get_below, get_set, get_set_same}
+use Rattle.pc_lists.proofs.Gets.{get_below, get_set, get_set_same, map_get}
 use Rattle.pc_core.specs.declared.nodes.Node.{Node}
 use Rattle.pc_core.specs.declared.nodes.NodeKind.{NodeKind}
 use Rattle.pc_core.specs.declared.nodes.NodeKind.TheVariants as node
 use Rattle.pc_core.specs.CoreData.{CoreData}
-use Rattle.pc_core.specs.Runs.{map_get}
 use Rattle.pc_core.specs.Formed.{Formed}
-use Rattle.pc_rules.specs.Threads.{false_true}
-use Rattle.pc_rules.specs.Agreeing.{body_method}
+use Rattle.pc_lists.proofs.Bools.{false_true}
+use Rattle.pc_rules.proofs.Agreeing.{body_method}
 use Rattle.pc_rules.specs.Trees.{Tree, Forest, more, body_tree, tree_le}
 use Rattle.pc_rules.specs.Valid.{is_else}
 use Rattle.pc_rules.specs.Valid.Reaches.{body, first_child, else_branch, next_child}
 use Rattle.pc_check.specs.declared.sources.Source.{Source}
 use Rattle.pc_check.specs.declared.sources.Source.TheVariants as source
 use Rattle.pc_check.specs.Sources.{Comes, Placed, Sourced, Known, Filled, PartFilled, PassesOn, ComesLater}
-use Rattle.pc_rules.specs.Homes.{children_of, children_before}
+use Rattle.pc_rules.proofs.Homes.{children_of, children_before}
 use Rattle.pc_check.proofs.Parents.{known}
 
 -- ---- where the trees of a row begin

@@ -3,7 +3,7 @@ use Rattle.std.specs.Prelude.{◌≡◌, ℕ, zero, suc, ◌+◌, ◌<◌, ◌�
 use Rattle.std.proofs.Common.{inl, inr, ap, sym, subst, ◌∙◌, arith}
 use Rattle.std.proofs.lemmas.Option.{same_Some, none-some}
 use Rattle.std.proofs.lemmas.Bool.{cases_lt, cases_order}
-use Rattle.pc_caps.specs.Gets.{get_below}
+use Rattle.pc_lists.proofs.Gets.{get_below}
 use Rattle.pc_core.specs.declared.declarations.Method.{Method}
 use Rattle.pc_core.specs.declared.nodes.Node.{Node}
 use Rattle.pc_core.specs.declared.nodes.NodeKind.TheVariants as node
@@ -18,9 +18,9 @@ use Rattle.pc_rules.specs.Rules.{Meets}
 use Rattle.pc_rules.specs.Valid.{KeepsWritten, SetsFields, Reaches, MeetsReached, NoRule, Unset, is_else}
 use Rattle.pc_rules.specs.Valid.Reaches.{body, first_child, else_branch, next_child}
 use Rattle.pc_rules.specs.Trees.{Tree, Forest, tree, empty, more, body_tree, tree_le}
-use Rattle.pc_rules.specs.Homes.{Home, home, home_body, own_tree, children_of, children_before}
-use Rattle.pc_rules.specs.Threads.{false_true}
-use Rattle.pc_rules.specs.Agreeing.{Agree, node_step}
+use Rattle.pc_rules.proofs.Homes.{Home, home, home_body, own_tree, children_of, children_before}
+use Rattle.pc_lists.proofs.Bools.{false_true}
+use Rattle.pc_rules.proofs.Agreeing.{Agree, node_step}
 use Rattle.pc_check.specs.Laws.{OneNode, OneConstructor, OneKindOfFault}
 use Rattle.pc_check.proofs.Filling.{low_at, tree_at, low_le}
 use Rattle.pc_check.proofs.Parents.{earlier_body}

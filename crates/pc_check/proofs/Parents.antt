@@ -5,12 +5,14 @@ use Rattle.std.proofs.lemmas.Option.{same_Some, none-some}
 use Rattle.std.proofs.lemmas.Bool.{cases_lt}
 use Rattle.pc_core.specs.declared.declarations.Method.{Method}
 use Rattle.pc_core.specs.CoreData.{CoreData}
-use Rattle.pc_core.specs.Words.{Has, Follow}
+use Rattle.pc_lists.specs.Ranges.{Follow}
+use Rattle.pc_lists.specs.Places.{Has}
 use Rattle.pc_core.specs.Lookup.{node_end}
-use Rattle.pc_core.specs.Runs.{get_map, run_within}
+use Rattle.pc_lists.proofs.Ranges.{run_within}
+use Rattle.pc_lists.proofs.Gets.{get_map}
 use Rattle.pc_core.specs.Formed.{Formed}
 use Rattle.pc_rules.specs.Trees.{Tree, Forest, tree, empty, more, body_tree}
-use Rattle.pc_rules.specs.Homes.{home}
+use Rattle.pc_rules.proofs.Homes.{home}
 use Rattle.pc_check.specs.Sources.{IsChild, Known}
 
 -- ---- parents

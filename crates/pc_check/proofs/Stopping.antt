@@ -1,10 +1,10 @@
 -- What shows that there is no annotation.
-use Rattle.std.specs.Prelude.{◌≡◌, ◌⊎◌, ℕ, zero, suc, ◌+◌, ◌<◌, Bool, true, false, not, List, [], ◌∷◌, length, Option, Some, None, slice_get, slice_set, refl}
+use Rattle.std.specs.Prelude.{◌≡◌, ◌⊎◌, ℕ, zero, suc, ◌+◌, ◌<◌, true, false, not, List, [], ◌∷◌, length, Option, Some, None, slice_get, slice_set, refl}
 use Rattle.std.proofs.Common.{inl, inr, ap, sym, subst, ◌∙◌, arith}
 use Rattle.std.proofs.lemmas.List.{length-append}
 use Rattle.std.proofs.lemmas.Option.{same_Some, none-some}
-use Rattle.std.proofs.lemmas.Bool.{and_parts}
-use Rattle.pc_caps.specs.Gets.{get_below, get_set_same}
+use Rattle.std.proofs.lemmas.Bool.{and_parts, not-true}
+use Rattle.pc_lists.proofs.Gets.{get_below, get_set_same}
 use Rattle.pc_caps.specs.Tables.{stored}
 use Rattle.pc_caps.specs.declared.capability.Cap.{Cap}
 use Rattle.pc_core.specs.declared.declarations.Method.{Method}
@@ -13,7 +13,8 @@ use Rattle.pc_core.specs.declared.nodes.Node.{Node}
 use Rattle.pc_core.specs.declared.nodes.NodeKind.{NodeKind}
 use Rattle.pc_core.specs.declared.nodes.NodeKind.TheVariants as node
 use Rattle.pc_core.specs.CoreData.{CoreData}
-use Rattle.pc_core.specs.Words.{Each, Has}
+use Rattle.pc_lists.specs.Places.{Each, Has}
+use Rattle.pc_lists.specs.Options.{◌>>=◌}
 use Rattle.pc_core.specs.Methods.{Uses}
 use Rattle.pc_core.specs.Nodes.{NamesFit}
 use Rattle.pc_core.specs.Formed.{Formed}
@@ -23,20 +24,21 @@ use Rattle.pc_ann.specs.declared.annotation.Rule.{Rule}
 use Rattle.pc_ann.specs.declared.annotation.Rule.TheVariants as rule
 use Rattle.pc_sub.specs.Declarations.{DeclOk}
 use Rattle.pc_rules.specs.declared.said.Said.{Said}
-use Rattle.pc_rules.specs.Parts.{Masks, constructs, full, before}
+use Rattle.pc_rules.specs.Parts.{Masks, constructs, full, before, notes_of}
 use Rattle.pc_rules.specs.Values.{defined_type}
 use Rattle.pc_rules.specs.Rules.{says, Meets}
 use Rattle.pc_rules.specs.Valid.{Reaches, Infers, DifferAt}
-use Rattle.pc_rules.specs.Alike.{looked_at, LooksAlike, slot_same, says_same}
-use Rattle.pc_rules.specs.Threads.{false_true}
-use Rattle.pc_rules.specs.OneRule.{define_rule}
-use Rattle.pc_rules.specs.Agreeing.{define_inv, slot_parts}
+use Rattle.pc_rules.proofs.Alike.{looked_at, LooksAlike, slot_same, says_same}
+use Rattle.pc_lists.proofs.Bools.{false_true}
+use Rattle.pc_rules.proofs.OneRule.{define_rule}
+use Rattle.pc_rules.proofs.Bridge.{by_number}
+use Rattle.pc_rules.proofs.Agreeing.{define_inv, slot_parts}
 use Rattle.pc_check.specs.declared.sources.Source.{Source}
 use Rattle.pc_check.specs.Sources.{Sourced}
 use Rattle.pc_check.specs.Inference.{inferred_slot, with_slot, with_inferred, masks_from, rules_for, or_else, first_note, is_body, lacks_field, leaves_unset}
 use Rattle.pc_check.specs.Faults.{StopsAt, LeavesUnset}
 use Rattle.pc_check.specs.Walked.{Walked}
-use Rattle.pc_rules.specs.Homes.{home, home_method, home_body}
+use Rattle.pc_rules.proofs.Homes.{home, home_method, home_body}
 use Rattle.pc_check.proofs.Parents.{earlier_body}
 use Rattle.pc_check.proofs.Definitions.{slot_follows, looked_kind}
 use Rattle.pc_check.proofs.Walking.{walked_infer, reached, reaches_infer, noted, note_here, meets_noted, sets_noted, with_notes}
@@ -52,6 +54,10 @@ each_none : (core : CoreData) (ann : Ann) (x : Node) (m : Masks) (rs : List Rule
 each_none core ann x m [] e i r g = absurd (none-some r g)
 each_none core ann x m (q ∷ rs) e zero r g = subst (λ (k : Rule). says core ann x m k x.kind ≡ None) (same_Some q r g) (says_none q m (says core ann x m q x.kind) (first_note core ann x m rs) e).0
 each_none core ann x m (q ∷ rs) e (suc i) r g = each_none core ann x m rs (says_none q m (says core ann x m q x.kind) (first_note core ann x m rs) e).1 i r g
+
+nothing : {A B : Type 0} → (o : Option A) → ◌≡◌ {A = Option B} (o >>= λ a. None) None
+nothing None = refl
+nothing (Some a) = refl
 
 -- A rule is one of those for the kind, or says nothing of it.
 rule_among : (core : CoreData) (ann : Ann) (x : Node) (m : Masks) (r : Rule) (k : NodeKind) → (Has (rules_for k) r) ⊎ (says core ann x m r k ≡ None)
@@ -88,7 +94,7 @@ rule_among core ann x m rule.If node.If = inl (0, refl)
 rule_among core ann x m rule.While node.While = inl (0, refl)
 rule_among core ann x m rule.Recover (node.Recover k) = inl (0, refl)
 rule_among core ann x m rule.Body node.Body = inl (0, refl)
-rule_among core ann x m r k = inr refl
+rule_among core ann x m r k = inr (nothing (notes_of ann.notes x.children))
 
 no_rule_says : (core : CoreData) (ann : Ann) (x : Node) (m : Masks) → first_note core ann x m (rules_for x.kind) ≡ None → (r : Rule) → says core ann x m r x.kind ≡ None
 no_rule_says core ann x m e r = elim (rule_among core ann x m r x.kind) [ inl has ↦ each_none core ann x m (rules_for x.kind) e has.0 r has.1 | inr none ↦ none ]
@@ -102,7 +108,7 @@ is_none (Some q) h = absurd (h q refl)
 -- Where a rule says something of a definition without a written type, its slot has the type that follows.
 type_follows : (core : CoreData) (a : Ann) (slots : List (ℕ × Cap)) (x : Node) (m : Masks) (r : Rule) (s : ℕ) (f : Method) (y : Slot) (q : Said) → x.kind ≡ node.Define s → slice_get core.methods x.method ≡ Some f → slice_get core.slots (f.first_slot + s) ≡ Some y → y.written ≡ None → says core (record { slots = slots; notes = a.notes }) x m r x.kind ≡ Some q → (ty : ℕ × Cap) × (inferred_slot core a x x.kind ≡ Some (f.first_slot + s, ty)) × (slice_get slots (f.first_slot + s) ≡ Some ty)
 type_follows core a slots x m r s f y q k g h w e =
-    let d = define_inv core (record { slots = slots; notes = a.notes }) x s m q (define_rule core (record { slots = slots; notes = a.notes }) x m r s q (subst (λ (j : NodeKind). says core (record { slots = slots; notes = a.notes }) x m r j ≡ Some q) k e)) in
+    let d = define_inv core (record { slots = slots; notes = a.notes }) x s m q (define_rule core (record { slots = slots; notes = a.notes }) x m r s q (by_number core (record { slots = slots; notes = a.notes }) x m r (node.Define s) q (subst (λ (j : NodeKind). says core (record { slots = slots; notes = a.notes }) x m r j ≡ Some q) k e))) in
     let p = slot_parts core (record { slots = slots; notes = a.notes }) x.method s d.slot d.is_slot f g in
     let is : d.slot.0 ≡ y = same_Some d.slot.0 y (sym p.0 ∙ h) in
     let v = d.value in
@@ -191,15 +197,11 @@ this_body : (k : NodeKind) → is_body k ≡ true → k ≡ node.Body
 this_body node.Body e = refl
 this_body k e = absurd (false_true e)
 
-not_true : (b : Bool) → not b ≡ true → b ≡ false
-not_true false e = refl
-not_true true e = absurd (false_true e)
-
 lacks_inv : (core : CoreData) (o : Option Method) (f : Method) (t : Note) → o ≡ Some f → lacks_field core o t.set_after ≡ true → (constructs f.kind ≡ true) × (full core f.entity t.set_after ≡ false)
 lacks_inv core None f t g e = absurd (none-some f g)
 lacks_inv core (Some h) f t g e =
     subst (λ (z : Method). (constructs z.kind ≡ true) × (full core z.entity t.set_after ≡ false)) (same_Some h f g)
-    (let p = and_parts (constructs h.kind) (not (full core h.entity t.set_after)) e in (p.0, not_true (full core h.entity t.set_after) p.1))
+    (let p = and_parts (constructs h.kind) (not (full core h.entity t.set_after)) e in (p.0, not-true (full core h.entity t.set_after) p.1))
 
 pub leaves : (core : CoreData) (b : Ann) (n : ℕ) (x : Node) (t : Note) → Formed core → DeclOk core → slice_get core.nodes n ≡ Some x → Walked core b n → Meets core b x t → Reaches core b n (before t) → leaves_unset core x t ≡ true → LeavesUnset core x.method (noted b t)
 leaves core b n x t formed ok g w meets r e =

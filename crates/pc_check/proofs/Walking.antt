@@ -1,11 +1,11 @@
 -- One node more.
-use Rattle.std.specs.Prelude.{◌≡◌, ◌⊎◌, ℕ, ◌+◌, ◌<◌, ◌≤◌, Bool, true, false, not, ◌&&◌, List, [], ◌∷◌, ◌++◌, map, length, Option, Some, None, slice_get, slice_set, refl}
+use Rattle.std.specs.Prelude.{◌≡◌, ◌⊎◌, ℕ, ◌+◌, ◌<◌, ◌≤◌, true, false, not, ◌&&◌, List, [], ◌∷◌, ◌++◌, map, length, Option, Some, None, slice_get, slice_set, refl}
 use Rattle.std.proofs.Common.{inl, inr, ap, sym, subst, ◌∙◌, arith}
 use Rattle.std.proofs.lemmas.List.{length-map, length-set, length-append}
 use Rattle.std.proofs.lemmas.Option.{same_Some, none-some}
-use Rattle.std.proofs.lemmas.Bool.{cases_lt}
+use Rattle.std.proofs.lemmas.Bool.{cases_lt, not-false}
 use Rattle.std.proofs.lemmas.Bool.Decides.{eqb_tells}
-use Rattle.pc_caps.specs.Gets.{get_below, get_within, get_front, get_behind, get_set_other}
+use Rattle.pc_lists.proofs.Gets.{get_below, get_within, get_front, get_behind, get_set_other, get_map}
 use Rattle.pc_caps.specs.declared.capability.Cap.{Cap}
 use Rattle.pc_core.specs.declared.declarations.Method.{Method}
 use Rattle.pc_core.specs.declared.nodes.Slot.{Slot}
@@ -13,8 +13,7 @@ use Rattle.pc_core.specs.declared.nodes.Node.{Node}
 use Rattle.pc_core.specs.declared.nodes.NodeKind.{NodeKind}
 use Rattle.pc_core.specs.declared.nodes.NodeKind.TheVariants as node
 use Rattle.pc_core.specs.CoreData.{CoreData}
-use Rattle.pc_core.specs.Words.{Each}
-use Rattle.pc_core.specs.Runs.{get_map}
+use Rattle.pc_lists.specs.Places.{Each}
 use Rattle.pc_core.specs.Formed.{Formed}
 use Rattle.pc_ann.specs.declared.annotation.Note.{Note}
 use Rattle.pc_ann.specs.declared.annotation.Ann.{Ann}
@@ -25,34 +24,16 @@ use Rattle.pc_rules.specs.Parts.{Masks, constructs, full, before}
 use Rattle.pc_rules.specs.Rules.{says, Meets}
 use Rattle.pc_rules.specs.Valid.{Valid, SetsFields, Reaches, MeetsReached}
 use Rattle.pc_rules.specs.Valid.Reaches.{body, first_child, else_branch, next_child}
-use Rattle.pc_rules.specs.Alike.{LooksAlike, SameNotes, slot_same, says_same}
+use Rattle.pc_rules.proofs.Alike.{LooksAlike, SameNotes, slot_same, says_same}
 use Rattle.pc_rules.specs.Trees.{tree_le}
-use Rattle.pc_rules.specs.Threads.{false_true}
-use Rattle.pc_rules.specs.Agreeing.{body_method}
+use Rattle.pc_rules.proofs.Agreeing.{body_method}
 use Rattle.pc_check.specs.declared.sources.Source.{Source}
 use Rattle.pc_check.specs.declared.sources.Source.TheVariants as source
 use Rattle.pc_check.specs.Sources.{Comes, Placed}
 use Rattle.pc_check.specs.Inference.{masks_in, masks_behind, written_type, first_types, inferred_slot, with_slot, with_inferred, masks_from, note_of, or_else, first_note, is_body, lacks_field, leaves_unset}
 use Rattle.pc_check.specs.Walked.{Walked}
-use Rattle.pc_rules.specs.Homes.{children_before}
+use Rattle.pc_rules.proofs.Homes.{children_before}
 use Rattle.pc_check.proofs.Definitions.{inferred_inv, other_place}
-
--- ---- before the first node
-
-get_mapped : (ys : List Slot) (k : ℕ) (y : Slot) (ty : ℕ × Cap) → slice_get ys k ≡ Some y → y.written ≡ Some ty → slice_get (map (λ (z : Slot). written_type z.written) ys) k ≡ Some ty
-get_mapped ys k y ty g w = get_map (λ (z : Slot). written_type z.written) ys k y g ∙ ap (λ o. Some (written_type o)) w
-
-types_written : (core : CoreData) (k : ℕ) (y : Slot) (ty : ℕ × Cap) → slice_get core.slots k ≡ Some y → y.written ≡ Some ty → slice_get (first_types core) k ≡ Some ty
-types_written core k y ty g w = get_mapped core.slots k y ty g w
-
-pub walked_none : (core : CoreData) (ann : Ann) → ann.slots ≡ first_types core → ann.notes ≡ [] → Walked core ann 0
-walked_none core ann s n = record {
-  slots = ap length s ∙ length-map core.slots (λ (y : Slot). written_type y.written);
-  written = λ k y g ty w. ap (λ ts. slice_get ts k) s ∙ types_written core k y ty g w;
-  notes = ap length n;
-  before = λ k l. absurd (omega (arith, l));
-  sets = λ m x g h c b t e f. let l = h b e in absurd (omega (arith, l));
-}
 
 -- ---- what grows keeps what was there
 
@@ -166,16 +147,12 @@ note_before ann t u b n count l e = let v = get_within ann.notes b (omega (arith
 pub sets_noted : (core : CoreData) (ann : Ann) (n : ℕ) (t : Note) → Walked core ann n → Each (λ m f. ((b : ℕ) → f.body ≡ Some b → b < n) → SetsFields core (noted ann t) f) core.methods
 sets_noted core ann n t w m f g h c b u be ue = w.sets m f g h c b u be (note_before ann t u b n w.notes (h b be) ue)
 
-not_false : (b : Bool) → not b ≡ false → b ≡ true
-not_false true e = refl
-not_false false e = absurd (false_true (sym e))
-
 -- A body that leaves no field unset.
 sets_all : (core : CoreData) (x : Node) (f : Method) (t : Note) → x.kind ≡ node.Body → slice_get core.methods x.method ≡ Some f → constructs f.kind ≡ true → leaves_unset core x t ≡ false → full core f.entity t.set_after ≡ true
 sets_all core x f t k g c e =
     let a : lacks_field core (slice_get core.methods x.method) t.set_after ≡ false = sym (ap (λ (j : NodeKind). is_body j && lacks_field core (slice_get core.methods x.method) t.set_after) k) ∙ e in
     let b : constructs f.kind && not (full core f.entity t.set_after) ≡ false = sym (ap (λ o. lacks_field core o t.set_after) g) ∙ a in
-    not_false (full core f.entity t.set_after) (sym (ap (λ d. d && not (full core f.entity t.set_after)) c) ∙ b)
+    not-false (full core f.entity t.set_after) (sym (ap (λ d. d && not (full core f.entity t.set_after)) c) ∙ b)
 
 pub walked_noted : (core : CoreData) (ann : Ann) (n : ℕ) (x : Node) (t : Note) → Formed core → slice_get core.nodes n ≡ Some x → Walked core ann n → Meets core ann x t → Reaches core ann n (before t) → leaves_unset core x t ≡ false → Walked core (noted ann t) (n + 1)
 walked_noted core ann n x t formed g w m r e = record {

@@ -1,4 +1,9 @@
 //! The inference of an annotation: a core's valid annotation, or what shows that there is none.
+//!
+//! Proved: `check` answers the valid annotation of a core, for every core; or else the first declaration that fails, a
+//! node of which no rule says anything with the masks that reach it, or a constructor that leaves a field unset, each
+//! with notes that show it. Where one of these is shown no annotation is valid, and a core has at most one of them
+//! (`faults_are_one`).
 #![tactic(auto)]
 
 mod checking;

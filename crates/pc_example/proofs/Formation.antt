@@ -4,6 +4,7 @@ use Rattle.std.proofs.Common.{inl, inr, ap, sym, subst, ◌∙◌, arith}
 use Rattle.std.proofs.lemmas.Option.{same_Some, none-some}
 use Rattle.pc_caps.specs.declared.capability.Cap.{Cap}
 use Rattle.pc_caps.specs.declared.capability.Cap.TheVariants as cap
+use Rattle.pc_tree.specs.declared.kinds.MethodWord.TheVariants as word
 use Rattle.pc_core.specs.declared.declarations.EntityDef.{EntityDef}
 use Rattle.pc_core.specs.declared.declarations.Method.{Method}
 use Rattle.pc_core.specs.declared.nodes.Slot.{Slot}
@@ -12,17 +13,15 @@ use Rattle.pc_core.specs.declared.nodes.Node.{Node}
 use Rattle.pc_core.specs.declared.nodes.NodeKind.{NodeKind}
 use Rattle.pc_core.specs.declared.nodes.NodeKind.TheVariants as node
 use Rattle.pc_core.specs.CoreData.{CoreData}
-use Rattle.pc_core.specs.Words.{Each, Has, Differ, Ascends}
+use Rattle.pc_lists.specs.Places.{Each, Has, Differ}
 use Rattle.pc_core.specs.Entities.{built_in_value, HasBuiltIn, HasMain, EntityFits, Leads, one, more}
 use Rattle.pc_core.specs.Methods.{MethodFits, BodyFits, LocalFits}
 use Rattle.pc_core.specs.Nodes.{NodeFits}
 use Rattle.pc_core.specs.Formed.{Formed}
 use Rattle.pc_rules.specs.Example.{four_slots, class_c, actor_main, create_c, create_main}
+use Rattle.pc_lists.proofs.Elements.{each_none, differ_none, ascends_none}
 
 -- ---- lists, element by element
-
-pub nil : {T : Type 0} → (P : ℕ → T → Type 0) → Each P []
-nil P i x e = absurd (none-some x e)
 
 pub single : {T : Type 0} → (P : ℕ → T → Type 0) (x0 : T) → P 0 x0 → Each P (x0 ∷ [])
 single P x0 p0 zero x e = subst (P 0) (same_Some x0 x e) p0
@@ -62,16 +61,10 @@ eight P x0 x1 x2 x3 x4 x5 x6 x7 p0 p1 p2 p3 p4 p5 p6 p7 (suc (suc (suc (suc (suc
 eight P x0 x1 x2 x3 x4 x5 x6 x7 p0 p1 p2 p3 p4 p5 p6 p7 (suc (suc (suc (suc (suc (suc (suc zero))))))) x e = subst (P 7) (same_Some x7 x e) p7
 eight P x0 x1 x2 x3 x4 x5 x6 x7 p0 p1 p2 p3 p4 p5 p6 p7 (suc (suc (suc (suc (suc (suc (suc (suc i)))))))) x e = absurd (none-some x e)
 
-differ_none : {T : Type 0} → Differ {T = T} []
-differ_none i j x e f = absurd (none-some x e)
-
 differ_one : {T : Type 0} → (y : T) → Differ (y ∷ [])
 differ_one y zero zero x e f = refl
 differ_one y zero (suc j) x e f = absurd (none-some x f)
 differ_one y (suc i) j x e f = absurd (none-some x e)
-
-ascends_none : Ascends []
-ascends_none i j a b l e f = absurd (none-some a e)
 
 -- ---- there is no `is` list
 
@@ -97,60 +90,60 @@ no_chain a b (more n r) = nothing_in _ n.0.provides (no_provides a n.0 n.1) n.2
 
 value_fits : (e : ℕ) (name : List ℕ) → EntityFits four_slots e (built_in_value name)
 value_fits e name = record {
-  provides = nil _;
+  provides = each_none _;
   ascends = ascends_none;
   above = λ b. (λ h. absurd (none-some b h.1), λ l. absurd (no_chain e b l));
   few_fields = omega arith;
   placed_fields = inl refl;
-  fields = nil _;
+  fields = each_none _;
   names = differ_none;
-  methods = nil _;
+  methods = each_none _;
 }
 
 env_fits : (x : EntityDef) → slice_get four_slots.entities 4 ≡ Some x → EntityFits four_slots 4 x
 env_fits x e = subst (EntityFits four_slots 4) (same_Some _ x e) (record {
-  provides = nil _;
+  provides = each_none _;
   ascends = ascends_none;
   above = λ b. (λ h. absurd (none-some b h.1), λ l. absurd (no_chain 4 b l));
   few_fields = omega arith;
   placed_fields = inr refl;
   fields = single _ _ (omega arith, omega arith);
   names = differ_one _;
-  methods = nil _;
+  methods = each_none _;
 })
 
 stream_fits : (x : EntityDef) → slice_get four_slots.entities 5 ≡ Some x → EntityFits four_slots 5 x
 stream_fits x e = subst (EntityFits four_slots 5) (same_Some _ x e) (record {
-  provides = nil _;
+  provides = each_none _;
   ascends = ascends_none;
   above = λ b. (λ h. absurd (none-some b h.1), λ l. absurd (no_chain 5 b l));
   few_fields = omega arith;
   placed_fields = inl refl;
-  fields = nil _;
+  fields = each_none _;
   names = differ_one _;
   methods = single _ _ refl;
 })
 
 class_fits : EntityFits four_slots 6 class_c
 class_fits = record {
-  provides = nil _;
+  provides = each_none _;
   ascends = ascends_none;
   above = λ b. (λ h. absurd (none-some b h.1), λ l. absurd (no_chain 6 b l));
   few_fields = omega arith;
   placed_fields = inl refl;
-  fields = nil _;
+  fields = each_none _;
   names = differ_one _;
   methods = single _ _ refl;
 }
 
 main_fits : EntityFits four_slots 7 actor_main
 main_fits = record {
-  provides = nil _;
+  provides = each_none _;
   ascends = ascends_none;
   above = λ b. (λ h. absurd (none-some b h.1), λ l. absurd (no_chain 7 b l));
   few_fields = omega arith;
   placed_fields = inl refl;
-  fields = nil _;
+  fields = each_none _;
   names = differ_one _;
   methods = single _ _ refl;
 }
@@ -172,7 +165,7 @@ print_fits : (x : Method) → slice_get four_slots.methods 0 ≡ Some x → Meth
 print_fits x e = subst (MethodFits four_slots 0) (same_Some _ x e) (record {
   owner = _;
   is_owner = refl;
-  placed = refl;
+  placed = (word.Be, refl, refl);
   name = omega arith;
   params = single _ _ (omega arith);
   result = omega arith;
@@ -199,13 +192,13 @@ create_c_fits : MethodFits four_slots 1 create_c
 create_c_fits = record {
   owner = class_c;
   is_owner = refl;
-  placed = refl;
+  placed = (word.New, refl, refl);
   name = omega arith;
-  params = nil _;
+  params = each_none _;
   result = omega arith;
   result_fits = (refl, refl, (cap.Iso, refl));
   few_slots = omega arith;
-  slots = inr ([], refl, nil _);
+  slots = inr ([], refl, each_none _);
   has_body = inr (inr refl);
   body = λ b h. subst (BodyFits four_slots 1 create_c) (same_Some 2 b h) create_c_body;
 }
@@ -249,7 +242,7 @@ create_main_fits : MethodFits four_slots 2 create_main
 create_main_fits = record {
   owner = actor_main;
   is_owner = refl;
-  placed = refl;
+  placed = (word.New, refl, refl);
   name = omega arith;
   params = single _ _ (omega arith);
   result = omega arith;

@@ -1,21 +1,23 @@
 -- The derivation of the small program is valid.
-use Rattle.std.specs.Prelude.{◌≡◌, ℕ, zero, suc, ◌<◌, Bool, true, false, length, Some, slice_get, refl}
+use Rattle.std.specs.Prelude.{◌≡◌, ℕ, zero, suc, ◌<◌, Bool, true, length, Some, slice_get, refl}
 use Rattle.std.proofs.Common.{ap, sym, subst, ◌∙◌, arith}
 use Rattle.std.proofs.lemmas.Option.{same_Some}
 use Rattle.pc_core.specs.declared.declarations.Method.{Method}
-use Rattle.pc_core.specs.Words.{Each}
+use Rattle.pc_lists.specs.Places.{Each}
 use Rattle.pc_ann.specs.declared.annotation.Note.{Note}
 use Rattle.pc_sub.specs.Declarations.{DeclOk}
 use Rattle.pc_rules.specs.Parts.{full}
 use Rattle.pc_rules.specs.Rules.{MeetsRule}
 use Rattle.pc_rules.specs.Valid.{Valid, SetsFields}
 use Rattle.pc_rules.specs.Example.{four_slots, derivation, create_c, create_main}
-use Rattle.pc_example.proofs.Formation.{nil, single, three, four, eight}
+use Rattle.pc_example.proofs.Formation.{single, three, four, eight}
+use Rattle.pc_lists.proofs.Elements.{each_none}
+use Rattle.pc_lists.proofs.Bools.{false_true}
 
 declarations_ok : DeclOk four_slots
 declarations_ok = record {
-  sendable = three _ _ _ _ (λ h. single _ _ refl) (λ h. nil _) (λ h. single _ _ refl);
-  conform = eight _ _ _ _ _ _ _ _ _ (nil _) (nil _) (nil _) (nil _) (nil _) (nil _) (nil _) (nil _);
+  sendable = three _ _ _ _ (λ h. single _ _ refl) (λ h. each_none _) (λ h. single _ _ refl);
+  conform = eight _ _ _ _ _ _ _ _ _ (each_none _) (each_none _) (each_none _) (each_none _) (each_none _) (each_none _) (each_none _) (each_none _);
 }
 
 rules_met : (n : ℕ) → n < length four_slots.nodes → MeetsRule four_slots derivation n
@@ -27,9 +29,6 @@ rules_met (suc (suc (suc (suc zero)))) l = (_, _, refl, refl, refl)
 rules_met (suc (suc (suc (suc (suc zero))))) l = (_, _, refl, refl, refl)
 rules_met (suc (suc (suc (suc (suc (suc zero)))))) l = (_, _, refl, refl, refl)
 rules_met (suc (suc (suc (suc (suc (suc (suc n))))))) l = absurd (omega (arith, l))
-
-not_true : false ≡ true → ⊥
-not_true e = cc e
 
 -- Behind the body no field is left, since there is none.
 set_behind : (e body b : ℕ) (s t : Note) → Some body ≡ Some b → slice_get derivation.notes body ≡ Some s → slice_get derivation.notes b ≡ Some t → full four_slots e s.set_after ≡ true → full four_slots e t.set_after ≡ true
@@ -45,5 +44,5 @@ derivation_valid = record {
   notes = refl;
   written = four _ _ _ _ _ (λ ty e. e) (λ ty e. e) (λ ty e. e) (λ ty e. e);
   rules = rules_met;
-  sets = three _ _ _ _ (λ h b t e f. absurd (not_true h)) (λ h b t e f. set_behind 6 2 b _ t e refl f refl) (λ h b t e f. set_behind 7 6 b _ t e refl f refl);
+  sets = three _ _ _ _ (λ h b t e f. absurd (false_true h)) (λ h b t e f. set_behind 6 2 b _ t e refl f refl) (λ h b t e f. set_behind 7 6 b _ t e refl f refl);
 }

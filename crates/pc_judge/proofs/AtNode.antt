@@ -1,9 +1,9 @@
 -- What is wrong at one node.
-use Rattle.std.specs.Prelude.{◌≡◌, ℕ, Bool, true, false, ◌&&◌, not, Option, Some, None, slice_get, refl}
+use Rattle.std.specs.Prelude.{◌≡◌, ℕ, Bool, true, false, not, Option, Some, None, slice_get, refl}
 use Rattle.std.proofs.Common.{ap, sym, subst, ◌∙◌}
-use Rattle.std.proofs.lemmas.Bool.{and_parts, eqb-true, eq-eqb}
+use Rattle.std.proofs.lemmas.Bool.{and_parts, eqb-true, eq-eqb, and_from}
 use Rattle.std.proofs.lemmas.Option.{same_Some, none-some}
-use Rattle.pc_caps.specs.Gets.{get_below}
+use Rattle.pc_lists.proofs.Gets.{get_below}
 use Rattle.pc_core.specs.declared.declarations.Method.{Method}
 use Rattle.pc_core.specs.declared.nodes.Node.{Node}
 use Rattle.pc_core.specs.CoreData.{CoreData}
@@ -17,6 +17,7 @@ use Rattle.pc_judge.specs.declared.faults.JudgeFault.TheVariants as fault
 use Rattle.pc_judge.specs.Faults as spec
 use Rattle.pc_judge.specs.Computed as computed
 use Rattle.pc_judge.proofs.Bodies.{body_method}
+use Rattle.pc_lists.proofs.Bools.{no_both}
 
 not_both : (b : Bool) → b ≡ true → not b ≡ true → ⊥
 not_both true e f = cc f
@@ -25,13 +26,6 @@ not_both false e f = cc e
 true_or : (b : Bool) → (not b ≡ true → ⊥) → b ≡ true
 true_or true f = refl
 true_or false f = absurd (f refl)
-
-both_true : (a b : Bool) → a ≡ true → b ≡ true → (a && b) ≡ true
-both_true a b e f = subst (λ c. (c && b) ≡ true) (sym e) f
-
-true_false : (b : Bool) → b ≡ true → b ≡ false → ⊥
-true_false true e f = cc f
-true_false false e f = cc e
 
 ends_at : (o : Option ℕ) (n : ℕ) → computed.ends o n ≡ true → o ≡ Some n
 ends_at None n e = absurd (let bad : false ≡ true = e in cc)
@@ -58,7 +52,7 @@ set_method core ann n x e at c b t body there =
     let same : n ≡ b = same_Some n b (sym at ∙ body) in
     let note : slice_get ann.notes n ≡ Some t = ap (slice_get ann.notes) same ∙ there in
     let unset : computed.unset_behind core n x t ≡ false = subst (λ (o : Option Note). computed.unset_of core n (Some x) o ≡ false) note e in
-    true_or (full core x.entity t.set_after) (λ h. true_false _ (both_true _ _ c (both_true _ _ (at_ends x.body n at) h)) unset)
+    true_or (full core x.entity t.set_after) (λ h. no_both _ (and_from _ _ c (and_from _ _ (at_ends x.body n at) h)) unset)
 
 -- ---- the three answers
 

@@ -6,8 +6,7 @@ use Rattle.pc_core.specs.declared.nodes.Node.{Node}
 use Rattle.pc_core.specs.CoreData.{CoreData}
 use Rattle.pc_core.specs.Lookup.{node_end}
 use Rattle.pc_core.specs.Formed.{Formed}
-use Rattle.pc_core.specs.Runs.{range_get}
-use Rattle.pc_caps.specs.Gets.{get_below}
+use Rattle.pc_lists.proofs.Gets.{range_get, get_below}
 
 pub body_within : (core : CoreData) (m b : ℕ) (x : Method) → Formed core → slice_get core.methods m ≡ Some x → x.body ≡ Some b → b < length core.nodes
 body_within core m b x f g e = let fit = (f.methods m x g).body b e in get_below core.nodes b fit.root fit.is_root

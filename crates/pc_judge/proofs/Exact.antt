@@ -44,13 +44,6 @@ before_seen core ann ys n i f same l at m b =
     let count : length ys ≡ length core.nodes = ap (λ (zs : List Node). length zs) same in
     before_all core ann n f (omega (arith, count, l, at, m)) b
 
-pub fails_first : (core : CoreData) (ann : Ann) (n : ℕ) (f : JudgeFault) → spec.Before core ann n → spec.FailsAt core ann n f → spec.FirstFault core ann f
-fails_first core ann n (fault.Decl d) b h = absurd h
-fails_first core ann n fault.Shape b h = absurd h
-fails_first core ann n (fault.Slot k) b h = absurd h
-fails_first core ann n (fault.Node k) b h = subst (spec.FailsRule core ann) (sym h.0) (h.1, b, h.2)
-fails_first core ann n (fault.Unset m) b h = (h.1.0, n, h.1.1, h.1.2, b, h.0, h.1.3)
-
 -- ---- valid or faulted
 
 pub not_valid : spec.NotValid

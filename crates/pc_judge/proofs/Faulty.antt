@@ -13,7 +13,7 @@ use Rattle.pc_core.specs.declared.nodes.Node.{Node}
 use Rattle.pc_core.specs.declared.nodes.NodeKind.TheVariants as node
 use Rattle.pc_core.specs.declared.nodes.Slot.{Slot}
 use Rattle.pc_core.specs.declared.nodes.SlotKind.TheVariants as slot
-use Rattle.pc_core.specs.Words.{Each}
+use Rattle.pc_lists.specs.Places.{Each}
 use Rattle.pc_core.specs.Entities.{print_method}
 use Rattle.pc_ann.specs.declared.annotation.Note.{Note}
 use Rattle.pc_ann.specs.declared.annotation.Rule.TheVariants as rule
@@ -25,6 +25,8 @@ use Rattle.pc_rules.specs.Valid.{KeepsWritten}
 use Rattle.pc_rules.specs.Example.{four_slots, create_c, create_main, at, node_of, noted}
 use Rattle.pc_judge.specs.Faults as spec
 use Rattle.pc_judge.specs.Example as example
+use Rattle.pc_lists.proofs.Elements.{each_none}
+use Rattle.pc_lists.proofs.Bools.{true_false}
 
 -- ---- lists, element by element
 
@@ -38,9 +40,6 @@ each P [] h i x e = absurd (none-some x e)
 each P (y ∷ ys) h zero x e = subst (P 0) (same_Some y x e) h.0
 each P (y ∷ ys) h (suc i) x e = each (λ j. P (suc j)) ys h.1 i x e
 
-none : {T : Type 0} → (P : ℕ → T → Type 0) → Each P []
-none P i x e = absurd (none-some x e)
-
 -- ---- what is right
 
 abbrev Sent : ℕ → ParamInfo → Type 0
@@ -53,7 +52,7 @@ declared = record {
       (λ h. each Sent (print_method 1).params (refl, refl), (λ h. each Sent create_c.params refl, (λ h. each Sent create_main.params (refl, refl), refl)));
   conform =
       each (λ e x. Each (λ i b. Conforms four_slots e b) x.provides) four_slots.entities
-      (none _, (none _, (none _, (none _, (none _, (none _, (none _, (none _, refl))))))));
+      (each_none _, (each_none _, (each_none _, (each_none _, (each_none _, (each_none _, (each_none _, (each_none _, refl))))))));
 }
 
 written : KeepsWritten four_slots example.noted_as_ref
@@ -82,11 +81,8 @@ abbrev says_ref : Option (ℕ × Form) → Bool
 says_ref (Some (e, form.Ref)) = true
 says_ref ty = false
 
-not_same : true ≡ false → ⊥
-not_same e = cc e
-
 wrong_note : Meets four_slots example.noted_as_ref (node_of 2 (node.New 1) [] (at 64 65)) (noted rule.New (Some (6, form.Ref)) 3 3) → ⊥
-wrong_note e = not_same (sym (ap (λ (q : Said). says_ref q.ty) (same_Some _ _ e)))
+wrong_note e = true_false (sym (ap (λ (q : Said). says_ref q.ty) (same_Some _ _ e)))
 
 wrong_node : MeetsRule four_slots example.noted_as_ref 3 → ⊥
 wrong_node h =
@@ -110,7 +106,7 @@ abbrev local : Slot
 local = record { method = 2; kind = slot.Let; depth = 0; written = Some (6, cap.Iso) }
 
 wrong_slot : spec.KeepsType example.held_as_val 3 local → ⊥
-wrong_slot h = let e : Some (6, cap.Val) ≡ Some (6, cap.Iso) = h (6, cap.Iso) refl in not_same (ap is_val e)
+wrong_slot h = let e : Some (6, cap.Val) ≡ Some (6, cap.Iso) = h (6, cap.Iso) refl in true_false (ap is_val e)
 
 slots_before : (j : ℕ) (y : Slot) → j < 3 → slice_get four_slots.slots j ≡ Some y → spec.KeepsType example.held_as_val j y
 slots_before zero y l e ty g = subst (λ (z : Slot). z.written ≡ Some ty) (sym (same_Some _ y e)) g
@@ -129,7 +125,7 @@ no_shape h = let k : 0 ≡ 7 = h.1 in omega (arith, k)
 one_declared : DeclOk example.one_field
 one_declared = record {
   sendable = each (λ m x. TakesSendable x) example.one_field.methods ((λ h. each Sent example.sets_nothing.params refl), refl);
-  conform = each (λ e x. Each (λ i b. Conforms example.one_field e b) x.provides) example.one_field.entities (none _, refl);
+  conform = each (λ e x. Each (λ i b. Conforms example.one_field e b) x.provides) example.one_field.entities (each_none _, refl);
 }
 
 one_written : KeepsWritten example.one_field example.nothing_set
@@ -152,7 +148,7 @@ unset_named = (
   refl,
   record { declarations = one_declared; shape = (refl, refl); written = one_written; rules = one_rules; sets = no_body },
   (_, _, refl, refl, refl),
-  λ s. not_same (sym (s refl 2 (noted rule.Body None 1 1) refl refl)),
+  λ s. true_false (sym (s refl 2 (noted rule.Body None 1 1) refl refl)),
 )
 
 pub faults_named : example.FaultsNamed

@@ -1,9 +1,9 @@
 -- Slots that have the type that is written for them, one after the other.
-use Rattle.std.specs.Prelude.{◌≡◌, ℕ, ◌+◌, ◌<◌, ◌≤◌, Bool, true, false, List, length, Some, get_or, slice_get}
+use Rattle.std.specs.Prelude.{◌≡◌, ℕ, ◌+◌, ◌<◌, ◌≤◌, List, length, Some, get_or, slice_get}
 use Rattle.std.proofs.Common.{inl, inr, ap, sym, subst, ◌∙◌, arith}
 use Rattle.std.proofs.lemmas.Bool.{cases_lt}
 use Rattle.std.proofs.lemmas.Option.{same_Some, slice_get-get_or}
-use Rattle.pc_caps.specs.Gets.{get_below}
+use Rattle.pc_lists.proofs.Gets.{get_below}
 use Rattle.pc_core.specs.declared.nodes.Slot.{Slot}
 use Rattle.pc_core.specs.CoreData.{CoreData}
 use Rattle.pc_ann.specs.declared.annotation.Ann.{Ann}
@@ -39,7 +39,3 @@ kept_all core ann ys i same l kept j y g =
     let k = get_below core.slots j y g in
     let count : length ys ≡ length core.slots = ap (λ (zs : List Slot). length zs) same in
     kept j y (omega (arith, k, count, l)) g
-
-pub not_kept : (b : Bool) → b ≡ false → b ≡ true → ⊥
-not_kept true e f = cc e
-not_kept false e f = cc f

@@ -1,4 +1,7 @@
 //! The judge: whether an annotation of a core is valid, and else what is first wrong of it.
+//!
+//! Proved: `judge` is Ok exactly where an annotation is valid for a core, and else answers the first fault, exactly; it
+//! takes no memory. There is one first fault, and none of a valid annotation.
 #![tactic(auto)]
 
 mod examples;

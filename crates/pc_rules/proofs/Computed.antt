@@ -12,6 +12,7 @@ use Rattle.pc_ann.specs.declared.annotation.Rule.TheVariants as rule
 use Rattle.pc_rules.specs.declared.said.Said.{Said}
 use Rattle.pc_rules.specs.Rules.{Meets}
 use Rattle.pc_rules.specs.Example.{four_slots, derivation, at, node_of, noted, EachMeets, MeetsNone, WrongNotes}
+use Rattle.pc_lists.proofs.Bools.{true_false}
 
 pub each_meets : EachMeets
 each_meets = ((_, _, refl, refl, refl), (_, _, refl, refl, refl), (_, _, refl, refl, refl), (_, _, refl, refl, refl), (_, _, refl, refl, refl), (_, _, refl, refl, refl), (_, _, refl, refl, refl))
@@ -21,11 +22,8 @@ abbrev says_ref : Option (ℕ × Form) → Bool
 says_ref (Some (e, form.Ref)) = true
 says_ref ty = false
 
-not_same : true ≡ false → ⊥
-not_same e = cc e
-
 wrong_new : (r : Rule) → Meets four_slots derivation (node_of 2 (node.New 1) [] (at 64 65)) (record (noted rule.New (Some (6, form.Ref)) 3 3) { rule = r }) → ⊥
-wrong_new rule.New e = not_same (sym (ap (λ (q : Said). says_ref q.ty) (same_Some _ _ e)))
+wrong_new rule.New e = true_false (sym (ap (λ (q : Said). says_ref q.ty) (same_Some _ _ e)))
 wrong_new r e = none-some _ e
 
 wrong_define : (r : Rule) → Meets four_slots derivation (node_of 2 (node.Define 2) (3 ∷ []) (at 49 65)) (record (noted rule.Define None 3 3) { rule = r }) → ⊥

@@ -6,13 +6,16 @@ use Rattle.pc_core.specs.declared.nodes.Node.{Node}
 use Rattle.pc_core.specs.declared.nodes.NodeKind.{NodeKind}
 use Rattle.pc_core.specs.declared.nodes.NodeKind.TheVariants as node
 use Rattle.pc_core.specs.CoreData.{CoreData}
-use Rattle.pc_core.specs.Members.{bind_some}
+use Rattle.pc_lists.proofs.Options.{bind_some}
 use Rattle.pc_ann.specs.declared.mask.Mask.{Mask}
+use Rattle.pc_ann.specs.declared.annotation.Rule.TheVariants as rule
 use Rattle.pc_ann.specs.Masks.{IsIn, with_number}
 use Rattle.pc_ann.specs.MaskLaws.{without_number_bits, with_number_bits}
 use Rattle.pc_rules.specs.declared.said.Said.{Said}
-use Rattle.pc_rules.specs.Parts.{Masks, before, through, one_child, type_of, slot_of, last_child}
-use Rattle.pc_rules.specs.Values.{used, defined, defines}
+use Rattle.pc_rules.specs.Parts.{Masks, before, through, one_child, type_of, last_child}
+use Rattle.pc_rules.specs.Values.{defines}
+use Rattle.pc_rules.proofs.ByNumber.{slot_of, used, defined}
+use Rattle.pc_rules.proofs.Bridge.{by_number}
 use Rattle.pc_rules.specs.Control.{without_definition, without_item, without_items}
 use Rattle.pc_rules.specs.Rules.{says, said_by}
 use Rattle.pc_rules.specs.Statements.{RulesDetermine, ConsumeTakesOut, DefinePutsIn, Defines, SeqTakesOut}
@@ -23,7 +26,7 @@ rules_determine core ann x a b r m p q =
 
 pub consume_takes_out : ConsumeTakesOut
 consume_takes_out core ann x s m r e =
-    let a = bind_some (used core ann x s m.0) _ r e in
+    let a = bind_some (used core ann x s m.0) _ r (by_number core ann x m rule.Consume (node.Consume s) r e) in
     let same = same_Some _ r a.2 in
     (λ i. subst (λ (q : Said). (IsIn q.live i) ↔ ((i ≢ s) × IsIn m.0 i)) same (without_number_bits m.0 s i), sym (ap (λ (q : Said). q.set) same))
 
@@ -34,7 +37,7 @@ kept false o y e = absurd (none-some y e)
 
 pub define_puts_in : DefinePutsIn
 define_puts_in core ann x s m n r e t =
-    let a = bind_some (one_child x.children) _ r e in
+    let a = bind_some (one_child x.children) _ r (by_number core ann x m rule.Define (node.Define s) r e) in
     let b = bind_some (type_of ann a.0) _ r a.2 in
     let c = bind_some (slot_of core ann x.method s) _ r b.2 in
     let d = kept (defines core c.0 b.0) (defined ann x s m) r c.2 in
@@ -85,7 +88,7 @@ items_bits core (c ∷ cs) l i =
 
 pub seq_takes_out : SeqTakesOut
 seq_takes_out core ann x m n r e t =
-    let a = bind_some (last_child x.children) _ r e in
+    let a = bind_some (last_child x.children) _ r (by_number core ann x m rule.Seq node.Seq r e) in
     let b = bind_some (slice_get ann.notes a.0) _ r a.2 in
     let f = bind_some (through ann x.children m) _ r b.2 in
     let same = same_Some _ r f.2 in

@@ -1,4 +1,16 @@
+pub mod Gathered
+pub mod Further
 pub mod Arguments
+pub mod ByNumber
+pub mod Alike
+pub mod Bridge
+pub mod Threads
+pub mod OneRule
+pub mod Homes
+pub mod Slotted
+pub mod Agreeing
 pub mod Lawful
 pub mod Unique
 pub mod Computed
+pub mod Meant
+pub mod MeantCalls

@@ -2,19 +2,20 @@
 use Rattle.std.specs.Prelude.{◌≡◌, ◌⊎◌, ℕ, zero, suc, ◌+◌, ◌-◌, ◌<◌, ◌≤◌, false, List, [], ◌∷◌, map, length, Option, Some, None, slice_get, refl}
 use Rattle.std.proofs.Common.{inl, inr, ap, sym, subst, ◌∙◌, arith}
 use Rattle.std.proofs.lemmas.Option.{same_Some, none-some}
-use Rattle.pc_caps.specs.Gets.{get_below, get_within}
+use Rattle.pc_lists.proofs.Gets.{get_below, get_within, map_get}
 use Rattle.pc_core.specs.declared.declarations.Method.{Method}
 use Rattle.pc_core.specs.declared.nodes.Node.{Node}
 use Rattle.pc_core.specs.declared.nodes.NodeKind.{NodeKind}
 use Rattle.pc_core.specs.declared.nodes.NodeKind.TheVariants as node
 use Rattle.pc_core.specs.CoreData.{CoreData}
-use Rattle.pc_core.specs.Words.{Each, Follow}
+use Rattle.pc_lists.specs.Ranges.{Follow}
+use Rattle.pc_lists.specs.Places.{Each}
 use Rattle.pc_core.specs.Lookup.{node_end}
 use Rattle.pc_core.specs.Methods.{BodyFits}
 use Rattle.pc_core.specs.Nodes.{HasArity}
 use Rattle.pc_core.specs.Formed.{Formed}
-use Rattle.pc_core.specs.Runs.{map_get, run_around}
-use Rattle.pc_core.specs.Members.{bind_some}
+use Rattle.pc_lists.proofs.Ranges.{run_around}
+use Rattle.pc_lists.proofs.Options.{bind_some, kept}
 use Rattle.pc_ann.specs.declared.annotation.Note.{Note}
 use Rattle.pc_ann.specs.declared.annotation.Ann.{Ann}
 use Rattle.pc_ann.specs.Masks.{same}
@@ -23,8 +24,9 @@ use Rattle.pc_rules.specs.Rules.{said_by, Meets}
 use Rattle.pc_rules.specs.Valid.{Valid}
 use Rattle.pc_rules.specs.Trees.{Tree, Forest, tree, empty, more, body_tree, forest_below}
 use Rattle.pc_rules.specs.Statements.{OneValid}
-use Rattle.pc_rules.specs.Threads.{kept, Threaded, then_way, else_way, is_branch, threads, if_threads, starts_so, first_starts, next_starts}
-use Rattle.pc_rules.specs.Agreeing.{body_starts, body_method, body_says_at, Agree, known_alike, node_step}
+use Rattle.pc_rules.proofs.Bridge.{meets_threads, meets_if_threads}
+use Rattle.pc_rules.proofs.Threads.{Threaded, then_way, else_way, is_branch, starts_so, first_starts, next_starts}
+use Rattle.pc_rules.proofs.Agreeing.{body_starts, body_method, body_says_at, Agree, known_alike, node_step}
 
 lists_equal : {T : Type 0} → (xs ys : List T) → length xs ≡ length ys → ((k : ℕ) → k < length xs → slice_get xs k ≡ slice_get ys k) → xs ≡ ys
 lists_equal [] [] e h = refl
@@ -67,11 +69,11 @@ module _ (core : CoreData) (a b : Ann) (formed : Formed core) (va : Valid core a
         let mb = meets_at core b n x t vb g gb in
         let inside : Agree core a b n = elim (branches x.kind) [
           | inl plain ↦ let arity = (formed.nodes n x g).arity in
-              let ta = threads core a x (before s) (said_by s) s.rule x.kind plain arity ma in
-              let tb = threads core b x (before t) (said_by t) t.rule x.kind plain arity mb in
+              let ta = meets_threads core a x s plain arity ma in
+              let tb = meets_threads core b x t plain arity mb in
               same_forest low n x.children (before s) ta.0 tb.0 f same ta.1 (subst (λ k. through b x.children k ≡ Some tb.0) (sym m) tb.1)
-          | inr if ↦ let wa = if_threads core a x (before s) (said_by s) s.rule if ma in
-              let wb = if_threads core b x (before t) (said_by t) t.rule if mb in
+          | inr if ↦ let wa = meets_if_threads core a x s if ma in
+              let wb = meets_if_threads core b x t if mb in
               same_branches low n x.children (before s) f (subst (λ k. HasArity k (length x.children)) if (formed.nodes n x g).arity) same wa.0 wa.1 (subst (Threaded b (then_way x.children)) (sym m) wb.0) (subst (Threaded b (else_way x.children)) (sym m) wb.1)
         ] in
         node_step core a b formed va.written vb.written n x s t g (forest_below core low n x.children f) inside ga gb ma mb m

@@ -2,7 +2,7 @@
 use Rattle.std.specs.Prelude.{ℕ, ◌-◌, Bool, true, false, ◌&&◌, ◌||◌, not, List, [], ◌∷◌, length, take, Option, Some, None, nat_eq, slice_get, codes, if◌then◌else◌}
 use Rattle.pc_caps.specs.Tables.{fits, sendable, sendable_form}
 use Rattle.pc_core.specs.Lookup.{method_named}
-use Rattle.pc_rules.specs.Parts.{Ty, Masks, says_of, goes_to, reads_as, through, type_of, one_child, last_child}
+use Rattle.pc_rules.specs.Parts.{Ty, Masks, says_of, goes_to, reads_as, through_notes, one_type, last_note}
 use Rattle.pc_caps.specs.declared.capability.Cap.{Cap}
 use Rattle.pc_caps.specs.declared.capability.Cap.TheVariants as cap
 use Rattle.pc_caps.specs.declared.capability.Form.{Form}
@@ -11,10 +11,9 @@ use Rattle.pc_core.specs.declared.declarations.Method.{Method}
 use Rattle.pc_core.specs.declared.declarations.MethodKind.{MethodKind}
 use Rattle.pc_core.specs.declared.declarations.MethodKind.TheVariants as method
 use Rattle.pc_core.specs.declared.declarations.ParamInfo.{ParamInfo}
-use Rattle.pc_core.specs.declared.nodes.Node.{Node}
 use Rattle.pc_core.specs.CoreData.{CoreData}
-use Rattle.pc_core.specs.Words.{◌>>=◌}
-use Rattle.pc_ann.specs.declared.annotation.Ann.{Ann}
+use Rattle.pc_lists.specs.Options.{◌>>=◌}
+use Rattle.pc_ann.specs.declared.annotation.Note.{Note}
 use Rattle.pc_rules.specs.declared.said.Said.{Said}
 
 -- ---- arguments
@@ -25,38 +24,38 @@ argument_goes core p None = false
 argument_goes core p (Some v) = goes_to core v (p.entity, p.cap)
 
 -- As many arguments as parameters, and each goes to its parameter.
-abbrev pub arguments_go : CoreData → Ann → List ℕ → List ParamInfo → Bool
-arguments_go core ann [] [] = true
-arguments_go core ann (c ∷ cs) (p ∷ ps) = argument_goes core p (type_of ann c) && arguments_go core ann cs ps
-arguments_go core ann cs ps = false
+abbrev pub arguments_go : CoreData → List Note → List ParamInfo → Bool
+arguments_go core [] [] = true
+arguments_go core (t ∷ ts) (p ∷ ps) = argument_goes core p t.ty && arguments_go core ts ps
+arguments_go core ts ps = false
 
 -- ---- constructors
 
 -- New: the arguments go; the constructor's result.
-abbrev pub new_says : CoreData → Ann → Node → ℕ → Masks → Option Said
-new_says core ann x k m = do
+abbrev pub new_says : CoreData → List Note → ℕ → Masks → Option Said
+new_says core ns k m = do
   f ← slice_get core.methods k
-  n ← through ann x.children m
-  if arguments_go core ann x.children f.params then Some (says_of (Some f.result) n) else None
+  n ← through_notes ns m
+  if arguments_go core ns f.params then Some (says_of (Some f.result) n) else None
 
 -- Spawn: the arguments go; the actor's entity, as `tag`.
-abbrev pub spawn_says : CoreData → Ann → Node → ℕ → Masks → Option Said
-spawn_says core ann x k m = do
+abbrev pub spawn_says : CoreData → List Note → ℕ → Masks → Option Said
+spawn_says core ns k m = do
   f ← slice_get core.methods k
-  n ← through ann x.children m
-  if arguments_go core ann x.children f.params then Some (says_of (Some (f.entity, form.Tag)) n) else None
+  n ← through_notes ns m
+  if arguments_go core ns f.params then Some (says_of (Some (f.entity, form.Tag)) n) else None
 
 -- ---- calls
 
 -- The arguments of a call: all its children but the last one, which is the receiver.
-abbrev pub arguments : List ℕ → List ℕ
-arguments cs = take (length cs - 1) cs
+abbrev pub arguments : List Note → List Note
+arguments ns = take (length ns - 1) ns
 
 -- The type of a call's receiver, and the number of the method of this name of the receiver's entity.
-abbrev pub called : CoreData → Ann → Node → ℕ → Option (Ty × ℕ)
-called core ann x name = do
-  r ← last_child x.children
-  o ← type_of ann r
+abbrev pub called : CoreData → List Note → ℕ → Option (Ty × ℕ)
+called core ns name = do
+  r ← last_note ns
+  o ← r.ty
   k ← method_named core o.0 name
   Some (o, k)
 
@@ -69,16 +68,16 @@ is_behaviour method.Be = true
 is_behaviour k = false
 
 -- The method is a function, the arguments go, and the receiver fits.
-abbrev pub calls : CoreData → Ann → Node → Ty → Method → Bool
-calls core ann x o f = is_function f.kind && (arguments_go core ann (arguments x.children) f.params && fits o.1 f.receiver)
+abbrev pub calls : CoreData → List Note → Ty → Method → Bool
+calls core ns o f = is_function f.kind && (arguments_go core (arguments ns) f.params && fits o.1 f.receiver)
 
 -- Call: the method's result.
-abbrev pub call_says : CoreData → Ann → Node → ℕ → Masks → Option Said
-call_says core ann x name m = do
-  i ← called core ann x name
+abbrev pub call_says : CoreData → List Note → ℕ → Masks → Option Said
+call_says core ns name m = do
+  i ← called core ns name
   f ← slice_get core.methods i.1
-  n ← through ann x.children m
-  if calls core ann x i.0 f then Some (says_of (Some f.result) n) else None
+  n ← through_notes ns m
+  if calls core ns i.0 f then Some (says_of (Some f.result) n) else None
 
 abbrev pub is_isolated : Form → Bool
 is_isolated form.Iso = true
@@ -95,10 +94,10 @@ abbrev pub argument_sendable : ParamInfo → Option Ty → Bool
 argument_sendable p None = false
 argument_sendable p (Some v) = sendable_form v.1 || sendable p.cap
 
-abbrev pub arguments_sendable : Ann → List ℕ → List ParamInfo → Bool
-arguments_sendable ann [] [] = true
-arguments_sendable ann (c ∷ cs) (p ∷ ps) = argument_sendable p (type_of ann c) && arguments_sendable ann cs ps
-arguments_sendable ann cs ps = false
+abbrev pub arguments_sendable : List Note → List ParamInfo → Bool
+arguments_sendable [] [] = true
+arguments_sendable (t ∷ ts) (p ∷ ps) = argument_sendable p t.ty && arguments_sendable ts ps
+arguments_sendable ts ps = false
 
 -- The receiver does not fit, but it is `iso` or `trn` and is lent to the method as `ref` or `box`.
 abbrev pub lends : Form → Cap → Bool
@@ -106,34 +105,34 @@ lends o k = not (fits o k) && (is_isolated o && is_lent k)
 
 -- The method is a function, the arguments go, the receiver is lent, and nothing goes in that could be kept together with
 -- it: each argument has a sendable form or goes to a sendable parameter.
-abbrev pub recovers : CoreData → Ann → Node → Ty → Method → Bool
-recovers core ann x o f =
-    (is_function f.kind && arguments_go core ann (arguments x.children) f.params)
-    && (lends o.1 f.receiver && arguments_sendable ann (arguments x.children) f.params)
+abbrev pub recovers : CoreData → List Note → Ty → Method → Bool
+recovers core ns o f =
+    (is_function f.kind && arguments_go core (arguments ns) f.params)
+    && (lends o.1 f.receiver && arguments_sendable (arguments ns) f.params)
 
 -- What comes out of a receiver that was lent: a sendable result, or none.
 abbrev pub recovered_result : Ty → Option Ty
 recovered_result r = if sendable_form r.1 then Some r else None
 
 -- Callrecover: the method's result, if it is sendable.
-abbrev pub callrecover_says : CoreData → Ann → Node → ℕ → Masks → Option Said
-callrecover_says core ann x name m = do
-  i ← called core ann x name
+abbrev pub callrecover_says : CoreData → List Note → ℕ → Masks → Option Said
+callrecover_says core ns name m = do
+  i ← called core ns name
   f ← slice_get core.methods i.1
-  n ← through ann x.children m
-  if recovers core ann x i.0 f then Some (says_of (recovered_result f.result) n) else None
+  n ← through_notes ns m
+  if recovers core ns i.0 f then Some (says_of (recovered_result f.result) n) else None
 
 -- The method is a behaviour, and the arguments go. The receiver's form is not looked at.
-abbrev pub sends : CoreData → Ann → Node → Method → Bool
-sends core ann x f = is_behaviour f.kind && arguments_go core ann (arguments x.children) f.params
+abbrev pub sends : CoreData → List Note → Method → Bool
+sends core ns f = is_behaviour f.kind && arguments_go core (arguments ns) f.params
 
 -- Send: None.
-abbrev pub send_says : CoreData → Ann → Node → ℕ → Masks → Option Said
-send_says core ann x name m = do
-  i ← called core ann x name
+abbrev pub send_says : CoreData → List Note → ℕ → Masks → Option Said
+send_says core ns name m = do
+  i ← called core ns name
   f ← slice_get core.methods i.1
-  n ← through ann x.children m
-  if sends core ann x f then Some (says_of (Some (0, form.Val)) n) else None
+  n ← through_notes ns m
+  if sends core ns f then Some (says_of (Some (0, form.Val)) n) else None
 
 -- ---- the text of a value
 
@@ -150,10 +149,9 @@ has_text v = reads_as 1 v || reads_as 2 v
 abbrev pub has_string : List ℕ → Ty → Bool
 has_string name v = same_text name (codes "string") && has_text v
 
-abbrev pub builtin_says : CoreData → Ann → Node → ℕ → Masks → Option Said
-builtin_says core ann x name m = do
-  c ← one_child x.children
-  v ← type_of ann c
+abbrev pub builtin_says : CoreData → List Note → ℕ → Masks → Option Said
+builtin_says core ns name m = do
+  v ← one_type ns
   text ← slice_get core.names name
-  n ← through ann x.children m
+  n ← through_notes ns m
   if has_string text v then Some (says_of (Some (3, form.Val)) n) else None

@@ -1,7 +1,7 @@
 -- Rules for sequences, branches, loops, recover and bodies.
 use Rattle.std.specs.Prelude.{ℕ, ◌+◌, Bool, true, false, ◌&&◌, List, [], ◌∷◌, length, Option, Some, None, slice_get, if◌then◌else◌}
 use Rattle.pc_caps.specs.Tables.{fits, unalias, lift}
-use Rattle.pc_rules.specs.Parts.{Ty, Masks, says_of, reads_as, lower, constructs, all_fields, through, type_of, one_child, two_children, three_children, last_child}
+use Rattle.pc_rules.specs.Parts.{Ty, Masks, says_of, reads_as, lower, constructs, all_fields, starts, after, through_notes, one_note, one_type, two_notes, three_notes, last_note}
 use Rattle.pc_rules.specs.Operators.{meet_masks}
 use Rattle.pc_caps.specs.declared.capability.Cap.{Cap}
 use Rattle.pc_caps.specs.declared.capability.Form.{Form}
@@ -13,9 +13,9 @@ use Rattle.pc_core.specs.declared.nodes.Node.{Node}
 use Rattle.pc_core.specs.declared.nodes.NodeKind.{NodeKind}
 use Rattle.pc_core.specs.declared.nodes.NodeKind.TheVariants as node
 use Rattle.pc_core.specs.CoreData.{CoreData}
-use Rattle.pc_core.specs.Words.{◌>>=◌}
+use Rattle.pc_lists.specs.Options.{◌>>=◌}
 use Rattle.pc_ann.specs.declared.mask.Mask.{Mask}
-use Rattle.pc_ann.specs.declared.annotation.Ann.{Ann}
+use Rattle.pc_ann.specs.declared.annotation.Note.{Note}
 use Rattle.pc_ann.specs.Masks.{empty, first, without_number, within, same}
 use Rattle.pc_rules.specs.declared.said.Said.{Said}
 
@@ -35,11 +35,10 @@ without_items core [] l = l
 without_items core (c ∷ cs) l = without_items core cs (without_item (slice_get core.nodes c) l)
 
 -- Seq: the last item's type, or none; the slots of its definitions are live no more.
-abbrev pub seq_says : CoreData → Ann → Node → Masks → Option Said
-seq_says core ann x m = do
-  c ← last_child x.children
-  t ← slice_get ann.notes c
-  n ← through ann x.children m
+abbrev pub seq_says : CoreData → List Note → Node → Masks → Option Said
+seq_says core ns x m = do
+  t ← last_note ns
+  n ← through_notes ns m
   Some (says_of t.ty (without_items core x.children n.0, n.1))
 
 -- ---- branches and loops
@@ -54,18 +53,8 @@ joined core (Some a) (Some b) = joined_types core a b
 joined core a b = None
 
 -- Both branches start from what the condition leaves; behind the node stands what both leave.
-abbrev pub branch_masks : Ann → ℕ × ℕ × ℕ → Masks → Option Masks
-branch_masks ann c m = do
-  n ← through ann (c.0 ∷ []) m
-  a ← through ann (c.1 ∷ []) n
-  b ← through ann (c.2 ∷ []) n
-  Some (meet_masks a b)
-
-abbrev pub branch_types : Ann → ℕ × ℕ × ℕ → Option (Option Ty × Option Ty)
-branch_types ann c = do
-  a ← slice_get ann.notes c.1
-  b ← slice_get ann.notes c.2
-  Some (a.ty, b.ty)
+abbrev pub branch_masks : Note × Note × Note → Masks → Option Masks
+branch_masks c m = if starts c.0 m && (starts c.1 (after c.0) && starts c.2 (after c.0)) then Some (meet_masks (after c.1) (after c.2)) else None
 
 -- A condition is a readable Bool.
 abbrev pub is_condition : Option Ty → Bool
@@ -73,27 +62,26 @@ is_condition None = false
 is_condition (Some v) = reads_as 2 v
 
 -- If: the two branches' type.
-abbrev pub if_says : CoreData → Ann → Node → Masks → Option Said
-if_says core ann x m = do
-  c ← three_children x.children
-  n ← branch_masks ann c m
-  ts ← branch_types ann c
-  if is_condition (type_of ann c.0) then Some (says_of (joined core ts.0 ts.1) n) else None
+abbrev pub if_says : CoreData → List Note → Masks → Option Said
+if_says core ns m = do
+  c ← three_notes ns
+  n ← branch_masks c m
+  if is_condition c.0.ty then Some (says_of (joined core c.1.ty c.2.ty) n) else None
 
 -- The body starts from what the condition leaves, keeps live what is live before the node, and leaves the set fields as
 -- they are before it.
-abbrev pub loop_masks : Ann → ℕ × ℕ → Masks → Option Masks
-loop_masks ann c m = do
-  n ← through ann (c.0 ∷ []) m
-  k ← through ann (c.1 ∷ []) n
-  if within m.0 k.0 && same k.1 m.1 then Some n else None
+abbrev pub loop_masks : Note × Note → Masks → Option Masks
+loop_masks c m =
+    if (starts c.0 m && starts c.1 (after c.0)) && (within m.0 c.1.live_after && same c.1.set_after m.1)
+    then Some (after c.0)
+    else None
 
 -- While: None, and the masks that the condition leaves.
-abbrev pub while_says : Ann → Node → Masks → Option Said
-while_says ann x m = do
-  c ← two_children x.children
-  n ← loop_masks ann c m
-  if is_condition (type_of ann c.0) then Some (says_of (Some (0, form.Val)) n) else None
+abbrev pub while_says : List Note → Masks → Option Said
+while_says ns m = do
+  c ← two_notes ns
+  n ← loop_masks c m
+  if is_condition c.0.ty then Some (says_of (Some (0, form.Val)) n) else None
 
 -- ---- recover
 
@@ -103,12 +91,11 @@ recovered None f = Some (lift f)
 recovered (Some k) f = if fits (lift f) k then Some (unalias k) else None
 
 -- Recover: the body has a type; its entity, in that form.
-abbrev pub recover_says : Ann → Node → Option Cap → Masks → Option Said
-recover_says ann x k m = do
-  c ← one_child x.children
-  v ← type_of ann c
+abbrev pub recover_says : List Note → Option Cap → Masks → Option Said
+recover_says ns k m = do
+  v ← one_type ns
   f ← recovered k v.1
-  n ← through ann x.children m
+  n ← through_notes ns m
   Some (says_of (Some (v.0, f)) n)
 
 -- ---- bodies
@@ -131,10 +118,9 @@ result_ok core method.Fun r v = gives core r v
 result_ok core k r v = true
 
 -- Body: the masks are those of the start, and a function's sequence gives its result. There is no value.
-abbrev pub body_says : CoreData → Ann → Node → Masks → Option Said
-body_says core ann x m = do
+abbrev pub body_says : CoreData → List Note → Node → Masks → Option Said
+body_says core ns x m = do
   f ← slice_get core.methods x.method
-  c ← one_child x.children
-  t ← slice_get ann.notes c
-  n ← through ann x.children m
+  t ← one_note ns
+  n ← through_notes ns m
   if starts_method core f m && result_ok core f.kind f.result t.ty then Some (says_of None n) else None

@@ -2,7 +2,7 @@
 use Rattle.std.specs.Prelude.{ℕ, Bool, true, false, ◌&&◌, ◌||◌, not, List, Option, Some, None, nat_eq, slice_get, if◌then◌else◌}
 use Rattle.pc_caps.specs.Tables.{view, taken, may_write}
 use Rattle.pc_core.specs.Lookup.{field_named}
-use Rattle.pc_rules.specs.Parts.{Ty, Masks, says_of, goes_to, constructs, full, through, type_of, one_child, two_children, two_types, last_child}
+use Rattle.pc_rules.specs.Parts.{Ty, Masks, says_of, goes_to, constructs, full, through_notes, one_type, two_notes, two_types, last_note, last_child}
 use Rattle.pc_caps.specs.declared.capability.Cap.{Cap}
 use Rattle.pc_caps.specs.declared.capability.Form.{Form}
 use Rattle.pc_caps.specs.declared.capability.Form.TheVariants as form
@@ -12,9 +12,9 @@ use Rattle.pc_core.specs.declared.nodes.Node.{Node}
 use Rattle.pc_core.specs.declared.nodes.NodeKind.{NodeKind}
 use Rattle.pc_core.specs.declared.nodes.NodeKind.TheVariants as node
 use Rattle.pc_core.specs.CoreData.{CoreData}
-use Rattle.pc_core.specs.Words.{◌>>=◌}
+use Rattle.pc_lists.specs.Options.{◌>>=◌}
 use Rattle.pc_ann.specs.declared.mask.Mask.{Mask}
-use Rattle.pc_ann.specs.declared.annotation.Ann.{Ann}
+use Rattle.pc_ann.specs.declared.annotation.Note.{Note}
 use Rattle.pc_ann.specs.Masks.{has, with_number}
 use Rattle.pc_rules.specs.declared.said.Said.{Said}
 
@@ -43,25 +43,25 @@ is_this node.This = true
 is_this k = false
 
 -- The set mask of a node's last child, where that is `this`.
-abbrev pub own_set : CoreData → Ann → List ℕ → Option Mask
-own_set core ann cs = do
+abbrev pub own_set : CoreData → List ℕ → List Note → Option Mask
+own_set core cs ns = do
   c ← last_child cs
   y ← slice_get core.nodes c
-  t ← slice_get ann.notes c
+  t ← last_note ns
   if is_this y.kind then Some t.set_before else None
 
 abbrev pub lacks_fields : CoreData → ℕ → Option Mask → Bool
 lacks_fields core e None = false
 lacks_fields core e (Some s) = not (full core e s)
 
-abbrev pub incomplete_in : CoreData → Ann → Node → Option Method → Bool
-incomplete_in core ann x None = false
-incomplete_in core ann x (Some f) = constructs f.kind && (nat_eq x.depth 0 && lacks_fields core f.entity (own_set core ann x.children))
+abbrev pub incomplete_in : CoreData → List Note → Node → Option Method → Bool
+incomplete_in core ns x None = false
+incomplete_in core ns x (Some f) = constructs f.kind && (nat_eq x.depth 0 && lacks_fields core f.entity (own_set core x.children ns))
 
 -- A node is incomplete: its method is a constructor, its depth is 0, its last child is `this`, and that child's set mask
 -- is not full.
-abbrev pub incomplete : CoreData → Ann → Node → Bool
-incomplete core ann x = incomplete_in core ann x (slice_get core.methods x.method)
+abbrev pub incomplete : CoreData → List Note → Node → Bool
+incomplete core ns x = incomplete_in core ns x (slice_get core.methods x.method)
 
 -- ---- reading
 
@@ -72,28 +72,27 @@ field_type core o name = do
   seen ← view o.1 f.1.cap
   Some (f.1.entity, seen)
 
-abbrev pub read_says : CoreData → Ann → Node → ℕ → Masks → Option Said
-read_says core ann x name m = do
-  c ← one_child x.children
-  o ← type_of ann c
+abbrev pub read_says : CoreData → List Note → ℕ → Masks → Option Said
+read_says core ns name m = do
+  o ← one_type ns
   ty ← field_type core o name
-  n ← through ann x.children m
+  n ← through_notes ns m
   Some (says_of (Some ty) n)
 
 -- Get: the node is not incomplete, and the origin's entity has the field and sees it in some form.
-abbrev pub get_says : CoreData → Ann → Node → ℕ → Masks → Option Said
-get_says core ann x name m = if incomplete core ann x then None else read_says core ann x name m
+abbrev pub get_says : CoreData → List Note → Node → ℕ → Masks → Option Said
+get_says core ns x name m = if incomplete core ns x then None else read_says core ns name m
 
-abbrev pub own_read_says : CoreData → Ann → Node → ℕ → Masks → Option Said
-own_read_says core ann x name m = do
+abbrev pub own_read_says : CoreData → List Note → Node → ℕ → Masks → Option Said
+own_read_says core ns x name m = do
   f ← own_field core x name
   seen ← view form.Ref f.1.cap
-  n ← through ann x.children m
+  n ← through_notes ns m
   if has n.1 f.0 then Some (says_of (Some (f.1.entity, seen)) n) else None
 
 -- Getown: the node is incomplete, and the field is set. It is seen as by `ref`.
-abbrev pub getown_says : CoreData → Ann → Node → ℕ → Masks → Option Said
-getown_says core ann x name m = if incomplete core ann x then own_read_says core ann x name m else None
+abbrev pub getown_says : CoreData → List Note → Node → ℕ → Masks → Option Said
+getown_says core ns x name m = if incomplete core ns x then own_read_says core ns x name m else None
 
 -- ---- writing
 
@@ -113,22 +112,22 @@ old_type core v o name = do
   old ← taken o.1 f.cap
   Some (f.entity, old)
 
-abbrev pub write_says : CoreData → Ann → Node → ℕ → Masks → Option Said
-write_says core ann x name m = do
-  vs ← two_types ann x.children
+abbrev pub write_says : CoreData → List Note → ℕ → Masks → Option Said
+write_says core ns name m = do
+  vs ← two_types ns
   ty ← old_type core vs.0 vs.1 name
-  n ← through ann x.children m
+  n ← through_notes ns m
   Some (says_of (Some ty) n)
 
 -- Put: the node is not incomplete, and such a field is written.
-abbrev pub put_says : CoreData → Ann → Node → ℕ → Masks → Option Said
-put_says core ann x name m = if incomplete core ann x then None else write_says core ann x name m
+abbrev pub put_says : CoreData → List Note → Node → ℕ → Masks → Option Said
+put_says core ns x name m = if incomplete core ns x then None else write_says core ns name m
 
 -- The value to be written: the first of two children.
-abbrev pub value_type : Ann → List ℕ → Option Ty
-value_type ann cs = do
-  c ← two_children cs
-  type_of ann c.0
+abbrev pub value_type : List Note → Option Ty
+value_type ns = do
+  c ← two_notes ns
+  c.0.ty
 
 -- The old value of an own field, where it is set.
 abbrev pub own_old : ℕ × FieldInfo → Mask → Option Ty
@@ -140,15 +139,15 @@ own_old f s = do
 abbrev pub own_writes : CoreData → Ty → ℕ × FieldInfo → Mask → Bool
 own_writes core v f s = (not f.1.fixed || not (has s f.0)) && goes_to core v (place f.1)
 
-abbrev pub own_write_says : CoreData → Ann → Node → ℕ → Masks → Option Said
-own_write_says core ann x name m = do
+abbrev pub own_write_says : CoreData → List Note → Node → ℕ → Masks → Option Said
+own_write_says core ns x name m = do
   f ← own_field core x name
-  v ← value_type ann x.children
-  n ← through ann x.children m
+  v ← value_type ns
+  n ← through_notes ns m
   if own_writes core v f n.1
       then Some (says_of (own_old f n.1) (n.0, with_number n.1 f.0))
       else None
 
 -- Putown: the node is incomplete, and such a field is written, which is set then.
-abbrev pub putown_says : CoreData → Ann → Node → ℕ → Masks → Option Said
-putown_says core ann x name m = if incomplete core ann x then own_write_says core ann x name m else None
+abbrev pub putown_says : CoreData → List Note → Node → ℕ → Masks → Option Said
+putown_says core ns x name m = if incomplete core ns x then own_write_says core ns x name m else None

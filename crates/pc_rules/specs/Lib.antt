@@ -4,15 +4,10 @@ pub mod Fields
 pub mod Calls
 pub mod Operators
 pub mod Control
+pub mod Children
 pub mod Rules
+pub mod Meaning
 pub mod Valid
 pub mod Statements
 pub mod Example
 pub mod Trees
-pub mod First
-pub mod Alike
-pub mod Slotted
-pub mod Threads
-pub mod OneRule
-pub mod Homes
-pub mod Agreeing

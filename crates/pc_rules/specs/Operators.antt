@@ -1,12 +1,11 @@
 -- Rules for operators.
-use Rattle.std.specs.Prelude.{ℕ, Bool, true, false, ◌&&◌, ◌||◌, List, [], ◌∷◌, Option, Some, None, if◌then◌else◌}
+use Rattle.std.specs.Prelude.{ℕ, Bool, true, false, ◌&&◌, ◌||◌, List, Option, Some, None, if◌then◌else◌}
 use Rattle.pc_tree.specs.declared.kinds.Op.{Op}
 use Rattle.pc_tree.specs.declared.kinds.Op.TheVariants as op
-use Rattle.pc_rules.specs.Parts.{Ty, Masks, says_of, reads_as, through, type_of, one_child, two_children, two_types}
+use Rattle.pc_rules.specs.Parts.{Ty, Masks, says_of, reads_as, starts, after, through_notes, one_type, two_notes, two_types}
 use Rattle.pc_caps.specs.declared.capability.Form.TheVariants as form
-use Rattle.pc_core.specs.declared.nodes.Node.{Node}
-use Rattle.pc_core.specs.Words.{◌>>=◌}
-use Rattle.pc_ann.specs.declared.annotation.Ann.{Ann}
+use Rattle.pc_lists.specs.Options.{◌>>=◌}
+use Rattle.pc_ann.specs.declared.annotation.Note.{Note}
 use Rattle.pc_ann.specs.Masks.{meet}
 use Rattle.pc_rules.specs.declared.said.Said.{Said}
 
@@ -43,56 +42,55 @@ abbrev pub both_read_as : ℕ → Ty × Ty → Bool
 both_read_as e vs = reads_as e vs.0 && reads_as e vs.1
 
 -- A value of this entity, as `val`, and the masks behind the children.
-abbrev pub value_says : ℕ → Ann → Node → Masks → Option Said
-value_says e ann x m = do
-  n ← through ann x.children m
+abbrev pub value_says : ℕ → List Note → Masks → Option Said
+value_says e ns m = do
+  n ← through_notes ns m
   Some (says_of (Some (e, form.Val)) n)
 
 -- Arith: both U64; U64.
-abbrev pub arith_says : Ann → Node → Op → Masks → Option Said
-arith_says ann x o m = do
-  vs ← two_types ann x.children
-  if is_arithmetic o && both_read_as 1 vs then value_says 1 ann x m else None
+abbrev pub arith_says : List Note → Op → Masks → Option Said
+arith_says ns o m = do
+  vs ← two_types ns
+  if is_arithmetic o && both_read_as 1 vs then value_says 1 ns m else None
 
 -- Compare: both U64; Bool.
-abbrev pub compare_says : Ann → Node → Op → Masks → Option Said
-compare_says ann x o m = do
-  vs ← two_types ann x.children
-  if is_comparison o && both_read_as 1 vs then value_says 2 ann x m else None
+abbrev pub compare_says : List Note → Op → Masks → Option Said
+compare_says ns o m = do
+  vs ← two_types ns
+  if is_comparison o && both_read_as 1 vs then value_says 2 ns m else None
 
 -- Both U64, both Bool or both String.
 abbrev pub comparable : Ty × Ty → Bool
 comparable vs = both_read_as 1 vs || (both_read_as 2 vs || both_read_as 3 vs)
 
 -- Equal: two such values; Bool.
-abbrev pub equal_says : Ann → Node → Op → Masks → Option Said
-equal_says ann x o m = do
-  vs ← two_types ann x.children
-  if is_equality o && comparable vs then value_says 2 ann x m else None
+abbrev pub equal_says : List Note → Op → Masks → Option Said
+equal_says ns o m = do
+  vs ← two_types ns
+  if is_equality o && comparable vs then value_says 2 ns m else None
 
 -- Join: `+` on two Strings; String.
-abbrev pub join_says : Ann → Node → Op → Masks → Option Said
-join_says ann x o m = do
-  vs ← two_types ann x.children
-  if is_add o && both_read_as 3 vs then value_says 3 ann x m else None
+abbrev pub join_says : List Note → Op → Masks → Option Said
+join_says ns o m = do
+  vs ← two_types ns
+  if is_add o && both_read_as 3 vs then value_says 3 ns m else None
 
 -- Logic: `xor` on two Bools, or `not` on one; Bool.
-abbrev pub xor_says : Ann → Node → Op → Masks → Option Said
-xor_says ann x o m = do
-  vs ← two_types ann x.children
-  if is_xor o && both_read_as 2 vs then value_says 2 ann x m else None
+abbrev pub xor_says : List Note → Op → Masks → Option Said
+xor_says ns o m = do
+  vs ← two_types ns
+  if is_xor o && both_read_as 2 vs then value_says 2 ns m else None
 
-abbrev pub not_says : Ann → Node → Masks → Option Said
-not_says ann x m = do
-  c ← one_child x.children
-  v ← type_of ann c
-  if reads_as 2 v then value_says 2 ann x m else None
+abbrev pub not_says : List Note → Masks → Option Said
+not_says ns m = do
+  v ← one_type ns
+  if reads_as 2 v then value_says 2 ns m else None
 
 -- Identity: two values of any type; Bool.
-abbrev pub identity_says : Ann → Node → Masks → Option Said
-identity_says ann x m = do
-  vs ← two_types ann x.children
-  value_says 2 ann x m
+abbrev pub identity_says : List Note → Masks → Option Said
+identity_says ns m = do
+  vs ← two_types ns
+  value_says 2 ns m
 
 -- The masks behind both of two ways.
 abbrev pub meet_masks : Masks → Masks → Masks
@@ -100,15 +98,13 @@ meet_masks a b = (meet a.0 b.0, meet a.1 b.1)
 
 -- Lazy: `and` and `or` on two Bools; Bool. The right side starts from what the left one leaves, and may not be evaluated:
 -- behind the node stands what both leave.
-abbrev pub lazy_masks : Ann → List ℕ → Masks → Option Masks
-lazy_masks ann cs m = do
-  c ← two_children cs
-  n ← through ann (c.0 ∷ []) m
-  k ← through ann (c.1 ∷ []) n
-  Some (meet_masks n k)
+abbrev pub lazy_masks : List Note → Masks → Option Masks
+lazy_masks ns m = do
+  c ← two_notes ns
+  if starts c.0 m && starts c.1 (after c.0) then Some (meet_masks (after c.0) (after c.1)) else None
 
-abbrev pub lazy_says : Ann → Node → Masks → Option Said
-lazy_says ann x m = do
-  vs ← two_types ann x.children
-  n ← lazy_masks ann x.children m
+abbrev pub lazy_says : List Note → Masks → Option Said
+lazy_says ns m = do
+  vs ← two_types ns
+  n ← lazy_masks ns m
   if both_read_as 2 vs then Some (says_of (Some (2, form.Val)) n) else None

@@ -12,7 +12,7 @@ use Rattle.pc_core.specs.declared.declarations.MethodKind.TheVariants as method
 use Rattle.pc_core.specs.declared.nodes.Slot.{Slot}
 use Rattle.pc_core.specs.declared.nodes.Node.{Node}
 use Rattle.pc_core.specs.CoreData.{CoreData}
-use Rattle.pc_core.specs.Words.{◌>>=◌}
+use Rattle.pc_lists.specs.Options.{◌>>=◌}
 use Rattle.pc_ann.specs.declared.mask.Mask.{Mask}
 use Rattle.pc_ann.specs.declared.annotation.Note.{Note}
 use Rattle.pc_ann.specs.declared.annotation.Ann.{Ann}
@@ -51,12 +51,16 @@ reads_as e v = nat_eq v.0 e && readable v.1
 
 -- ---- slots
 
--- A slot of a method by its index, with its type in the annotation.
-abbrev pub slot_of : CoreData → Ann → ℕ → ℕ → Option (Slot × (ℕ × Cap))
-slot_of core ann m s = do
+-- The types of the slots.
+abbrev pub Slots : Type 0
+Slots = List (ℕ × Cap)
+
+-- A slot of a method by its index, with its type.
+abbrev pub slot_of : CoreData → Slots → ℕ → ℕ → Option (Slot × (ℕ × Cap))
+slot_of core slots m s = do
   x ← slice_get core.methods m
   y ← slice_get core.slots (x.first_slot + s)
-  ty ← slice_get ann.slots (x.first_slot + s)
+  ty ← slice_get slots (x.first_slot + s)
   Some (y, ty)
 
 -- A slot is reachable from a node: it is of the same depth, or its capability is sendable.
@@ -86,7 +90,7 @@ all_fields core e = first (field_count core e)
 abbrev pub full : CoreData → ℕ → Mask → Bool
 full core e s = within (all_fields core e) s
 
--- ---- children
+-- ---- the notes of children
 
 -- The masks of a note before its node.
 abbrev pub before : Note → Masks
@@ -100,40 +104,73 @@ after t = (t.live_after, t.set_after)
 abbrev pub starts : Note → Masks → Bool
 starts t m = same t.live_before m.0 && same t.set_before m.1
 
--- The masks behind these nodes, one evaluated after the other from these masks on. There are none where one of them
--- starts from other masks than the one before it leaves.
+-- The masks behind nodes of these notes, one evaluated after the other from these masks on. There are none where one of
+-- them starts from other masks than the one before it leaves.
+abbrev pub through_notes : List Note → Masks → Option Masks
+through_notes [] m = Some m
+through_notes (t ∷ ts) m = if starts t m then through_notes ts (after t) else None
+
+-- As many children as the kind has.
+abbrev pub one_note : List Note → Option Note
+one_note (a ∷ []) = Some a
+one_note ns = None
+
+abbrev pub two_notes : List Note → Option (Note × Note)
+two_notes (a ∷ b ∷ []) = Some (a, b)
+two_notes ns = None
+
+abbrev pub three_notes : List Note → Option (Note × Note × Note)
+three_notes (a ∷ b ∷ c ∷ []) = Some (a, b, c)
+three_notes ns = None
+
+abbrev pub last_note : List Note → Option Note
+last_note ns = slice_get ns (length ns - 1)
+
+-- The type of an only child.
+abbrev pub one_type : List Note → Option Ty
+one_type ns = do
+  t ← one_note ns
+  t.ty
+
+-- The types of two children.
+abbrev pub types_of : Note × Note → Option (Ty × Ty)
+types_of c = do
+  a ← c.0.ty
+  b ← c.1.ty
+  Some (a, b)
+
+abbrev pub two_types : List Note → Option (Ty × Ty)
+two_types ns = do
+  c ← two_notes ns
+  types_of c
+
+-- ---- children by their numbers
+
+-- The last child of a node.
+abbrev pub last_child : List ℕ → Option ℕ
+last_child cs = slice_get cs (length cs - 1)
+
+-- The notes of these nodes in an annotation, in order. There are none where one of them has no note.
+abbrev pub notes_of : List Note → List ℕ → Option (List Note)
+notes_of notes [] = Some []
+notes_of notes (c ∷ cs) = do
+  t ← slice_get notes c
+  ts ← notes_of notes cs
+  Some (t ∷ ts)
+
+-- The masks behind these nodes of an annotation, one evaluated after the other from these masks on.
 abbrev pub through : Ann → List ℕ → Masks → Option Masks
 through ann [] m = Some m
 through ann (c ∷ cs) m = do
   t ← slice_get ann.notes c
   if starts t m then through ann cs (after t) else None
 
--- The type of a child that a rule uses.
+-- The type of a node in an annotation.
 abbrev pub type_of : Ann → ℕ → Option Ty
 type_of ann c = do
   t ← slice_get ann.notes c
   t.ty
 
--- As many children as the kind has.
 abbrev pub one_child : List ℕ → Option ℕ
 one_child (a ∷ []) = Some a
 one_child cs = None
-
-abbrev pub two_children : List ℕ → Option (ℕ × ℕ)
-two_children (a ∷ b ∷ []) = Some (a, b)
-two_children cs = None
-
-abbrev pub three_children : List ℕ → Option (ℕ × ℕ × ℕ)
-three_children (a ∷ b ∷ c ∷ []) = Some (a, b, c)
-three_children cs = None
-
-abbrev pub last_child : List ℕ → Option ℕ
-last_child cs = slice_get cs (length cs - 1)
-
--- The types of two children.
-abbrev pub two_types : Ann → List ℕ → Option (Ty × Ty)
-two_types ann cs = do
-  c ← two_children cs
-  a ← type_of ann c.0
-  b ← type_of ann c.1
-  Some (a, b)

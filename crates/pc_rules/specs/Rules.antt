@@ -1,8 +1,9 @@
--- The rules: what each says of a node, and when a node meets the rule of its note.
-use Rattle.std.specs.Prelude.{◌≡◌, ℕ, Option, Some, None, slice_get}
+-- The rules: what each says of a node by the types of the slots and the notes of its children, in order, and when a node
+-- meets the rule of its note.
+use Rattle.std.specs.Prelude.{◌≡◌, ℕ, List, Option, Some, None, slice_get}
 use Rattle.pc_ann.specs.declared.annotation.Rule.{Rule}
 use Rattle.pc_ann.specs.declared.annotation.Rule.TheVariants as rule
-use Rattle.pc_rules.specs.Parts.{Masks, before}
+use Rattle.pc_rules.specs.Parts.{Masks, Slots, before, notes_of}
 use Rattle.pc_rules.specs.Values.{literal_says, this_says, local_says, consume_says, define_says, assign_says}
 use Rattle.pc_rules.specs.Fields.{get_says, getown_says, put_says, putown_says}
 use Rattle.pc_rules.specs.Calls.{new_says, spawn_says, call_says, callrecover_says, send_says, builtin_says}
@@ -12,51 +13,64 @@ use Rattle.pc_core.specs.declared.nodes.Node.{Node}
 use Rattle.pc_core.specs.declared.nodes.NodeKind.{NodeKind}
 use Rattle.pc_core.specs.declared.nodes.NodeKind.TheVariants as node
 use Rattle.pc_core.specs.CoreData.{CoreData}
+use Rattle.pc_lists.specs.Options.{◌>>=◌}
 use Rattle.pc_ann.specs.declared.annotation.Note.{Note}
 use Rattle.pc_ann.specs.declared.annotation.Ann.{Ann}
 use Rattle.pc_rules.specs.declared.said.Said.{Said}
 
 -- What a rule says of node x, with these masks before it, where it is a rule for a node of this kind and its condition
 -- holds: the node's type, or none, and the masks after it.
-abbrev pub says : CoreData → Ann → Node → Masks → Rule → NodeKind → Option Said
-says core ann x m rule.Number (node.Number v) = literal_says 1 m
-says core ann x m rule.Truth (node.Truth v) = literal_says 2 m
-says core ann x m rule.Text (node.Text v) = literal_says 3 m
-says core ann x m rule.Prim (node.Prim e) = literal_says e m
-says core ann x m rule.This node.This = this_says core ann x m
-says core ann x m rule.Local (node.Local s) = local_says core ann x s m
-says core ann x m rule.Consume (node.Consume s) = consume_says core ann x s m
-says core ann x m rule.Get (node.Field name) = get_says core ann x name m
-says core ann x m rule.GetOwn (node.Field name) = getown_says core ann x name m
-says core ann x m rule.Put (node.SetField name) = put_says core ann x name m
-says core ann x m rule.PutOwn (node.SetField name) = putown_says core ann x name m
-says core ann x m rule.Define (node.Define s) = define_says core ann x s m
-says core ann x m rule.Assign (node.Assign s) = assign_says core ann x s m
-says core ann x m rule.New (node.New k) = new_says core ann x k m
-says core ann x m rule.Spawn (node.Spawn k) = spawn_says core ann x k m
-says core ann x m rule.Call (node.Call name) = call_says core ann x name m
-says core ann x m rule.CallRecover (node.Call name) = callrecover_says core ann x name m
-says core ann x m rule.Send (node.Call name) = send_says core ann x name m
-says core ann x m rule.Builtin (node.Call name) = builtin_says core ann x name m
-says core ann x m rule.Arith (node.Binary o) = arith_says ann x o m
-says core ann x m rule.Compare (node.Binary o) = compare_says ann x o m
-says core ann x m rule.Equal (node.Binary o) = equal_says ann x o m
-says core ann x m rule.Join (node.Binary o) = join_says ann x o m
-says core ann x m rule.Logic (node.Binary o) = xor_says ann x o m
-says core ann x m rule.Logic node.Not = not_says ann x m
-says core ann x m rule.Lazy node.And = lazy_says ann x m
-says core ann x m rule.Lazy node.Or = lazy_says ann x m
-says core ann x m rule.Identity (node.Same v) = identity_says ann x m
-says core ann x m rule.Seq node.Seq = seq_says core ann x m
-says core ann x m rule.If node.If = if_says core ann x m
-says core ann x m rule.While node.While = while_says ann x m
-says core ann x m rule.Recover (node.Recover k) = recover_says ann x k m
-says core ann x m rule.Body node.Body = body_says core ann x m
-says core ann x m r k = None
+abbrev pub rule_says : CoreData → Slots → List Note → Node → Masks → Rule → NodeKind → Option Said
+rule_says core slots ns x m rule.Number (node.Number v) = literal_says 1 m
+rule_says core slots ns x m rule.Truth (node.Truth v) = literal_says 2 m
+rule_says core slots ns x m rule.Text (node.Text v) = literal_says 3 m
+rule_says core slots ns x m rule.Prim (node.Prim e) = literal_says e m
+rule_says core slots ns x m rule.This node.This = this_says core slots x m
+rule_says core slots ns x m rule.Local (node.Local s) = local_says core slots x s m
+rule_says core slots ns x m rule.Consume (node.Consume s) = consume_says core slots x s m
+rule_says core slots ns x m rule.Get (node.Field name) = get_says core ns x name m
+rule_says core slots ns x m rule.GetOwn (node.Field name) = getown_says core ns x name m
+rule_says core slots ns x m rule.Put (node.SetField name) = put_says core ns x name m
+rule_says core slots ns x m rule.PutOwn (node.SetField name) = putown_says core ns x name m
+rule_says core slots ns x m rule.Define (node.Define s) = define_says core slots ns x s m
+rule_says core slots ns x m rule.Assign (node.Assign s) = assign_says core slots ns x s m
+rule_says core slots ns x m rule.New (node.New k) = new_says core ns k m
+rule_says core slots ns x m rule.Spawn (node.Spawn k) = spawn_says core ns k m
+rule_says core slots ns x m rule.Call (node.Call name) = call_says core ns name m
+rule_says core slots ns x m rule.CallRecover (node.Call name) = callrecover_says core ns name m
+rule_says core slots ns x m rule.Send (node.Call name) = send_says core ns name m
+rule_says core slots ns x m rule.Builtin (node.Call name) = builtin_says core ns name m
+rule_says core slots ns x m rule.Arith (node.Binary o) = arith_says ns o m
+rule_says core slots ns x m rule.Compare (node.Binary o) = compare_says ns o m
+rule_says core slots ns x m rule.Equal (node.Binary o) = equal_says ns o m
+rule_says core slots ns x m rule.Join (node.Binary o) = join_says ns o m
+rule_says core slots ns x m rule.Logic (node.Binary o) = xor_says ns o m
+rule_says core slots ns x m rule.Logic node.Not = not_says ns m
+rule_says core slots ns x m rule.Lazy node.And = lazy_says ns m
+rule_says core slots ns x m rule.Lazy node.Or = lazy_says ns m
+rule_says core slots ns x m rule.Identity (node.Same v) = identity_says ns m
+rule_says core slots ns x m rule.Seq node.Seq = seq_says core ns x m
+rule_says core slots ns x m rule.If node.If = if_says core ns m
+rule_says core slots ns x m rule.While node.While = while_says ns m
+rule_says core slots ns x m rule.Recover (node.Recover k) = recover_says ns k m
+rule_says core slots ns x m rule.Body node.Body = body_says core ns x m
+rule_says core slots ns x m r k = None
 
 -- What a note says.
 abbrev pub said_by : Note → Said
 said_by t = record { ty = t.ty; live = t.live_after; set = t.set_after }
+
+-- Node n meets the rule of this note, by the types of the slots and the notes of its children, in order.
+abbrev pub Holds : CoreData → Slots → Note → List Note → ℕ → Type 0
+Holds core slots own ns n = (x : Node) × (slice_get core.nodes n ≡ Some x) × (rule_says core slots ns x (before own) own.rule x.kind ≡ Some (said_by own))
+
+-- ---- in an annotation
+
+-- What a rule says of node x by the types and the notes of an annotation. It says nothing where a child has no note.
+abbrev pub says : CoreData → Ann → Node → Masks → Rule → NodeKind → Option Said
+says core ann x m r k = do
+  ns ← notes_of ann.notes x.children
+  rule_says core ann.slots ns x m r k
 
 -- The note of node x is what its rule says.
 abbrev pub Meets : CoreData → Ann → Node → Note → Type 0

@@ -1,16 +1,19 @@
 -- Laws of the rules.
 use Rattle.std.specs.Prelude.{◌≡◌, ◌≢◌, ◌⊎◌, ◌↔◌, ℕ, ◌<◌, List, Some, slice_get}
 use Rattle.pc_core.specs.declared.nodes.Node.{Node}
+use Rattle.pc_core.specs.declared.nodes.NodeKind.{NodeKind}
 use Rattle.pc_core.specs.declared.nodes.NodeKind.TheVariants as node
 use Rattle.pc_core.specs.CoreData.{CoreData}
-use Rattle.pc_core.specs.Words.{Has}
+use Rattle.pc_lists.specs.Places.{Has}
 use Rattle.pc_ann.specs.declared.annotation.Note.{Note}
 use Rattle.pc_ann.specs.declared.annotation.Ann.{Ann}
+use Rattle.pc_ann.specs.declared.annotation.Rule.{Rule}
 use Rattle.pc_ann.specs.declared.annotation.Rule.TheVariants as rule
 use Rattle.pc_ann.specs.Masks.{IsIn}
 use Rattle.pc_rules.specs.declared.said.Said.{Said}
-use Rattle.pc_rules.specs.Parts.{Masks, before, through}
-use Rattle.pc_rules.specs.Rules.{says, said_by, Meets}
+use Rattle.pc_rules.specs.Parts.{Masks, Slots, before, through}
+use Rattle.pc_rules.specs.Rules.{says, said_by, Meets, rule_says}
+use Rattle.pc_rules.specs.Meaning.{Means}
 use Rattle.pc_rules.specs.Valid.{Valid}
 use Rattle.pc_core.specs.Formed.{Formed}
 
@@ -43,3 +46,10 @@ SeqTakesOut =
 -- At most one annotation of a core is valid.
 abbrev pub OneValid : Type 0
 OneValid = (core : CoreData) (a b : Ann) → Formed core → Valid core a → Valid core b → a ≡ b
+
+-- A rule says of a node what the node's note says exactly where the record of this rule holds of the note: the rules are the
+-- records.
+abbrev pub RulesAreRecords : Type 0
+RulesAreRecords =
+    (core : CoreData) (slots : Slots) (own : Note) (ns : List Note) (x : Node) (r : Rule) (k : NodeKind)
+    → (rule_says core slots ns x (before own) r k ≡ Some (said_by own)) ↔ Means core slots own ns x r k

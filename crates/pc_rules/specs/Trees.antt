@@ -5,10 +5,10 @@ use Rattle.std.proofs.lemmas.Option.{same_Some, none-some}
 use Rattle.pc_core.specs.declared.declarations.Method.{Method}
 use Rattle.pc_core.specs.declared.nodes.Node.{Node}
 use Rattle.pc_core.specs.CoreData.{CoreData}
-use Rattle.pc_core.specs.Words.{Each}
+use Rattle.pc_lists.specs.Places.{Each}
 use Rattle.pc_core.specs.Lookup.{own_nodes, node_end}
 use Rattle.pc_core.specs.Methods.{PostOrder, BodyFits}
-use Rattle.pc_core.specs.Runs.{get_range}
+use Rattle.pc_lists.proofs.Gets.{get_range}
 
 -- What stands in node n are the nodes from number `low` up to it: its children's trees, one behind the other, and itself.
 mutual

@@ -1,7 +1,7 @@
 -- Rules for literals, `this`, locals and their definitions.
-use Rattle.std.specs.Prelude.{ℕ, Bool, true, false, ◌&&◌, Option, Some, None, nat_eq, slice_get, if◌then◌else◌}
+use Rattle.std.specs.Prelude.{ℕ, Bool, true, false, ◌&&◌, List, Option, Some, None, nat_eq, slice_get, if◌then◌else◌}
 use Rattle.pc_caps.specs.Tables.{plain, unalias, stored}
-use Rattle.pc_rules.specs.Parts.{Ty, Masks, says_of, goes_to, slot_of, reachable, full, through, type_of, one_child}
+use Rattle.pc_rules.specs.Parts.{Ty, Masks, Slots, says_of, goes_to, slot_of, reachable, full, through_notes, one_type}
 use Rattle.pc_caps.specs.declared.capability.Cap.{Cap}
 use Rattle.pc_caps.specs.declared.capability.Cap.TheVariants as cap
 use Rattle.pc_caps.specs.declared.capability.Form.{Form}
@@ -11,9 +11,9 @@ use Rattle.pc_core.specs.declared.nodes.SlotKind.{SlotKind}
 use Rattle.pc_core.specs.declared.nodes.SlotKind.TheVariants as slot
 use Rattle.pc_core.specs.declared.nodes.Node.{Node}
 use Rattle.pc_core.specs.CoreData.{CoreData}
-use Rattle.pc_core.specs.Words.{◌>>=◌}
+use Rattle.pc_lists.specs.Options.{◌>>=◌}
 use Rattle.pc_ann.specs.declared.mask.Mask.{Mask}
-use Rattle.pc_ann.specs.declared.annotation.Ann.{Ann}
+use Rattle.pc_ann.specs.declared.annotation.Note.{Note}
 use Rattle.pc_ann.specs.Masks.{has, with_number, without_number}
 use Rattle.pc_rules.specs.declared.said.Said.{Said}
 
@@ -26,28 +26,28 @@ literal_says e m = Some (says_of (Some (e, form.Val)) m)
 abbrev pub this_form : CoreData → Node → ℕ → Slot × (ℕ × Cap) → Mask → Form
 this_form core x e i s = if full core e s && reachable x i then plain i.1.1 else form.Tag
 
-abbrev pub this_says : CoreData → Ann → Node → Masks → Option Said
-this_says core ann x m = do
+abbrev pub this_says : CoreData → Slots → Node → Masks → Option Said
+this_says core slots x m = do
   f ← slice_get core.methods x.method
-  i ← slot_of core ann x.method 0
+  i ← slot_of core slots x.method 0
   Some (says_of (Some (f.entity, this_form core x f.entity i m.1)) m)
 
 -- A live and reachable slot.
-abbrev pub used : CoreData → Ann → Node → ℕ → Mask → Option (ℕ × Cap)
-used core ann x s l = do
-  i ← slot_of core ann x.method s
+abbrev pub used : CoreData → Slots → Node → ℕ → Mask → Option (ℕ × Cap)
+used core slots x s l = do
+  i ← slot_of core slots x.method s
   if has l s && reachable x i then Some i.1 else None
 
 -- Local: the slot's entity, in the plain form of its capability.
-abbrev pub local_says : CoreData → Ann → Node → ℕ → Masks → Option Said
-local_says core ann x s m = do
-  i ← used core ann x s m.0
+abbrev pub local_says : CoreData → Slots → Node → ℕ → Masks → Option Said
+local_says core slots x s m = do
+  i ← used core slots x s m.0
   Some (says_of (Some (i.0, plain i.1)) m)
 
 -- Consume: the slot's entity, in the form that no place holds; the slot is live no more.
-abbrev pub consume_says : CoreData → Ann → Node → ℕ → Masks → Option Said
-consume_says core ann x s m = do
-  i ← used core ann x s m.0
+abbrev pub consume_says : CoreData → Slots → Node → ℕ → Masks → Option Said
+consume_says core slots x s m = do
+  i ← used core slots x s m.0
   Some (says_of (Some (i.0, unalias i.1)) (without_number m.0 s, m.1))
 
 -- The type that a slot has by its definition: the written one, else that of the value, as it is stored.
@@ -68,20 +68,19 @@ abbrev pub same_place : ℕ × Cap → ℕ × Cap → Bool
 same_place a b = nat_eq a.0 b.0 && same_cap a.1 b.1
 
 -- Define: the slot has that type, and the value goes to it; the slot is live then. There is no value.
-abbrev pub defined : Ann → Node → ℕ → Masks → Option Said
-defined ann x s m = do
-  n ← through ann x.children m
+abbrev pub defined : List Note → ℕ → Masks → Option Said
+defined ns s m = do
+  n ← through_notes ns m
   Some (says_of None (with_number n.0 s, n.1))
 
 abbrev pub defines : CoreData → Slot × (ℕ × Cap) → Ty → Bool
 defines core i v = same_place i.1 (defined_type i.0.written v) && goes_to core v i.1
 
-abbrev pub define_says : CoreData → Ann → Node → ℕ → Masks → Option Said
-define_says core ann x s m = do
-  c ← one_child x.children
-  v ← type_of ann c
-  i ← slot_of core ann x.method s
-  if defines core i v then defined ann x s m else None
+abbrev pub define_says : CoreData → Slots → List Note → Node → ℕ → Masks → Option Said
+define_says core slots ns x s m = do
+  v ← one_type ns
+  i ← slot_of core slots x.method s
+  if defines core i v then defined ns s m else None
 
 abbrev pub is_var : SlotKind → Bool
 is_var slot.Var = true
@@ -92,17 +91,16 @@ is_var k = false
 abbrev pub old_value : ℕ → ℕ × Cap → Mask → Option Ty
 old_value s i l = if has l s then Some (i.0, unalias i.1) else None
 
-abbrev pub assigned : Ann → Node → ℕ → ℕ × Cap → Masks → Option Said
-assigned ann x s i m = do
-  n ← through ann x.children m
+abbrev pub assigned : List Note → ℕ → ℕ × Cap → Masks → Option Said
+assigned ns s i m = do
+  n ← through_notes ns m
   Some (says_of (old_value s i n.0) (with_number n.0 s, n.1))
 
 abbrev pub assigns : CoreData → Node → Slot × (ℕ × Cap) → Ty → Bool
 assigns core x i v = is_var i.0.kind && (reachable x i && goes_to core v i.1)
 
-abbrev pub assign_says : CoreData → Ann → Node → ℕ → Masks → Option Said
-assign_says core ann x s m = do
-  c ← one_child x.children
-  v ← type_of ann c
-  i ← slot_of core ann x.method s
-  if assigns core x i v then assigned ann x s i.1 m else None
+abbrev pub assign_says : CoreData → Slots → List Note → Node → ℕ → Masks → Option Said
+assign_says core slots ns x s m = do
+  v ← one_type ns
+  i ← slot_of core slots x.method s
+  if assigns core x i v then assigned ns s i.1 m else None

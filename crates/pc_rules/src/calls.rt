@@ -1,12 +1,14 @@
 //! Rules for constructors, calls and messages.
-ghost use Rattle.std.specs.Prelude.{◌≡◌, codes, slice_get};
+ghost use Rattle.std.specs.Prelude.{◌≡◌, ◌≤◌, codes, length, slice_get, take};
 ghost use Rattle.pc_rules.specs.Calls as spec;
+ghost use Rattle.pc_rules.specs.Children.{type_at as type_is, goes_at as goes_is, sendable_at as sendable_is};
 
-use crate::parts::{goes_to, last_child, one_child, reads_as, says_of, through, type_of};
+use crate::children::Children;
+use crate::parts::{goes_to, last_note, one_type, reads_as, says_of, through_notes};
 use crate::said::Said;
-use pc_ann::{Ann, Mask};
+use pc_ann::Mask;
 use pc_caps::{Cap, Form, fits, sendable, sendable_form};
-use pc_core::{Core, Method, MethodKind, Node, ParamInfo};
+use pc_core::{Core, Method, MethodKind, ParamInfo};
 
 // Whether the argument of this type goes to the parameter.
 fn argument_goes(core: &Core, param: ParamInfo, argument: Option<(u32, Form)>) -> bool
@@ -18,38 +20,66 @@ fn argument_goes(core: &Core, param: ParamInfo, argument: Option<(u32, Form)>) -
     }
 }
 
-// Whether there are as many arguments as parameters, and each goes to its parameter.
-fn arguments_go(core: &Core, ann: &Ann, arguments: &[u32], params: &[ParamInfo]) -> bool
-    ensures { result ≡ spec.arguments_go core.now ann.now arguments.now params.now }
+// The type of the child of this index.
+fn type_at(children: &Children, index: usize) -> Option<(u32, Form)>
+    ensures { result ≡ type_is children.now index }
 {
-    let mut left = params;
-    for argument in arguments {
-        match left {
-            [] => return false,
-            [param, others @ ..] => {
-                if !argument_goes(core, *param, type_of(ann, *argument)) {
-                    return false;
-                }
-                left = others;
-            }
+    let note = children.note(index)?;
+    note.ty
+}
+
+// Whether the child of this index goes to the parameter of this index.
+fn goes_at(core: &Core, children: &Children, params: &[ParamInfo], index: usize) -> bool
+    ensures { result ≡ goes_is core.now children.now params.now index }
+{
+    match params.get(index) {
+        None => false,
+        Some(param) => argument_goes(core, *param, type_at(children, index)),
+    }
+}
+
+// Whether the first `count` children are as many as the parameters, and each goes to its parameter.
+fn arguments_go(core: &Core, children: &Children, count: usize, params: &[ParamInfo]) -> bool
+    requires { count ≤ length children.now }
+    ensures { result ≡ spec.arguments_go core.now (take count children.now) params.now }
+{
+    if params.len() != count {
+        return false;
+    }
+    for index in 0..count {
+        if !goes_at(core, children, params, index) {
+            return false;
         }
     }
-    left.is_empty()
+    true
+}
+
+// Whether all children are as many as the parameters, and each goes to its parameter.
+fn all_go(core: &Core, children: &Children, params: &[ParamInfo]) -> bool
+    ensures { result ≡ spec.arguments_go core.now children.now params.now }
+{
+    arguments_go(core, children, children.count(), params)
+}
+
+// The same of the arguments of a call: all its children but the last one, which is the receiver.
+fn given_go(core: &Core, children: &Children, params: &[ParamInfo]) -> bool
+    ensures { result ≡ spec.arguments_go core.now (spec.arguments children.now) params.now }
+{
+    arguments_go(core, children, children.count().saturating_sub(1), params)
 }
 
 // A constructor of a class.
 pub(crate) fn new_says(
     core: &Core,
-    ann: &Ann,
-    node: &Node,
+    children: &Children,
     method: u32,
     masks: (Mask, Mask),
 ) -> Option<Said>
-    ensures { result ≡ spec.new_says core.now ann.now node.now method masks }
+    ensures { result ≡ spec.new_says core.now children.now method masks }
 {
     let found = core.method_at(method)?;
-    let reached = through(ann, node.children.as_slice(), masks)?;
-    if arguments_go(core, ann, node.children.as_slice(), found.params.as_slice()) {
+    let reached = through_notes(children, masks)?;
+    if all_go(core, children, found.params.as_slice()) {
         Some(says_of(Some(found.result), reached))
     } else {
         None
@@ -59,16 +89,15 @@ pub(crate) fn new_says(
 // A constructor of an actor.
 pub(crate) fn spawn_says(
     core: &Core,
-    ann: &Ann,
-    node: &Node,
+    children: &Children,
     method: u32,
     masks: (Mask, Mask),
 ) -> Option<Said>
-    ensures { result ≡ spec.spawn_says core.now ann.now node.now method masks }
+    ensures { result ≡ spec.spawn_says core.now children.now method masks }
 {
     let found = core.method_at(method)?;
-    let reached = through(ann, node.children.as_slice(), masks)?;
-    if arguments_go(core, ann, node.children.as_slice(), found.params.as_slice()) {
+    let reached = through_notes(children, masks)?;
+    if all_go(core, children, found.params.as_slice()) {
         Some(says_of(Some((found.entity, Form::Tag)), reached))
     } else {
         None
@@ -85,40 +114,44 @@ fn argument_sendable(param: ParamInfo, argument: Option<(u32, Form)>) -> bool
     }
 }
 
-fn arguments_sendable(ann: &Ann, arguments: &[u32], params: &[ParamInfo]) -> bool
-    ensures { result ≡ spec.arguments_sendable ann.now arguments.now params.now }
+// The same of the child and the parameter of this index.
+fn sendable_at(children: &Children, params: &[ParamInfo], index: usize) -> bool
+    ensures { result ≡ sendable_is children.now params.now index }
 {
-    let mut left = params;
-    for argument in arguments {
-        match left {
-            [] => return false,
-            [param, others @ ..] => {
-                if !argument_sendable(*param, type_of(ann, *argument)) {
-                    return false;
-                }
-                left = others;
-            }
-        }
+    match params.get(index) {
+        None => false,
+        Some(param) => argument_sendable(*param, type_at(children, index)),
     }
-    left.is_empty()
 }
 
-// The arguments of a call: all its children but the last one, which is the receiver.
-fn arguments(children: &[u32]) -> &[u32]
-    ensures { result.now ≡ spec.arguments children.now }
+// Whether the first `count` children are as many as the parameters, and each may be sent.
+fn arguments_sendable(children: &Children, count: usize, params: &[ParamInfo]) -> bool
+    requires { count ≤ length children.now }
+    ensures { result ≡ spec.arguments_sendable (take count children.now) params.now }
 {
-    match children {
-        [] => children,
-        [arguments @ .., _] => arguments,
+    if params.len() != count {
+        return false;
     }
+    for index in 0..count {
+        if !sendable_at(children, params, index) {
+            return false;
+        }
+    }
+    true
+}
+
+fn given_sendable(children: &Children, params: &[ParamInfo]) -> bool
+    ensures { result ≡ spec.arguments_sendable (spec.arguments children.now) params.now }
+{
+    arguments_sendable(children, children.count().saturating_sub(1), params)
 }
 
 // The type of a call's receiver, and the number of the method of this name of its entity.
-fn called(core: &Core, ann: &Ann, node: &Node, name: u32) -> Option<((u32, Form), u32)>
-    ensures { result ≡ spec.called core.now ann.now node.now name }
+fn called(core: &Core, children: &Children, name: u32) -> Option<((u32, Form), u32)>
+    ensures { result ≡ spec.called core.now children.now name }
 {
-    let receiver = last_child(node.children.as_slice())?;
-    let origin = type_of(ann, receiver)?;
+    let receiver = last_note(children)?;
+    let origin = receiver.ty?;
     let method = core.method(origin.0, name)?;
     Some((origin, method))
 }
@@ -136,33 +169,27 @@ fn is_behaviour(kind: MethodKind) -> bool
 }
 
 // Whether the method is a function, the arguments go, and the receiver fits.
-fn calls(core: &Core, ann: &Ann, node: &Node, receiver: (u32, Form), method: &Method) -> bool
-    ensures { result ≡ spec.calls core.now ann.now node.now receiver method.now }
+fn calls(core: &Core, children: &Children, receiver: (u32, Form), method: &Method) -> bool
+    ensures { result ≡ spec.calls core.now children.now receiver method.now }
 {
     is_function(method.kind)
-        && arguments_go(
-            core,
-            ann,
-            arguments(node.children.as_slice()),
-            method.params.as_slice(),
-        )
+        && given_go(core, children, method.params.as_slice())
         && fits(receiver.1, method.receiver)
 }
 
 // The call of a method.
 pub(crate) fn call_says(
     core: &Core,
-    ann: &Ann,
-    node: &Node,
+    children: &Children,
     name: u32,
     masks: (Mask, Mask),
 ) -> Option<Said>
-    ensures { result ≡ spec.call_says core.now ann.now node.now name masks }
+    ensures { result ≡ spec.call_says core.now children.now name masks }
 {
-    let found = called(core, ann, node, name)?;
+    let found = called(core, children, name)?;
     let method = core.method_at(found.1)?;
-    let reached = through(ann, node.children.as_slice(), masks)?;
-    if calls(core, ann, node, found.0, method) {
+    let reached = through_notes(children, masks)?;
+    if calls(core, children, found.0, method) {
         Some(says_of(Some(method.result), reached))
     } else {
         None
@@ -189,13 +216,12 @@ fn lends(receiver: Form, cap: Cap) -> bool
 }
 
 // Whether the method is a function that the receiver may be lent to.
-fn recovers(core: &Core, ann: &Ann, node: &Node, receiver: (u32, Form), method: &Method) -> bool
-    ensures { result ≡ spec.recovers core.now ann.now node.now receiver method.now }
+fn recovers(core: &Core, children: &Children, receiver: (u32, Form), method: &Method) -> bool
+    ensures { result ≡ spec.recovers core.now children.now receiver method.now }
 {
-    let given = arguments(node.children.as_slice());
     let params = method.params.as_slice();
-    (is_function(method.kind) && arguments_go(core, ann, given, params))
-        && (lends(receiver.1, method.receiver) && arguments_sendable(ann, given, params))
+    (is_function(method.kind) && given_go(core, children, params))
+        && (lends(receiver.1, method.receiver) && given_sendable(children, params))
 }
 
 fn recovered_result(ty: (u32, Form)) -> Option<(u32, Form)>
@@ -207,17 +233,16 @@ fn recovered_result(ty: (u32, Form)) -> Option<(u32, Form)>
 // The call of a method on a receiver that is lent to it.
 pub(crate) fn callrecover_says(
     core: &Core,
-    ann: &Ann,
-    node: &Node,
+    children: &Children,
     name: u32,
     masks: (Mask, Mask),
 ) -> Option<Said>
-    ensures { result ≡ spec.callrecover_says core.now ann.now node.now name masks }
+    ensures { result ≡ spec.callrecover_says core.now children.now name masks }
 {
-    let found = called(core, ann, node, name)?;
+    let found = called(core, children, name)?;
     let method = core.method_at(found.1)?;
-    let reached = through(ann, node.children.as_slice(), masks)?;
-    if recovers(core, ann, node, found.0, method) {
+    let reached = through_notes(children, masks)?;
+    if recovers(core, children, found.0, method) {
         Some(says_of(recovered_result(method.result), reached))
     } else {
         None
@@ -225,32 +250,25 @@ pub(crate) fn callrecover_says(
 }
 
 // Whether the method is a behaviour, and the arguments go.
-fn sends(core: &Core, ann: &Ann, node: &Node, method: &Method) -> bool
-    ensures { result ≡ spec.sends core.now ann.now node.now method.now }
+fn sends(core: &Core, children: &Children, method: &Method) -> bool
+    ensures { result ≡ spec.sends core.now children.now method.now }
 {
-    is_behaviour(method.kind)
-        && arguments_go(
-            core,
-            ann,
-            arguments(node.children.as_slice()),
-            method.params.as_slice(),
-        )
+    is_behaviour(method.kind) && given_go(core, children, method.params.as_slice())
 }
 
 // The message to an actor.
 pub(crate) fn send_says(
     core: &Core,
-    ann: &Ann,
-    node: &Node,
+    children: &Children,
     name: u32,
     masks: (Mask, Mask),
 ) -> Option<Said>
-    ensures { result ≡ spec.send_says core.now ann.now node.now name masks }
+    ensures { result ≡ spec.send_says core.now children.now name masks }
 {
-    let found = called(core, ann, node, name)?;
+    let found = called(core, children, name)?;
     let method = core.method_at(found.1)?;
-    let reached = through(ann, node.children.as_slice(), masks)?;
-    if sends(core, ann, node, method) {
+    let reached = through_notes(children, masks)?;
+    if sends(core, children, method) {
         Some(says_of(Some((0, Form::Val)), reached))
     } else {
         None
@@ -292,17 +310,15 @@ fn has_string(name: &[u8], ty: (u32, Form)) -> bool
 // The text of a number or of a truth value.
 pub(crate) fn builtin_says(
     core: &Core,
-    ann: &Ann,
-    node: &Node,
+    children: &Children,
     name: u32,
     masks: (Mask, Mask),
 ) -> Option<Said>
-    ensures { result ≡ spec.builtin_says core.now ann.now node.now name masks }
+    ensures { result ≡ spec.builtin_says core.now children.now name masks }
 {
-    let child = one_child(node.children.as_slice())?;
-    let ty = type_of(ann, child)?;
+    let ty = one_type(children)?;
     let text = core.name_at(name)?;
-    let reached = through(ann, node.children.as_slice(), masks)?;
+    let reached = through_notes(children, masks)?;
     if has_string(text.as_slice(), ty) {
         Some(says_of(Some((3, Form::Val)), reached))
     } else {

@@ -3,13 +3,14 @@ ghost use Rattle.std.specs.Prelude.{◌≡◌, slice_get, length, ◌+◌};
 ghost use Rattle.pc_ann.specs.Masks.{first};
 ghost use Rattle.pc_rules.specs.Control as spec;
 
+use crate::children::Children;
 use crate::operators::meet_masks;
 use crate::parts::{
-    all_fields, constructs, last_child, lower, note_at, one_child, reads_as, says_of,
-    three_children, through, two_children, type_of,
+    after, all_fields, constructs, last_note, lower, one_note, one_type, reads_as, says_of, starts,
+    three_notes, through_notes, two_notes,
 };
 use crate::said::Said;
-use pc_ann::{Ann, Mask};
+use pc_ann::{Mask, Note};
 use pc_caps::{Cap, Form, fits, lift, unalias};
 use pc_core::{Core, Method, MethodKind, Node, NodeKind};
 
@@ -44,13 +45,17 @@ fn without_items(core: &Core, items: &[u32], live: Mask) -> Mask
 }
 
 // A sequence.
-pub(crate) fn seq_says(core: &Core, ann: &Ann, node: &Node, masks: (Mask, Mask)) -> Option<Said>
-    ensures { result ≡ spec.seq_says core.now ann.now node.now masks }
+pub(crate) fn seq_says(
+    core: &Core,
+    children: &Children,
+    node: &Node,
+    masks: (Mask, Mask),
+) -> Option<Said>
+    ensures { result ≡ spec.seq_says core.now children.now node.now masks }
 {
     let items = node.children.as_slice();
-    let last = last_child(items)?;
-    let note = note_at(ann, last)?;
-    let reached = through(ann, items, masks)?;
+    let note = last_note(children)?;
+    let reached = through_notes(children, masks)?;
     Some(says_of(note.ty, (without_items(core, items, reached.0), reached.1)))
 }
 
@@ -77,24 +82,15 @@ fn joined_types(core: &Core, a: (u32, Form), b: (u32, Form)) -> Option<(u32, For
 }
 
 // The masks behind a branch, whichever way is taken.
-fn branch_masks(ann: &Ann, children: (u32, u32, u32), masks: (Mask, Mask)) -> Option<(Mask, Mask)>
-    ensures { result ≡ spec.branch_masks ann.now children masks }
+fn branch_masks(children: (Note, Note, Note), masks: (Mask, Mask)) -> Option<(Mask, Mask)>
+    ensures { result ≡ spec.branch_masks children masks }
 {
-    let tested = through(ann, &[children.0], masks)?;
-    let a = through(ann, &[children.1], tested)?;
-    let b = through(ann, &[children.2], tested)?;
-    Some(meet_masks(a, b))
-}
-
-fn branch_types(
-    ann: &Ann,
-    children: (u32, u32, u32),
-) -> Option<(Option<(u32, Form)>, Option<(u32, Form)>)>
-    ensures { result ≡ spec.branch_types ann.now children }
-{
-    let a = note_at(ann, children.1)?;
-    let b = note_at(ann, children.2)?;
-    Some((a.ty, b.ty))
+    let tested = after(children.0);
+    if starts(children.0, masks) && starts(children.1, tested) && starts(children.2, tested) {
+        Some(meet_masks(after(children.1), after(children.2)))
+    } else {
+        None
+    }
 }
 
 // Whether a value of this type decides a branch.
@@ -108,26 +104,27 @@ fn is_condition(ty: Option<(u32, Form)>) -> bool
 }
 
 // `if`.
-pub(crate) fn if_says(core: &Core, ann: &Ann, node: &Node, masks: (Mask, Mask)) -> Option<Said>
-    ensures { result ≡ spec.if_says core.now ann.now node.now masks }
+pub(crate) fn if_says(core: &Core, children: &Children, masks: (Mask, Mask)) -> Option<Said>
+    ensures { result ≡ spec.if_says core.now children.now masks }
 {
-    let children = three_children(node.children.as_slice())?;
-    let reached = branch_masks(ann, children, masks)?;
-    let types = branch_types(ann, children)?;
-    if is_condition(type_of(ann, children.0)) {
-        Some(says_of(joined(core, types.0, types.1), reached))
+    let notes = three_notes(children)?;
+    let reached = branch_masks(notes, masks)?;
+    if is_condition(notes.0.ty) {
+        Some(says_of(joined(core, notes.1.ty, notes.2.ty), reached))
     } else {
         None
     }
 }
 
 // The masks behind a loop.
-fn loop_masks(ann: &Ann, children: (u32, u32), masks: (Mask, Mask)) -> Option<(Mask, Mask)>
-    ensures { result ≡ spec.loop_masks ann.now children masks }
+fn loop_masks(children: (Note, Note), masks: (Mask, Mask)) -> Option<(Mask, Mask)>
+    ensures { result ≡ spec.loop_masks children masks }
 {
-    let tested = through(ann, &[children.0], masks)?;
-    let looped = through(ann, &[children.1], tested)?;
-    if masks.0.is_within(looped.0) && looped.1 == masks.1 {
+    let tested = after(children.0);
+    let looped = after(children.1);
+    if (starts(children.0, masks) && starts(children.1, tested))
+        && (masks.0.is_within(looped.0) && looped.1 == masks.1)
+    {
         Some(tested)
     } else {
         None
@@ -135,12 +132,12 @@ fn loop_masks(ann: &Ann, children: (u32, u32), masks: (Mask, Mask)) -> Option<(M
 }
 
 // `while`.
-pub(crate) fn while_says(ann: &Ann, node: &Node, masks: (Mask, Mask)) -> Option<Said>
-    ensures { result ≡ spec.while_says ann.now node.now masks }
+pub(crate) fn while_says(children: &Children, masks: (Mask, Mask)) -> Option<Said>
+    ensures { result ≡ spec.while_says children.now masks }
 {
-    let children = two_children(node.children.as_slice())?;
-    let reached = loop_masks(ann, children, masks)?;
-    if is_condition(type_of(ann, children.0)) {
+    let notes = two_notes(children)?;
+    let reached = loop_masks(notes, masks)?;
+    if is_condition(notes.0.ty) {
         Some(says_of(Some((0, Form::Val)), reached))
     } else {
         None
@@ -160,17 +157,15 @@ fn recovered(written: Option<Cap>, body: Form) -> Option<Form>
 
 // `recover`.
 pub(crate) fn recover_says(
-    ann: &Ann,
-    node: &Node,
+    children: &Children,
     written: Option<Cap>,
     masks: (Mask, Mask),
 ) -> Option<Said>
-    ensures { result ≡ spec.recover_says ann.now node.now written masks }
+    ensures { result ≡ spec.recover_says children.now written masks }
 {
-    let child = one_child(node.children.as_slice())?;
-    let body = type_of(ann, child)?;
+    let body = one_type(children)?;
     let form = recovered(written, body.1)?;
-    let reached = through(ann, node.children.as_slice(), masks)?;
+    let reached = through_notes(children, masks)?;
     Some(says_of(Some((body.0, form)), reached))
 }
 
@@ -228,13 +223,17 @@ fn result_ok(
 }
 
 // The body of a method.
-pub(crate) fn body_says(core: &Core, ann: &Ann, node: &Node, masks: (Mask, Mask)) -> Option<Said>
-    ensures { result ≡ spec.body_says core.now ann.now node.now masks }
+pub(crate) fn body_says(
+    core: &Core,
+    children: &Children,
+    node: &Node,
+    masks: (Mask, Mask),
+) -> Option<Said>
+    ensures { result ≡ spec.body_says core.now children.now node.now masks }
 {
     let method = core.method_at(node.method)?;
-    let child = one_child(node.children.as_slice())?;
-    let note = note_at(ann, child)?;
-    let reached = through(ann, node.children.as_slice(), masks)?;
+    let note = one_note(children)?;
+    let reached = through_notes(children, masks)?;
     if starts_method(core, method, masks) && result_ok(core, method.kind, method.result, note.ty) {
         Some(says_of(None, reached))
     } else {

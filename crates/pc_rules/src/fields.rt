@@ -2,12 +2,13 @@
 ghost use Rattle.std.specs.Prelude.{◌≡◌, slice_get};
 ghost use Rattle.pc_rules.specs.Fields as spec;
 
+use crate::children::Children;
 use crate::parts::{
-    constructs, full, goes_to, last_child, note_at, one_child, says_of, through, two_children,
-    two_types, type_of,
+    constructs, full, goes_to, last_child, last_note, one_type, says_of, through_notes, two_notes,
+    two_types,
 };
 use crate::said::Said;
-use pc_ann::{Ann, Mask};
+use pc_ann::Mask;
 use pc_caps::{Cap, Form, may_write, taken, view};
 use pc_core::{Core, FieldInfo, Node, NodeKind};
 
@@ -43,12 +44,12 @@ fn is_this(kind: &NodeKind) -> bool
 }
 
 // The set mask of a node's last child, where that is `this`.
-fn own_set(core: &Core, ann: &Ann, children: &[u32]) -> Option<Mask>
-    ensures { result ≡ spec.own_set core.now ann.now children.now }
+fn own_set(core: &Core, numbers: &[u32], children: &Children) -> Option<Mask>
+    ensures { result ≡ spec.own_set core.now numbers.now children.now }
 {
-    let last = last_child(children)?;
+    let last = last_child(numbers)?;
     let origin = core.node_at(last)?;
-    let note = note_at(ann, last)?;
+    let note = last_note(children)?;
     if is_this(&origin.kind) {
         Some(note.set_before)
     } else {
@@ -66,8 +67,8 @@ fn lacks_fields(core: &Core, entity: u32, set: Option<Mask>) -> bool
 }
 
 // Whether the node is one of a constructor that has not set all fields yet.
-fn incomplete(core: &Core, ann: &Ann, node: &Node) -> bool
-    ensures { result ≡ spec.incomplete core.now ann.now node.now }
+fn incomplete(core: &Core, children: &Children, node: &Node) -> bool
+    ensures { result ≡ spec.incomplete core.now children.now node.now }
 {
     match core.method_at(node.method) {
         None => false,
@@ -76,7 +77,7 @@ fn incomplete(core: &Core, ann: &Ann, node: &Node) -> bool
             && lacks_fields(
                 core,
                 method.entity,
-                own_set(core, ann, node.children.as_slice()),
+                own_set(core, node.children.as_slice(), children),
             ),
     }
 }
@@ -90,45 +91,44 @@ fn field_type(core: &Core, origin: (u32, Form), name: u32) -> Option<(u32, Form)
     Some((field.1.entity, seen))
 }
 
-fn read_says(core: &Core, ann: &Ann, node: &Node, name: u32, masks: (Mask, Mask)) -> Option<Said>
-    ensures { result ≡ spec.read_says core.now ann.now node.now name masks }
+fn read_says(core: &Core, children: &Children, name: u32, masks: (Mask, Mask)) -> Option<Said>
+    ensures { result ≡ spec.read_says core.now children.now name masks }
 {
-    let child = one_child(node.children.as_slice())?;
-    let origin = type_of(ann, child)?;
+    let origin = one_type(children)?;
     let ty = field_type(core, origin, name)?;
-    let reached = through(ann, node.children.as_slice(), masks)?;
+    let reached = through_notes(children, masks)?;
     Some(says_of(Some(ty), reached))
 }
 
 // A field that is read.
 pub(crate) fn get_says(
     core: &Core,
-    ann: &Ann,
+    children: &Children,
     node: &Node,
     name: u32,
     masks: (Mask, Mask),
 ) -> Option<Said>
-    ensures { result ≡ spec.get_says core.now ann.now node.now name masks }
+    ensures { result ≡ spec.get_says core.now children.now node.now name masks }
 {
-    if incomplete(core, ann, node) {
+    if incomplete(core, children, node) {
         None
     } else {
-        read_says(core, ann, node, name, masks)
+        read_says(core, children, name, masks)
     }
 }
 
 fn own_read_says(
     core: &Core,
-    ann: &Ann,
+    children: &Children,
     node: &Node,
     name: u32,
     masks: (Mask, Mask),
 ) -> Option<Said>
-    ensures { result ≡ spec.own_read_says core.now ann.now node.now name masks }
+    ensures { result ≡ spec.own_read_says core.now children.now node.now name masks }
 {
     let field = own_field(core, node, name)?;
     let seen = view(Form::Ref, field.1.cap)?;
-    let reached = through(ann, node.children.as_slice(), masks)?;
+    let reached = through_notes(children, masks)?;
     if reached.1.has(field.0) {
         Some(says_of(Some((field.1.entity, seen)), reached))
     } else {
@@ -139,15 +139,15 @@ fn own_read_says(
 // A field of `this` that is read before all fields are set.
 pub(crate) fn getown_says(
     core: &Core,
-    ann: &Ann,
+    children: &Children,
     node: &Node,
     name: u32,
     masks: (Mask, Mask),
 ) -> Option<Said>
-    ensures { result ≡ spec.getown_says core.now ann.now node.now name masks }
+    ensures { result ≡ spec.getown_says core.now children.now node.now name masks }
 {
-    if incomplete(core, ann, node) {
-        own_read_says(core, ann, node, name, masks)
+    if incomplete(core, children, node) {
+        own_read_says(core, children, node, name, masks)
     } else {
         None
     }
@@ -186,38 +186,38 @@ fn old_type(core: &Core, value: (u32, Form), origin: (u32, Form), name: u32) -> 
     Some((field.entity, old))
 }
 
-fn write_says(core: &Core, ann: &Ann, node: &Node, name: u32, masks: (Mask, Mask)) -> Option<Said>
-    ensures { result ≡ spec.write_says core.now ann.now node.now name masks }
+fn write_says(core: &Core, children: &Children, name: u32, masks: (Mask, Mask)) -> Option<Said>
+    ensures { result ≡ spec.write_says core.now children.now name masks }
 {
-    let types = two_types(ann, node.children.as_slice())?;
+    let types = two_types(children)?;
     let ty = old_type(core, types.0, types.1, name)?;
-    let reached = through(ann, node.children.as_slice(), masks)?;
+    let reached = through_notes(children, masks)?;
     Some(says_of(Some(ty), reached))
 }
 
 // A field that is written.
 pub(crate) fn put_says(
     core: &Core,
-    ann: &Ann,
+    children: &Children,
     node: &Node,
     name: u32,
     masks: (Mask, Mask),
 ) -> Option<Said>
-    ensures { result ≡ spec.put_says core.now ann.now node.now name masks }
+    ensures { result ≡ spec.put_says core.now children.now node.now name masks }
 {
-    if incomplete(core, ann, node) {
+    if incomplete(core, children, node) {
         None
     } else {
-        write_says(core, ann, node, name, masks)
+        write_says(core, children, name, masks)
     }
 }
 
 // The type of the value to be written.
-fn value_type(ann: &Ann, children: &[u32]) -> Option<(u32, Form)>
-    ensures { result ≡ spec.value_type ann.now children.now }
+fn value_type(children: &Children) -> Option<(u32, Form)>
+    ensures { result ≡ spec.value_type children.now }
 {
-    let both = two_children(children)?;
-    type_of(ann, both.0)
+    let both = two_notes(children)?;
+    both.0.ty
 }
 
 // The old value of an own field, where it is set.
@@ -241,16 +241,16 @@ fn own_writes(core: &Core, value: (u32, Form), field: (u32, FieldInfo), set: Mas
 
 fn own_write_says(
     core: &Core,
-    ann: &Ann,
+    children: &Children,
     node: &Node,
     name: u32,
     masks: (Mask, Mask),
 ) -> Option<Said>
-    ensures { result ≡ spec.own_write_says core.now ann.now node.now name masks }
+    ensures { result ≡ spec.own_write_says core.now children.now node.now name masks }
 {
     let field = own_field(core, node, name)?;
-    let value = value_type(ann, node.children.as_slice())?;
-    let reached = through(ann, node.children.as_slice(), masks)?;
+    let value = value_type(children)?;
+    let reached = through_notes(children, masks)?;
     if own_writes(core, value, field, reached.1) {
         Some(says_of(
             own_old(field, reached.1),
@@ -264,15 +264,15 @@ fn own_write_says(
 // A field of `this` that is written before all fields are set.
 pub(crate) fn putown_says(
     core: &Core,
-    ann: &Ann,
+    children: &Children,
     node: &Node,
     name: u32,
     masks: (Mask, Mask),
 ) -> Option<Said>
-    ensures { result ≡ spec.putown_says core.now ann.now node.now name masks }
+    ensures { result ≡ spec.putown_says core.now children.now node.now name masks }
 {
-    if incomplete(core, ann, node) {
-        own_write_says(core, ann, node, name, masks)
+    if incomplete(core, children, node) {
+        own_write_says(core, children, node, name, masks)
     } else {
         None
     }

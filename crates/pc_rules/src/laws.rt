@@ -30,3 +30,10 @@ pub fn seq_takes_out()
 pub fn one_annotation_is_valid()
     ensures { law.OneValid }
 {}
+
+/// The rules are the records of `specs/Meaning.antt`, which say of each rule its condition, its type and its masks: a rule
+/// says of a node what the node's note says exactly where its record holds of the note.
+#[tactic(auto, using(crate::proofs::MeantCalls::rules_are_records))]
+pub fn rules_are_records()
+    ensures { law.RulesAreRecords }
+{}

@@ -1,7 +1,15 @@
 //! The typing rules: what each says of a node, and when an annotation of a core is valid.
+//!
+//! Proved: The 31 typing rules, valid annotations and derivable cores as definitions. Each rule is a record of its
+//! condition, its type and its masks (`rules_are_records`). `rule_holds` decides, for every core, whether a node meets
+//! its rule, and `holds` does so from the types of the slots and the notes of the node's children alone; a rule and the
+//! masks before a node determine what is said of it (`rules_determine`); what consuming, defining and the end of a
+//! sequence do to the masks; at most one annotation of a core is valid (`one_annotation_is_valid`). A small program
+//! meets its rules, and wrong notes of it meet none.
 #![tactic(auto)]
 
 mod calls;
+mod children;
 mod control;
 mod examples;
 mod fields;
@@ -15,9 +23,10 @@ mod values;
 pub use control::{start_live, start_set};
 pub use examples::{each_node_meets_its_rule, wrong_notes_meet_no_rule};
 pub use laws::{
-    consume_takes_out, define_puts_in, one_annotation_is_valid, rules_determine, seq_takes_out,
+    consume_takes_out, define_puts_in, one_annotation_is_valid, rules_are_records, rules_determine,
+    seq_takes_out,
 };
 pub use parts::{constructs, full};
 pub use pc_ann::{Ann, Mask, Note, Rule};
-pub use rules::{rule_holds, says};
+pub use rules::{holds, rule_holds, says};
 pub use said::Said;

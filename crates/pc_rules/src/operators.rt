@@ -2,11 +2,13 @@
 ghost use Rattle.std.specs.Prelude.{◌≡◌, ◌&&◌, ◌||◌};
 ghost use Rattle.pc_rules.specs.Operators as spec;
 
-use crate::parts::{one_child, reads_as, says_of, through, two_children, two_types, type_of};
+use crate::children::Children;
+use crate::parts::{
+    after, one_type, reads_as, says_of, starts, through_notes, two_notes, two_types,
+};
 use crate::said::Said;
-use pc_ann::{Ann, Mask};
+use pc_ann::Mask;
 use pc_caps::Form;
-use pc_core::Node;
 use pc_tree::Op;
 
 fn is_arithmetic(op: Op) -> bool
@@ -47,32 +49,32 @@ fn both_read_as(entity: u32, values: ((u32, Form), (u32, Form))) -> bool
 }
 
 // The masks behind two children, and a value of this entity, as `val`.
-fn value_says(entity: u32, ann: &Ann, node: &Node, masks: (Mask, Mask)) -> Option<Said>
-    ensures { result ≡ spec.value_says entity ann.now node.now masks }
+fn value_says(entity: u32, children: &Children, masks: (Mask, Mask)) -> Option<Said>
+    ensures { result ≡ spec.value_says entity children.now masks }
 {
-    let reached = through(ann, node.children.as_slice(), masks)?;
+    let reached = through_notes(children, masks)?;
     Some(says_of(Some((entity, Form::Val)), reached))
 }
 
 // Arithmetic.
-pub(crate) fn arith_says(ann: &Ann, node: &Node, op: Op, masks: (Mask, Mask)) -> Option<Said>
-    ensures { result ≡ spec.arith_says ann.now node.now op masks }
+pub(crate) fn arith_says(children: &Children, op: Op, masks: (Mask, Mask)) -> Option<Said>
+    ensures { result ≡ spec.arith_says children.now op masks }
 {
-    let values = two_types(ann, node.children.as_slice())?;
+    let values = two_types(children)?;
     if is_arithmetic(op) && both_read_as(1, values) {
-        value_says(1, ann, node, masks)
+        value_says(1, children, masks)
     } else {
         None
     }
 }
 
 // Less and greater.
-pub(crate) fn compare_says(ann: &Ann, node: &Node, op: Op, masks: (Mask, Mask)) -> Option<Said>
-    ensures { result ≡ spec.compare_says ann.now node.now op masks }
+pub(crate) fn compare_says(children: &Children, op: Op, masks: (Mask, Mask)) -> Option<Said>
+    ensures { result ≡ spec.compare_says children.now op masks }
 {
-    let values = two_types(ann, node.children.as_slice())?;
+    let values = two_types(children)?;
     if is_comparison(op) && both_read_as(1, values) {
-        value_says(2, ann, node, masks)
+        value_says(2, children, masks)
     } else {
         None
     }
@@ -86,60 +88,59 @@ fn comparable(values: ((u32, Form), (u32, Form))) -> bool
 }
 
 // Equality.
-pub(crate) fn equal_says(ann: &Ann, node: &Node, op: Op, masks: (Mask, Mask)) -> Option<Said>
-    ensures { result ≡ spec.equal_says ann.now node.now op masks }
+pub(crate) fn equal_says(children: &Children, op: Op, masks: (Mask, Mask)) -> Option<Said>
+    ensures { result ≡ spec.equal_says children.now op masks }
 {
-    let values = two_types(ann, node.children.as_slice())?;
+    let values = two_types(children)?;
     if is_equality(op) && comparable(values) {
-        value_says(2, ann, node, masks)
+        value_says(2, children, masks)
     } else {
         None
     }
 }
 
 // Two texts as one.
-pub(crate) fn join_says(ann: &Ann, node: &Node, op: Op, masks: (Mask, Mask)) -> Option<Said>
-    ensures { result ≡ spec.join_says ann.now node.now op masks }
+pub(crate) fn join_says(children: &Children, op: Op, masks: (Mask, Mask)) -> Option<Said>
+    ensures { result ≡ spec.join_says children.now op masks }
 {
-    let values = two_types(ann, node.children.as_slice())?;
+    let values = two_types(children)?;
     if is_add(op) && both_read_as(3, values) {
-        value_says(3, ann, node, masks)
+        value_says(3, children, masks)
     } else {
         None
     }
 }
 
 // `xor`.
-pub(crate) fn xor_says(ann: &Ann, node: &Node, op: Op, masks: (Mask, Mask)) -> Option<Said>
-    ensures { result ≡ spec.xor_says ann.now node.now op masks }
+pub(crate) fn xor_says(children: &Children, op: Op, masks: (Mask, Mask)) -> Option<Said>
+    ensures { result ≡ spec.xor_says children.now op masks }
 {
-    let values = two_types(ann, node.children.as_slice())?;
+    let values = two_types(children)?;
     if is_xor(op) && both_read_as(2, values) {
-        value_says(2, ann, node, masks)
+        value_says(2, children, masks)
     } else {
         None
     }
 }
 
 // `not`.
-pub(crate) fn not_says(ann: &Ann, node: &Node, masks: (Mask, Mask)) -> Option<Said>
-    ensures { result ≡ spec.not_says ann.now node.now masks }
+pub(crate) fn not_says(children: &Children, masks: (Mask, Mask)) -> Option<Said>
+    ensures { result ≡ spec.not_says children.now masks }
 {
-    let child = one_child(node.children.as_slice())?;
-    let value = type_of(ann, child)?;
+    let value = one_type(children)?;
     if reads_as(2, value) {
-        value_says(2, ann, node, masks)
+        value_says(2, children, masks)
     } else {
         None
     }
 }
 
 // `is` and `isnt`.
-pub(crate) fn identity_says(ann: &Ann, node: &Node, masks: (Mask, Mask)) -> Option<Said>
-    ensures { result ≡ spec.identity_says ann.now node.now masks }
+pub(crate) fn identity_says(children: &Children, masks: (Mask, Mask)) -> Option<Said>
+    ensures { result ≡ spec.identity_says children.now masks }
 {
-    let _values = two_types(ann, node.children.as_slice())?;
-    value_says(2, ann, node, masks)
+    let _values = two_types(children)?;
+    value_says(2, children, masks)
 }
 
 // The masks behind both of two ways.
@@ -150,21 +151,24 @@ pub(crate) fn meet_masks(a: (Mask, Mask), b: (Mask, Mask)) -> (Mask, Mask)
 }
 
 // The masks behind an operator whose right side may not be evaluated.
-fn lazy_masks(ann: &Ann, children: &[u32], masks: (Mask, Mask)) -> Option<(Mask, Mask)>
-    ensures { result ≡ spec.lazy_masks ann.now children.now masks }
+fn lazy_masks(children: &Children, masks: (Mask, Mask)) -> Option<(Mask, Mask)>
+    ensures { result ≡ spec.lazy_masks children.now masks }
 {
-    let both = two_children(children)?;
-    let left = through(ann, &[both.0], masks)?;
-    let right = through(ann, &[both.1], left)?;
-    Some(meet_masks(left, right))
+    let both = two_notes(children)?;
+    let left = after(both.0);
+    if starts(both.0, masks) && starts(both.1, left) {
+        Some(meet_masks(left, after(both.1)))
+    } else {
+        None
+    }
 }
 
 // `and` and `or`.
-pub(crate) fn lazy_says(ann: &Ann, node: &Node, masks: (Mask, Mask)) -> Option<Said>
-    ensures { result ≡ spec.lazy_says ann.now node.now masks }
+pub(crate) fn lazy_says(children: &Children, masks: (Mask, Mask)) -> Option<Said>
+    ensures { result ≡ spec.lazy_says children.now masks }
 {
-    let values = two_types(ann, node.children.as_slice())?;
-    let reached = lazy_masks(ann, node.children.as_slice(), masks)?;
+    let values = two_types(children)?;
+    let reached = lazy_masks(children, masks)?;
     if both_read_as(2, values) {
         Some(says_of(Some((2, Form::Val)), reached))
     } else {

@@ -3,6 +3,7 @@ ghost use Rattle.std.specs.Prelude.{◌≡◌, length, slice_get};
 ghost use Rattle.pc_ann.specs.Masks.{first};
 ghost use Rattle.pc_rules.specs.Parts as spec;
 
+use crate::children::Children;
 use crate::said::Said;
 use pc_ann::{Ann, Mask, Note};
 use pc_caps::{Cap, Form, below, fits, sendable};
@@ -49,12 +50,17 @@ pub(crate) fn reads_as(entity: u32, value: (u32, Form)) -> bool
 }
 
 // A slot of a method by its index, with its type.
-pub(crate) fn slot_of(core: &Core, ann: &Ann, method: u32, slot: u32) -> Option<(Slot, (u32, Cap))>
-    ensures { result ≡ spec.slot_of core.now ann.now method slot }
+pub(crate) fn slot_of(
+    core: &Core,
+    slots: &[(u32, Cap)],
+    method: u32,
+    slot: u32,
+) -> Option<(Slot, (u32, Cap))>
+    ensures { result ≡ spec.slot_of core.now slots.now method slot }
 {
     let method = core.method_at(method)?;
     let declared = core.slot_at(method, slot)?;
-    let ty = ann.slots.get(method.first_slot as usize + slot as usize)?;
+    let ty = slots.get(method.first_slot as usize + slot as usize)?;
     Some((*declared, *ty))
 }
 
@@ -115,13 +121,13 @@ pub(crate) fn note_at(ann: &Ann, node: u32) -> Option<Note>
     ann.notes.get(node as usize).copied()
 }
 
-// The masks behind these nodes, one evaluated after the other from these masks on.
-pub(crate) fn through(ann: &Ann, children: &[u32], masks: (Mask, Mask)) -> Option<(Mask, Mask)>
-    ensures { result ≡ spec.through ann.now children.now masks }
+// The masks behind nodes of these notes, one evaluated after the other from these masks on.
+pub(crate) fn through_notes(children: &Children, masks: (Mask, Mask)) -> Option<(Mask, Mask)>
+    ensures { result ≡ spec.through_notes children.now masks }
 {
     let mut reached = masks;
-    for child in children {
-        let note = note_at(ann, *child)?;
+    for index in 0..children.count() {
+        let note = children.note(index)?;
         if !starts(note, reached) {
             return None;
         }
@@ -130,49 +136,80 @@ pub(crate) fn through(ann: &Ann, children: &[u32], masks: (Mask, Mask)) -> Optio
     Some(reached)
 }
 
-// The type of a child.
-pub(crate) fn type_of(ann: &Ann, child: u32) -> Option<(u32, Form)>
-    ensures { result ≡ spec.type_of ann.now child }
+// The masks behind a node of this note.
+pub(crate) fn after(note: Note) -> (Mask, Mask)
+    ensures { result ≡ spec.after note }
 {
-    let note = note_at(ann, child)?;
+    (note.live_after, note.set_after)
+}
+
+pub(crate) fn one_note(children: &Children) -> Option<Note>
+    ensures { result ≡ spec.one_note children.now }
+{
+    if children.count() == 1 {
+        children.note(0)
+    } else {
+        None
+    }
+}
+
+pub(crate) fn two_notes(children: &Children) -> Option<(Note, Note)>
+    ensures { result ≡ spec.two_notes children.now }
+{
+    if children.count() == 2 {
+        let first = children.note(0)?;
+        let second = children.note(1)?;
+        Some((first, second))
+    } else {
+        None
+    }
+}
+
+pub(crate) fn three_notes(children: &Children) -> Option<(Note, Note, Note)>
+    ensures { result ≡ spec.three_notes children.now }
+{
+    if children.count() == 3 {
+        let first = children.note(0)?;
+        let second = children.note(1)?;
+        let third = children.note(2)?;
+        Some((first, second, third))
+    } else {
+        None
+    }
+}
+
+pub(crate) fn last_note(children: &Children) -> Option<Note>
+    ensures { result ≡ spec.last_note children.now }
+{
+    let count = children.count();
+    if count == 0 {
+        return None;
+    }
+    children.note(count - 1)
+}
+
+// The type of an only child.
+pub(crate) fn one_type(children: &Children) -> Option<(u32, Form)>
+    ensures { result ≡ spec.one_type children.now }
+{
+    let note = one_note(children)?;
     note.ty
 }
 
-pub(crate) fn one_child(children: &[u32]) -> Option<u32>
-    ensures { result ≡ spec.one_child children.now }
+fn types_of(notes: (Note, Note)) -> Option<((u32, Form), (u32, Form))>
+    ensures { result ≡ spec.types_of notes }
 {
-    match children {
-        [a] => Some(*a),
-        _ => None,
-    }
-}
-
-pub(crate) fn two_children(children: &[u32]) -> Option<(u32, u32)>
-    ensures { result ≡ spec.two_children children.now }
-{
-    match children {
-        [a, b] => Some((*a, *b)),
-        _ => None,
-    }
-}
-
-pub(crate) fn three_children(children: &[u32]) -> Option<(u32, u32, u32)>
-    ensures { result ≡ spec.three_children children.now }
-{
-    match children {
-        [a, b, c] => Some((*a, *b, *c)),
-        _ => None,
-    }
+    let a = notes.0.ty?;
+    let b = notes.1.ty?;
+    Some((a, b))
 }
 
 // The types of two children.
-pub(crate) fn two_types(ann: &Ann, children: &[u32]) -> Option<((u32, Form), (u32, Form))>
-    ensures { result ≡ spec.two_types ann.now children.now }
+pub(crate) fn two_types(children: &Children) -> Option<((u32, Form), (u32, Form))>
+    ensures { result ≡ spec.two_types children.now }
 {
-    let both = two_children(children)?;
-    let a = type_of(ann, both.0)?;
-    let b = type_of(ann, both.1)?;
-    Some((a, b))
+    let notes = two_notes(children)?;
+    types_of(notes)
 }
 
 pub(crate) fn last_child(children: &[u32]) -> Option<u32>

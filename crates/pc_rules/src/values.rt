@@ -2,9 +2,10 @@
 ghost use Rattle.std.specs.Prelude.{◌≡◌};
 ghost use Rattle.pc_rules.specs.Values as spec;
 
-use crate::parts::{full, goes_to, one_child, reachable, says_of, slot_of, through, type_of};
+use crate::children::Children;
+use crate::parts::{full, goes_to, one_type, reachable, says_of, slot_of, through_notes};
 use crate::said::Said;
-use pc_ann::{Ann, Mask};
+use pc_ann::Mask;
 use pc_caps::{Cap, Form, plain, stored, unalias};
 use pc_core::{Core, Node, Slot, SlotKind};
 
@@ -27,20 +28,25 @@ fn this_form(core: &Core, node: &Node, entity: u32, slot: (Slot, (u32, Cap)), se
 }
 
 // `this`.
-pub(crate) fn this_says(core: &Core, ann: &Ann, node: &Node, masks: (Mask, Mask)) -> Option<Said>
-    ensures { result ≡ spec.this_says core.now ann.now node.now masks }
+pub(crate) fn this_says(
+    core: &Core,
+    slots: &[(u32, Cap)],
+    node: &Node,
+    masks: (Mask, Mask),
+) -> Option<Said>
+    ensures { result ≡ spec.this_says core.now slots.now node.now masks }
 {
     let method = core.method_at(node.method)?;
-    let slot = slot_of(core, ann, node.method, 0)?;
+    let slot = slot_of(core, slots, node.method, 0)?;
     let form = this_form(core, node, method.entity, slot, masks.1);
     Some(says_of(Some((method.entity, form)), masks))
 }
 
 // The type of a live and reachable slot.
-fn used(core: &Core, ann: &Ann, node: &Node, slot: u32, live: Mask) -> Option<(u32, Cap)>
-    ensures { result ≡ spec.used core.now ann.now node.now slot live }
+fn used(core: &Core, slots: &[(u32, Cap)], node: &Node, slot: u32, live: Mask) -> Option<(u32, Cap)>
+    ensures { result ≡ spec.used core.now slots.now node.now slot live }
 {
-    let found = slot_of(core, ann, node.method, slot)?;
+    let found = slot_of(core, slots, node.method, slot)?;
     if live.has(slot) && reachable(node, found) {
         Some(found.1)
     } else {
@@ -51,28 +57,28 @@ fn used(core: &Core, ann: &Ann, node: &Node, slot: u32, live: Mask) -> Option<(u
 // A local or parameter.
 pub(crate) fn local_says(
     core: &Core,
-    ann: &Ann,
+    slots: &[(u32, Cap)],
     node: &Node,
     slot: u32,
     masks: (Mask, Mask),
 ) -> Option<Said>
-    ensures { result ≡ spec.local_says core.now ann.now node.now slot masks }
+    ensures { result ≡ spec.local_says core.now slots.now node.now slot masks }
 {
-    let ty = used(core, ann, node, slot, masks.0)?;
+    let ty = used(core, slots, node, slot, masks.0)?;
     Some(says_of(Some((ty.0, plain(ty.1))), masks))
 }
 
 // `consume` of a local or parameter.
 pub(crate) fn consume_says(
     core: &Core,
-    ann: &Ann,
+    slots: &[(u32, Cap)],
     node: &Node,
     slot: u32,
     masks: (Mask, Mask),
 ) -> Option<Said>
-    ensures { result ≡ spec.consume_says core.now ann.now node.now slot masks }
+    ensures { result ≡ spec.consume_says core.now slots.now node.now slot masks }
 {
-    let ty = used(core, ann, node, slot, masks.0)?;
+    let ty = used(core, slots, node, slot, masks.0)?;
     Some(says_of(
         Some((ty.0, unalias(ty.1))),
         (masks.0.without(slot), masks.1),
@@ -116,28 +122,28 @@ fn defines(core: &Core, slot: (Slot, (u32, Cap)), value: (u32, Form)) -> bool
     same_place(slot.1, defined_type(slot.0.written, value)) && goes_to(core, value, slot.1)
 }
 
-fn defined(ann: &Ann, node: &Node, slot: u32, masks: (Mask, Mask)) -> Option<Said>
-    ensures { result ≡ spec.defined ann.now node.now slot masks }
+fn defined(children: &Children, slot: u32, masks: (Mask, Mask)) -> Option<Said>
+    ensures { result ≡ spec.defined children.now slot masks }
 {
-    let reached = through(ann, node.children.as_slice(), masks)?;
+    let reached = through_notes(children, masks)?;
     Some(says_of(None, (reached.0.with(slot), reached.1)))
 }
 
 // The definition of a local.
 pub(crate) fn define_says(
     core: &Core,
-    ann: &Ann,
+    slots: &[(u32, Cap)],
+    children: &Children,
     node: &Node,
     slot: u32,
     masks: (Mask, Mask),
 ) -> Option<Said>
-    ensures { result ≡ spec.define_says core.now ann.now node.now slot masks }
+    ensures { result ≡ spec.define_says core.now slots.now children.now node.now slot masks }
 {
-    let child = one_child(node.children.as_slice())?;
-    let value = type_of(ann, child)?;
-    let found = slot_of(core, ann, node.method, slot)?;
+    let value = one_type(children)?;
+    let found = slot_of(core, slots, node.method, slot)?;
     if defines(core, found, value) {
-        defined(ann, node, slot, masks)
+        defined(children, slot, masks)
     } else {
         None
     }
@@ -154,10 +160,10 @@ fn old_value(slot: u32, ty: (u32, Cap), live: Mask) -> Option<(u32, Form)>
     }
 }
 
-fn assigned(ann: &Ann, node: &Node, slot: u32, ty: (u32, Cap), masks: (Mask, Mask)) -> Option<Said>
-    ensures { result ≡ spec.assigned ann.now node.now slot ty masks }
+fn assigned(children: &Children, slot: u32, ty: (u32, Cap), masks: (Mask, Mask)) -> Option<Said>
+    ensures { result ≡ spec.assigned children.now slot ty masks }
 {
-    let reached = through(ann, node.children.as_slice(), masks)?;
+    let reached = through_notes(children, masks)?;
     Some(says_of(
         old_value(slot, ty, reached.0),
         (reached.0.with(slot), reached.1),
@@ -180,18 +186,18 @@ fn assigns(core: &Core, node: &Node, slot: (Slot, (u32, Cap)), value: (u32, Form
 // The assignment to a local or parameter.
 pub(crate) fn assign_says(
     core: &Core,
-    ann: &Ann,
+    slots: &[(u32, Cap)],
+    children: &Children,
     node: &Node,
     slot: u32,
     masks: (Mask, Mask),
 ) -> Option<Said>
-    ensures { result ≡ spec.assign_says core.now ann.now node.now slot masks }
+    ensures { result ≡ spec.assign_says core.now slots.now children.now node.now slot masks }
 {
-    let child = one_child(node.children.as_slice())?;
-    let value = type_of(ann, child)?;
-    let found = slot_of(core, ann, node.method, slot)?;
+    let value = one_type(children)?;
+    let found = slot_of(core, slots, node.method, slot)?;
     if assigns(core, node, found, value) {
-        assigned(ann, node, slot, found.1, masks)
+        assigned(children, slot, found.1, masks)
     } else {
         None
     }

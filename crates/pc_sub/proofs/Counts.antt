@@ -3,14 +3,13 @@ use Rattle.std.specs.Prelude.{◌≡◌, ℕ, ◌+◌, ◌<◌, ◌^◌, List, �
 use Rattle.std.proofs.Common.{inl, inr, ap, sym, subst, ◌∙◌, arith}
 use Rattle.std.proofs.lemmas.List.{length-map, length-append}
 use Rattle.std.proofs.lemmas.Option.{same_Some, slice_get_read}
-use Rattle.pc_caps.specs.Gets.{get_within}
+use Rattle.pc_lists.proofs.Gets.{get_within, get_range}
 use Rattle.pc_core.specs.declared.declarations.Method.{Method}
 use Rattle.pc_core.specs.declared.nodes.Slot.{Slot}
 use Rattle.pc_core.specs.CoreData.{CoreData}
 use Rattle.pc_core.specs.Lookup.{own_slots}
 use Rattle.pc_core.specs.Methods.{SlotsFit, this_slot, param_slot}
 use Rattle.pc_core.specs.Formed.{Formed}
-use Rattle.pc_core.specs.Runs.{get_range}
 
 -- The last parameter has a slot.
 in_slots : (core : CoreData) (m : ℕ) (x : Method) → SlotsFit core m x → length x.params < x.slots

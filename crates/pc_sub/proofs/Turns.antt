@@ -1,8 +1,7 @@
 -- One turn of a loop that looks for the first fault: the faults from an element on are its own, and then those of the rest.
-use Rattle.std.specs.Prelude.{◌≡◌, ℕ, zero, suc, ◌+◌, ◌<◌, false, List, [], ◌∷◌, length, drop, Some, None, get_or, slice_get, refl}
+use Rattle.std.specs.Prelude.{◌≡◌, ℕ, ◌+◌, ◌<◌, false, List, [], ◌∷◌, length, drop, Some, None, get_or, slice_get, refl}
 use Rattle.std.proofs.Common.{ap, sym, subst, ◌∙◌, arith}
-use Rattle.std.proofs.lemmas.List.{length-drop}
-use Rattle.std.proofs.lemmas.Option.{same_Some, none-some, slice_get_read, slice_get-get_or}
+use Rattle.std.proofs.lemmas.Option.{slice_get-get_or}
 use Rattle.pc_core.specs.declared.declarations.EntityDef.{EntityDef}
 use Rattle.pc_core.specs.declared.declarations.Method.{Method}
 use Rattle.pc_core.specs.declared.declarations.ParamInfo.{ParamInfo}
@@ -10,19 +9,11 @@ use Rattle.pc_core.specs.CoreData.{CoreData}
 use Rattle.pc_sub.specs.declared.faults.DeclFault.{DeclFault}
 use Rattle.pc_sub.specs.Declarations as spec
 use Rattle.pc_sub.specs.Faults.{passed, stopped}
-
-drop_item : {A : Type 0} → (xs : List A) (i : ℕ) (x : A) → slice_get xs i ≡ Some x → drop i xs ≡ x ∷ drop (i + 1) xs
-drop_item [] i x e = absurd (none-some x e)
-drop_item (y ∷ ys) zero x e = let one : 1 ≡ 0 + 1 = omega arith in ap (λ z. z ∷ ys) (same_Some y x e) ∙ ap (λ n. x ∷ drop n (y ∷ ys)) one
-drop_item (y ∷ ys) (suc i) x e = let next : suc (i + 1) ≡ suc i + 1 = omega arith in drop_item ys i x e ∙ ap (λ n. x ∷ drop n (y ∷ ys)) next
-
--- What a list has from the place of an item on.
-from_item : {A : Type 0} → (xs : List A) (i : ℕ) (x : A) → i < length xs → x ≡ get_or xs i x → drop i xs ≡ x ∷ drop (i + 1) xs
-from_item xs i x l e = drop_item xs i x (slice_get_read xs (length xs) i x refl l e)
+use Rattle.pc_lists.proofs.Cuts.{drop_item, item_first}
 
 -- The same of a list that was looked at.
 from_seen : {A : Type 0} → (xs ys : List A) (i : ℕ) (x : A) → ys ≡ xs → i < length ys → x ≡ get_or ys i x → drop i xs ≡ x ∷ drop (i + 1) xs
-from_seen xs ys i x same l e = subst (λ zs. drop i zs ≡ x ∷ drop (i + 1) zs) same (from_item ys i x l e)
+from_seen xs ys i x same l e = subst (λ zs. drop i zs ≡ x ∷ drop (i + 1) zs) same (item_first ys i x l e)
 
 -- ---- parameters, method by method
 
@@ -38,10 +29,10 @@ abbrev pub method_faults : CoreData → ℕ → ℕ → Method → List DeclFaul
 method_faults core e n t = spec.method_faults core e n t (spec.method_like core e t)
 
 pub methods_stop : (core : CoreData) (e : ℕ) (xs : List Method) (n i : ℕ) (x : Method) (f : DeclFault) → i < length xs → x ≡ get_or xs i x → slice_get (method_faults core e n x) 0 ≡ Some f → slice_get (spec.trait_faults core e n (drop i xs)) 0 ≡ Some f
-methods_stop core e xs n i x f l g h = ap (λ ys. slice_get (spec.trait_faults core e n ys) 0) (from_item xs i x l g) ∙ stopped (method_faults core e n x) _ f h
+methods_stop core e xs n i x f l g h = ap (λ ys. slice_get (spec.trait_faults core e n ys) 0) (item_first xs i x l g) ∙ stopped (method_faults core e n x) _ f h
 
 pub methods_pass : (core : CoreData) (e : ℕ) (xs : List Method) (n i : ℕ) (x : Method) → i < length xs → x ≡ get_or xs i x → slice_get (method_faults core e n x) 0 ≡ None → slice_get (spec.trait_faults core e (n + 1) (drop (i + 1) xs)) 0 ≡ slice_get (spec.trait_faults core e n (drop i xs)) 0
-methods_pass core e xs n i x l g h = sym (ap (λ ys. slice_get (spec.trait_faults core e n ys) 0) (from_item xs i x l g) ∙ passed (method_faults core e n x) _ h)
+methods_pass core e xs n i x l g h = sym (ap (λ ys. slice_get (spec.trait_faults core e n ys) 0) (item_first xs i x l g) ∙ passed (method_faults core e n x) _ h)
 
 -- ---- the traits of an `is` list
 
@@ -71,9 +62,6 @@ entities_pass core xs ys n i x bs same l g own h =
     ∙ passed (spec.list_faults core n x.provides) _ (subst (λ cs. slice_get (spec.list_faults core n cs) 0 ≡ None) own h))
 
 -- ---- fewer parameters than the trait's method has
-
-pub left_over : {A : Type 0} → (xs : List A) (i : ℕ) → i < length xs → 0 < length (drop i xs)
-left_over xs i l = let k = length-drop i xs in omega (arith, k, l)
 
 pub too_few : (core : CoreData) (ps qs : List ParamInfo) → 0 < length ps → length qs < 1 → spec.params_fit core ps qs ≡ false
 too_few core [] qs l m = absurd (omega (arith, l))

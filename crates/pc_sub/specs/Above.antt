@@ -1,38 +1,25 @@
 -- In a core that fits together the computed order is the order.
-use Rattle.std.specs.Prelude.{◌≡◌, ◌⊎◌, ◌↔◌, ℕ, zero, suc, Bool, true, false, ◌||◌, List, [], ◌∷◌, Option, Some, None, IsTrue, nat_eq, slice_get, refl}
+use Rattle.std.specs.Prelude.{◌≡◌, ◌↔◌, ℕ, zero, suc, true, List, [], ◌∷◌, Option, Some, None, IsTrue, nat_eq, slice_get, refl}
 use Rattle.std.proofs.Common.{inl, inr, ap, sym, ◌∙◌}
 use Rattle.std.proofs.lemmas.Option.{same_Some, none-some}
-use Rattle.std.proofs.lemmas.Bool.{eqb-true, eq-eqb}
+use Rattle.std.proofs.lemmas.Bool.{eqb-true, eq-eqb, or_cases, or_left, or_right}
 use Rattle.pc_core.specs.declared.declarations.EntityDef.{EntityDef}
 use Rattle.pc_core.specs.CoreData.{CoreData}
-use Rattle.pc_core.specs.Words.{Has}
+use Rattle.pc_lists.specs.Places.{Has}
 use Rattle.pc_core.specs.Entities.{Leads, one, more}
 use Rattle.pc_core.specs.Formed.{Formed}
 use Rattle.pc_sub.specs.Sub.{Sub, is_in, above_in, is_sub}
-
-false_true : false ≡ true → ⊥
-false_true e = cc e
+use Rattle.pc_lists.proofs.Bools.{false_true}
 
 -- A chain begins at an entity that is there.
 begins : (core : CoreData) (a b : ℕ) → Leads core a b → slice_get core.entities a ≡ None → ⊥
 begins core a b (one n) e = none-some n.0 (sym e ∙ n.1)
 begins core a b (more n r) e = none-some n.0 (sym e ∙ n.1)
 
-or_parts : (a b : Bool) → (a || b) ≡ true → (a ≡ true) ⊎ (b ≡ true)
-or_parts true b e = inl refl
-or_parts false b e = inr e
-
-or_left : (a b : Bool) → a ≡ true → (a || b) ≡ true
-or_left a b e = ap (λ c. c || b) e
-
-or_right : (a b : Bool) → b ≡ true → (a || b) ≡ true
-or_right true b e = refl
-or_right false b e = e
-
 in_has : (b : ℕ) (xs : List ℕ) → is_in b xs ≡ true → Has xs b
 in_has b [] e = absurd (false_true e)
 in_has b (x ∷ xs) e =
-    elim (or_parts (nat_eq x b) (is_in b xs) e) [
+    elim (or_cases (nat_eq x b) (is_in b xs) e) [
       | inl h ↦ (0, ap Some (eqb-true x b h))
       | inr h ↦ let k = in_has b xs h in (suc k.0, k.1)
     ]
@@ -52,7 +39,7 @@ leads_above core a b (Some x) f e h = let k = ((f.entities a x e).above b).1 h i
 
 pub is_sub_iff : (core : CoreData) (a b : ℕ) → Formed core → (IsTrue (is_sub core a b)) ↔ (Sub core a b)
 is_sub_iff core a b f = (
-  λ h. elim (or_parts (nat_eq a b) (is_in b (above_in (slice_get core.entities a))) h) [
+  λ h. elim (or_cases (nat_eq a b) (is_in b (above_in (slice_get core.entities a))) h) [
     | inl e ↦ inl (eqb-true a b e)
     | inr e ↦ inr (above_leads core a b (slice_get core.entities a) f refl e)
   ],

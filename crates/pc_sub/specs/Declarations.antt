@@ -11,7 +11,8 @@ use Rattle.pc_core.specs.declared.declarations.MethodKind.TheVariants as method
 use Rattle.pc_core.specs.declared.declarations.ParamInfo.{ParamInfo}
 use Rattle.pc_core.specs.CoreData.{CoreData}
 use Rattle.pc_core.specs.Formed.{Formed}
-use Rattle.pc_core.specs.Words.{◌>>=◌, Each}
+use Rattle.pc_lists.specs.Places.{Each}
+use Rattle.pc_lists.specs.Options.{◌>>=◌}
 use Rattle.pc_core.specs.Lookup.{own_methods, method_named, IsMethod}
 use Rattle.pc_sub.specs.declared.faults.DeclFault.{DeclFault}
 use Rattle.pc_sub.specs.declared.faults.DeclFault.TheVariants as fault

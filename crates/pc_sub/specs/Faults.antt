@@ -1,11 +1,11 @@
 -- No declaration fails exactly where the declarations fit.
-use Rattle.std.specs.Prelude.{◌≡◌, ℕ, zero, suc, ◌+◌, ◌-◌, ◌<◌, ◌≤◌, Bool, true, false, ◌&&◌, cond, List, [], ◌∷◌, ◌++◌, map, length, Option, Some, None, slice_get, refl}
+use Rattle.std.specs.Prelude.{◌≡◌, ℕ, zero, suc, ◌+◌, ◌-◌, ◌<◌, ◌≤◌, Bool, true, false, cond, List, [], ◌∷◌, ◌++◌, map, length, Option, Some, None, slice_get, refl}
 use Rattle.std.proofs.Common.{ap, sym, subst, ◌∙◌, arith}
-use Rattle.std.proofs.lemmas.Bool.{and_parts}
+use Rattle.std.proofs.lemmas.Bool.{and_parts, and_from}
 use Rattle.std.proofs.lemmas.List.{length-map}
 use Rattle.std.proofs.lemmas.Option.{same_Some, none-some, cond_some}
 use Rattle.pc_caps.specs.Closure.{below_iff}
-use Rattle.pc_caps.specs.Gets.{get_below}
+use Rattle.pc_lists.proofs.Gets.{get_below, get_append, get_map, range_get}
 use Rattle.pc_caps.specs.Tables.{unalias, sendable}
 use Rattle.pc_core.specs.declared.declarations.EntityDef.{EntityDef}
 use Rattle.pc_core.specs.declared.declarations.Method.{Method}
@@ -13,12 +13,12 @@ use Rattle.pc_core.specs.declared.declarations.MethodKind.{MethodKind}
 use Rattle.pc_core.specs.declared.declarations.MethodKind.TheVariants as method
 use Rattle.pc_core.specs.declared.declarations.ParamInfo.{ParamInfo}
 use Rattle.pc_core.specs.CoreData.{CoreData}
-use Rattle.pc_core.specs.Words.{◌>>=◌, Each}
+use Rattle.pc_lists.specs.Places.{Each}
+use Rattle.pc_lists.specs.Options.{◌>>=◌}
 use Rattle.pc_core.specs.Lookup.{own_methods, field_name, method_name, method_named, IsMethod}
 use Rattle.pc_core.specs.Formed.{Formed}
-use Rattle.pc_core.specs.Growing.{get_append}
-use Rattle.pc_core.specs.Members.{bind_some, method_among, method_found, method_missed}
-use Rattle.pc_core.specs.Runs.{get_map, range_get}
+use Rattle.pc_core.specs.Members.{method_among, method_found, method_missed}
+use Rattle.pc_lists.proofs.Options.{bind_some}
 use Rattle.pc_sub.specs.declared.faults.DeclFault.{DeclFault}
 use Rattle.pc_sub.specs.declared.faults.DeclFault.TheVariants as fault
 use Rattle.pc_sub.specs.Above.{is_sub_iff}
@@ -63,9 +63,6 @@ unlooked : (b : Bool) (xs : List DeclFault) → (b ≡ true → Clean xs) → Cl
 unlooked true xs e = e refl
 unlooked false xs e = refl
 
-both_true : (a b : Bool) → a ≡ true → b ≡ true → (a && b) ≡ true
-both_true a b e f = subst (λ c. (c && b) ≡ true) (sym e) f
-
 -- ---- what must be sendable
 
 sent_all : (m i : ℕ) (ps : List ParamInfo) → Clean (spec.not_sendable m i ps) → Each (λ j p. sendable p.cap ≡ true) ps
@@ -94,7 +91,7 @@ fits_param : (core : CoreData) (p q : ParamInfo) → Formed core → spec.param_
 fits_param core p q f e = let k = and_parts _ _ e in ((is_sub_iff core p.entity q.entity f).0 k.0, (below_iff (unalias p.cap) (unalias q.cap)).0 k.1)
 
 param_fit : (core : CoreData) (p q : ParamInfo) → Formed core → spec.ParamFits core p q → spec.param_fits core p q ≡ true
-param_fit core p q f h = both_true _ _ ((is_sub_iff core p.entity q.entity f).1 h.0) ((below_iff (unalias p.cap) (unalias q.cap)).1 h.1)
+param_fit core p q f h = and_from _ _ ((is_sub_iff core p.entity q.entity f).1 h.0) ((below_iff (unalias p.cap) (unalias q.cap)).1 h.1)
 
 -- Each parameter of the trait's method fits the one at its place.
 abbrev ParamsFit : CoreData → List ParamInfo → List ParamInfo → Type 0
@@ -120,7 +117,7 @@ each_fit core [] (q ∷ qs) f l h = absurd (omega (arith, l))
 each_fit core (p ∷ ps) [] f l h = absurd (omega (arith, l))
 each_fit core (p ∷ ps) (q ∷ qs) f l h =
     let m : length qs ≡ length ps = omega (arith, l) in
-    both_true _ _ (param_fit core p q f (h 0 p refl q refl)) (each_fit core ps qs f m (λ i r g. h (suc i) r g))
+    and_from _ _ (param_fit core p q f (h 0 p refl q refl)) (each_fit core ps qs f m (λ i r g. h (suc i) r g))
 
 stands : (core : CoreData) (t y : Method) → Formed core → spec.stands_for core t y ≡ true → spec.StandsFor core t y
 stands core t y f e =
@@ -137,9 +134,9 @@ stands core t y f e =
 
 stood : (core : CoreData) (t y : Method) → Formed core → spec.StandsFor core t y → spec.stands_for core t y ≡ true
 stood core t y f s =
-    both_true _ _
-    (both_true _ _ ((below_iff (unalias t.receiver) (unalias y.receiver)).1 s.receiver) (each_fit core t.params y.params f s.count s.params))
-    (both_true _ _ ((is_sub_iff core y.result.0 t.result.0 f).1 s.entity) ((below_iff y.result.1 t.result.1).1 s.form))
+    and_from _ _
+    (and_from _ _ ((below_iff (unalias t.receiver) (unalias y.receiver)).1 s.receiver) (each_fit core t.params y.params f s.count s.params))
+    (and_from _ _ ((is_sub_iff core y.result.0 t.result.0 f).1 s.entity) ((below_iff y.result.1 t.result.1).1 s.form))
 
 -- ---- the entity's method of a name and kind
 

@@ -1,4 +1,7 @@
 //! Subtypes between entities, and when the declarations of a program fit each other.
+//!
+//! Proved: `is_sub` is the order between entities, by chains of `is`. `declarations` is Ok exactly where the
+//! declarations fit, and else names the first that does not.
 #![tactic(auto)]
 
 mod checks;

@@ -1,11 +1,12 @@
 use Rattle.std.proofs.Common.{◌+◌, ap}
-use Rattle.pc_judge.proofs.Kept.{first_wrong, kept_next, kept_all, not_kept}
+use Rattle.pc_judge.proofs.Kept.{first_wrong, kept_next, kept_all}
+use Rattle.std.proofs.lemmas.Bool.{both_ways}
 use Rattle.pc_judge.proofs.slots.wrong_slot.Goals as goal
 
 pub returns-then-not-keeps_type : goal.returns-then-not-keeps_type
 returns-then-not-keeps_type c =
     first_wrong c.args.core.now c.args.ann.now c.slots-slot-items.result.now c.loop-slot.number c.loop-slot.slot-index _ c.slots-slot-items.ensures c.loop-slot-test.true c.loop-slot.invariant.at c.loop-slot.invariant.kept
-    (λ h. not_kept c.keeps_type.result c.if-not-keeps_type.true (c.keeps_type.ensures.1 h))
+    (λ h. both_ways c.keeps_type.result c.if-not-keeps_type.true (c.keeps_type.ensures.1 h))
 
 pub loop-slot-preserved : goal.loop-slot-preserved
 loop-slot-preserved c =

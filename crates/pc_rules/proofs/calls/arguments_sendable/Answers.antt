@@ -1,9 +1,30 @@
-use Rattle.std.proofs.Common.{sym, ◌∙◌, arith}
-use Rattle.std.specs.Prelude.{drop}
-use Rattle.pc_rules.proofs.Arguments.{left_over, too_few_sendable}
+use Rattle.std.proofs.Common.{rules, ◌≡◌, ◌<◌, ◌&&◌, ◌+◌, length, drop, take, true, false, ap, sym, ◌∙◌}
+use Rattle.pc_rules.specs.Children.{sendable_at}
+use Rattle.pc_rules.specs.Calls as spec
+use Rattle.pc_rules.proofs.Arguments.{sendable_counts, count_taken}
+use Rattle.pc_rules.proofs.Further.{sendable_step}
 use Rattle.pc_rules.proofs.calls.arguments_sendable.Goals as goal
 
-pub returns-in-empty : goal.returns-in-empty
-returns-in-empty c =
-    sym (too_few_sendable c.args.ann.now (drop c.loop-argument.argument-index c.args.arguments.now) c.loop-argument.left.now (left_over c.args.arguments.now c.loop-argument.argument-index c.loop-argument-test.true) (omega (arith, c.in-empty.len_below)))
-    ∙ c.loop-argument.invariant
+pub returns-then-params-count : goal.returns-then-params-count
+returns-then-params-count c =
+    let ns = c.args.children.now in
+    let l : length (take c.args.count ns) ≡ c.args.count = count_taken c.args.count ns c.requires in
+    sym (sendable_counts (take c.args.count ns) c.args.params.now (λ e. c.if-params-count.true (e ∙ l)))
+
+pub returns-then-not-sendable_at : goal.returns-then-not-sendable_at
+returns-then-not-sendable_at c =
+    let ns = c.args.children.now in
+    let e : length c.args.params.now ≡ c.args.count = search rules in
+    let b : c.loop-index.index < c.args.count = search rules in
+    let f : sendable_at ns c.args.params.now c.loop-index.index ≡ false = search rules in
+    let rest = spec.arguments_sendable (drop (c.loop-index.index + 1) (take c.args.count ns)) (drop (c.loop-index.index + 1) c.args.params.now) in
+    sym (sendable_step ns c.args.params.now c.args.count c.loop-index.index e c.requires b ∙ ap (λ g. g && rest) f) ∙ c.loop-index.invariant
+
+pub loop-index-preserved : goal.loop-index-preserved
+loop-index-preserved c =
+    let ns = c.args.children.now in
+    let e : length c.args.params.now ≡ c.args.count = search rules in
+    let b : c.loop-index.index < c.args.count = search rules in
+    let f : sendable_at ns c.args.params.now c.loop-index.index ≡ true = search rules in
+    let rest = spec.arguments_sendable (drop (c.loop-index.index + 1) (take c.args.count ns)) (drop (c.loop-index.index + 1) c.args.params.now) in
+    sym (sendable_step ns c.args.params.now c.args.count c.loop-index.index e c.requires b ∙ ap (λ g. g && rest) f) ∙ c.loop-index.invariant

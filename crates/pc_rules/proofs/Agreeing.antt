@@ -4,7 +4,7 @@ use Rattle.std.specs.Prelude.{◌≡◌, ℕ, ◌+◌, ◌-◌, ◌<◌, ◌≤�
 use Rattle.std.proofs.Common.{inl, inr, ap, sym, subst, ◌∙◌, arith}
 use Rattle.std.proofs.lemmas.Option.{same_Some, none-some}
 use Rattle.std.proofs.lemmas.Bool.{cases_lt, and_parts, eqb-true}
-use Rattle.pc_caps.specs.Gets.{get_below, get_within}
+use Rattle.pc_lists.proofs.Gets.{get_below, get_within, get_map, range_get}
 use Rattle.pc_caps.specs.declared.capability.Cap.{Cap}
 use Rattle.pc_caps.specs.declared.capability.Cap.TheVariants as cap
 use Rattle.pc_core.specs.declared.declarations.Method.{Method}
@@ -13,29 +13,31 @@ use Rattle.pc_core.specs.declared.nodes.Node.{Node}
 use Rattle.pc_core.specs.declared.nodes.NodeKind.{NodeKind}
 use Rattle.pc_core.specs.declared.nodes.NodeKind.TheVariants as node
 use Rattle.pc_core.specs.CoreData.{CoreData}
-use Rattle.pc_core.specs.Words.{Each}
+use Rattle.pc_lists.specs.Places.{Each}
 use Rattle.pc_core.specs.Lookup.{node_end}
 use Rattle.pc_core.specs.Methods.{LocalFits, BodyFits, Uses, this_slot}
 use Rattle.pc_core.specs.Nodes.{NamesSlot, NamesFit}
 use Rattle.pc_core.specs.Formed.{Formed}
-use Rattle.pc_core.specs.Runs.{get_map, range_get, run_within}
-use Rattle.pc_core.specs.Members.{bind_some}
+use Rattle.pc_lists.proofs.Ranges.{run_within}
+use Rattle.pc_lists.proofs.Options.{bind_some, kept}
 use Rattle.pc_ann.specs.declared.mask.Mask.{Mask}
 use Rattle.pc_ann.specs.declared.annotation.Note.{Note}
 use Rattle.pc_ann.specs.declared.annotation.Ann.{Ann}
 use Rattle.pc_ann.specs.declared.annotation.Rule.{Rule}
 use Rattle.pc_ann.specs.Masks.{same, first}
 use Rattle.pc_rules.specs.declared.said.Said.{Said}
-use Rattle.pc_rules.specs.Parts.{Ty, Masks, before, through, type_of, one_child, slot_of, goes_to}
-use Rattle.pc_rules.specs.Values.{same_cap, same_place, defined_type, defines, defined, define_says}
-use Rattle.pc_rules.specs.Control.{start_set, starts_method, result_ok, body_says}
+use Rattle.pc_rules.specs.Parts.{Ty, Masks, before, through, type_of, one_child, goes_to}
+use Rattle.pc_rules.specs.Values.{same_cap, same_place, defined_type, defines}
+use Rattle.pc_rules.specs.Control.{start_set, starts_method, result_ok}
+use Rattle.pc_rules.proofs.ByNumber.{slot_of, defined, define_says, body_says}
 use Rattle.pc_rules.specs.Rules.{says, said_by, Meets}
 use Rattle.pc_rules.specs.Valid.{KeepsWritten}
-use Rattle.pc_rules.specs.Threads.{kept, false_true}
-use Rattle.pc_rules.specs.OneRule.{is_rule_at, define_rule, body_rule}
-use Rattle.pc_rules.specs.Homes.{home, home_method}
-use Rattle.pc_rules.specs.Alike.{LooksAlike, slot_same, says_same, type_same, at_one}
-use Rattle.pc_rules.specs.Slotted.{slot_known, this_known}
+use Rattle.pc_lists.proofs.Bools.{false_true}
+use Rattle.pc_rules.proofs.OneRule.{is_rule_at, define_rule, body_rule}
+use Rattle.pc_rules.proofs.Homes.{home, home_method}
+use Rattle.pc_rules.proofs.Bridge.{by_number}
+use Rattle.pc_rules.proofs.Alike.{LooksAlike, slot_same, says_same, type_same, at_one}
+use Rattle.pc_rules.proofs.Slotted.{slot_known, this_known}
 
 -- ---- equalities
 
@@ -122,7 +124,7 @@ body_method core m x body is fit =
     fit.own (body - x.first_node) fit.root (range_get core.nodes x.first_node (node_end x.first_node x.body) body fit.root from end fit.is_root)
 
 pub body_says_at : (core : CoreData) (ann : Ann) (x : Node) (t : Note) → x.kind ≡ node.Body → Meets core ann x t → body_says core ann x (before t) ≡ Some (said_by t)
-body_says_at core ann x t e m = body_rule core ann x (before t) t.rule (said_by t) (subst (λ k. says core ann x (before t) t.rule k ≡ Some (said_by t)) e m)
+body_says_at core ann x t e m = body_rule core ann x (before t) t.rule (said_by t) (by_number core ann x (before t) t.rule node.Body (said_by t) (subst (λ k. says core ann x (before t) t.rule k ≡ Some (said_by t)) e m))
 
 -- They agree on the notes below n, and on the slots that nodes below n define.
 pub record Agree (core : CoreData) (a b : Ann) (n : ℕ) : Type 0 where
@@ -176,22 +178,22 @@ module _ (core : CoreData) (a b : Ann) (formed : Formed core) (wa : KeepsWritten
   looks_alike n x (node.Local s) m r o p q same g h e u v i l = looks_at x s i l (use_alike n x (node.Local s) s same g e refl (subst (NamesFit core x.method) e (formed.nodes n x g).names))
   looks_alike n x (node.Consume s) m r o p q same g h e u v i l = looks_at x s i l (use_alike n x (node.Consume s) s same g e refl (subst (NamesFit core x.method) e (formed.nodes n x g).names))
   looks_alike n x (node.Assign s) m r o p q same g h e u v i l = looks_at x s i l (use_alike n x (node.Assign s) s same g e refl (subst (NamesFit core x.method) e (formed.nodes n x g).names))
-  looks_alike n x (node.Define s) m r o p q same g h e u v i l = looks_at x s i l (define_alike n x s same h (define_inv core a x s m p (define_rule core a x m r s p u)) (define_inv core b x s m q (define_rule core b x m o s q v)))
+  looks_alike n x (node.Define s) m r o p q same g h e u v i l = looks_at x s i l (define_alike n x s same h (define_inv core a x s m p (define_rule core a x m r s p (by_number core a x m r (node.Define s) p u))) (define_inv core b x s m q (define_rule core b x m o s q (by_number core b x m o (node.Define s) q v))))
   looks_alike n x k m r o p q same g h e u v i l = absurd (none-some i l)
 
   -- The note and the slot of node n agree too.
   pub defined_at : (n : ℕ) (x : Node) (k : NodeKind) (m : Masks) (r o : Rule) (p q : Said) (s : ℕ) → Agree core a b n → Each (λ i c. c < n) x.children → k ≡ node.Define s → says core a x m r k ≡ Some p → says core b x m o k ≡ Some q → (f : Method) → slice_get core.methods x.method ≡ Some f → slice_get a.slots (f.first_slot + s) ≡ slice_get b.slots (f.first_slot + s)
   defined_at n x k m r o p q s same h e u v =
       define_alike n x s same h
-      (define_inv core a x s m p (define_rule core a x m r s p (subst (λ j. says core a x m r j ≡ Some p) e u)))
-      (define_inv core b x s m q (define_rule core b x m o s q (subst (λ j. says core b x m o j ≡ Some q) e v)))
+      (define_inv core a x s m p (define_rule core a x m r s p (by_number core a x m r (node.Define s) p (subst (λ j. says core a x m r j ≡ Some p) e u))))
+      (define_inv core b x s m q (define_rule core b x m o s q (by_number core b x m o (node.Define s) q (subst (λ j. says core b x m o j ≡ Some q) e v))))
 
   pub node_step : (n : ℕ) (x : Node) (s t : Note) → slice_get core.nodes n ≡ Some x → Each (λ i c. c < n) x.children → Agree core a b n → slice_get a.notes n ≡ Some s → slice_get b.notes n ≡ Some t → Meets core a x s → Meets core b x t → before s ≡ before t → Agree core a b (n + 1)
   node_step n x s t g h same ga gb ma mb m =
       let eb : says core b x (before s) t.rule x.kind ≡ Some (said_by t) = subst (λ k. says core b x k t.rule x.kind ≡ Some (said_by t)) (sym m) mb in
       let looks = looks_alike n x x.kind (before s) s.rule t.rule (said_by s) (said_by t) same g h refl ma eb in
       let ec : says core b x (before s) s.rule x.kind ≡ Some (said_by s) = sym (says_same core a b x (λ i c e. same.notes c (h i c e)) s.rule x.kind (before s) looks) ∙ ma in
-      let rule = is_rule_at core b x (before s) s.rule x.kind (said_by s) formed ec ∙ sym (is_rule_at core b x (before s) t.rule x.kind (said_by t) formed eb) in
+      let rule = is_rule_at core b x (before s) s.rule x.kind (said_by s) formed (by_number core b x (before s) s.rule x.kind (said_by s) ec) ∙ sym (is_rule_at core b x (before s) t.rule x.kind (said_by t) formed (by_number core b x (before s) t.rule x.kind (said_by t) eb)) in
       let said = same_Some (said_by s) (said_by t) (sym ec ∙ ap (λ r. says core b x (before s) r x.kind) rule ∙ eb) in
       let eq = notes_equal s t rule m said in
       record {

@@ -1,8 +1,8 @@
 -- At most one rule says something of a node, by its kind, its children and the method that it calls.
-use Rattle.std.specs.Prelude.{◌≡◌, ◌⊎◌, ℕ, ◌+◌, Bool, true, false, cond, ◌&&◌, ◌||◌, not, List, [], ◌∷◌, take, drop, Option, Some, None, nat_eq, slice_get, slice_range, codes, if◌then◌else◌, refl}
+use Rattle.std.specs.Prelude.{◌≡◌, ℕ, ◌+◌, Bool, true, false, cond, ◌&&◌, not, List, [], ◌∷◌, take, drop, Option, Some, None, nat_eq, slice_get, slice_range, codes, if◌then◌else◌, refl}
 use Rattle.std.proofs.Common.{inl, inr, ap, sym, ◌∙◌}
 use Rattle.std.proofs.lemmas.Option.{none-some}
-use Rattle.std.proofs.lemmas.Bool.{and_parts, eqb-true}
+use Rattle.std.proofs.lemmas.Bool.{and_parts, eqb-true, not-true, or_cases}
 use Rattle.pc_caps.specs.Tables.{fits}
 use Rattle.pc_tree.specs.declared.kinds.Op.{Op}
 use Rattle.pc_tree.specs.declared.kinds.Op.TheVariants as op
@@ -14,22 +14,20 @@ use Rattle.pc_core.specs.declared.nodes.Node.{Node}
 use Rattle.pc_core.specs.declared.nodes.NodeKind.{NodeKind}
 use Rattle.pc_core.specs.declared.nodes.NodeKind.TheVariants as node
 use Rattle.pc_core.specs.CoreData.{CoreData}
-use Rattle.pc_core.specs.Words.{◌>>=◌}
-use Rattle.pc_core.specs.Lookup.{place_of, method_name, own_methods, method_named}
-use Rattle.pc_core.specs.Members.{bind_some}
+use Rattle.pc_lists.specs.Options.{◌>>=◌}
+use Rattle.pc_core.specs.Lookup.{method_name, own_methods, method_named}
+use Rattle.pc_lists.specs.Lookup.{place_of}
+use Rattle.pc_lists.proofs.Options.{bind_some, kept, kept_otherwise, bind_is}
 use Rattle.pc_core.specs.Formed.{Formed}
 use Rattle.pc_ann.specs.declared.annotation.Ann.{Ann}
 use Rattle.pc_ann.specs.declared.annotation.Rule.{Rule}
 use Rattle.pc_ann.specs.declared.annotation.Rule.TheVariants as rule
 use Rattle.pc_rules.specs.declared.said.Said.{Said}
-use Rattle.pc_rules.specs.Parts.{Ty, Masks, reads_as, readable, through, type_of, one_child, two_types, last_child}
-use Rattle.pc_rules.specs.Values.{define_says}
-use Rattle.pc_rules.specs.Control.{body_says}
-use Rattle.pc_rules.specs.Fields.{incomplete, read_says, own_read_says, write_says, own_write_says}
-use Rattle.pc_rules.specs.Calls.{arguments, arguments_go, arguments_sendable, called, is_function, is_behaviour, calls, call_says, is_isolated, is_lent, lends, recovers, callrecover_says, sends, send_says, same_text, has_text, has_string, builtin_says}
-use Rattle.pc_rules.specs.Operators.{is_arithmetic, is_comparison, is_equality, is_add, is_xor, both_read_as, comparable, value_says}
-use Rattle.pc_rules.specs.Rules.{says}
-use Rattle.pc_rules.specs.Threads.{kept, kept_otherwise, false_true, bind_is}
+use Rattle.pc_rules.specs.Parts.{Ty, Masks, reads_as, readable, through, type_of, one_child, last_child}
+use Rattle.pc_rules.specs.Calls.{is_function, is_behaviour, is_isolated, is_lent, lends, same_text, has_text, has_string}
+use Rattle.pc_rules.specs.Operators.{is_arithmetic, is_comparison, is_equality, is_add, is_xor, both_read_as, comparable}
+use Rattle.pc_rules.proofs.ByNumber.{two_types, define_says, body_says, incomplete, read_says, own_read_says, write_says, own_write_says, arguments, arguments_go, arguments_sendable, called, calls, call_says, recovers, callrecover_says, sends, send_says, builtin_says, value_says, says}
+use Rattle.pc_lists.proofs.Bools.{false_true}
 
 -- ---- which one
 
@@ -89,10 +87,6 @@ no_behaviour : (k : MethodKind) → is_function k ≡ true → is_behaviour k �
 no_behaviour method.Fun e = refl
 no_behaviour k e = absurd (false_true e)
 
-not_true : (b : Bool) → not b ≡ true → b ≡ false
-not_true false e = refl
-not_true true e = absurd (false_true e)
-
 is_called : (core : CoreData) (o : Option (Ty × ℕ)) (i : Ty × ℕ) (f : Method) (b c : Bool) → o ≡ Some i → slice_get core.methods i.1 ≡ Some f → is_behaviour f.kind ≡ b → fits i.0.1 f.receiver ≡ c → call_rule core o ≡ cond b rule.Send (cond c rule.Call rule.CallRecover)
 is_called core o i f b c e g h k =
     ap (call_rule core) e ∙ ap (method_rule i.0) g
@@ -120,7 +114,7 @@ module _ (core : CoreData) (ann : Ann) (x : Node) (m : Masks) (q : Said) where
       let f = and_parts (is_function b.0.kind) (arguments_go core ann (arguments x.children) b.0.params) p.0 in
       let l = and_parts (lends a.0.0.1 b.0.receiver) (arguments_sendable ann (arguments x.children) b.0.params) p.1 in
       let n = and_parts (not (fits a.0.0.1 b.0.receiver)) (is_isolated a.0.0.1 && is_lent b.0.receiver) l.0 in
-      sym (is_called core (called core ann x name) a.0 b.0 false false a.1 b.1 (no_behaviour b.0.kind f.0) (not_true (fits a.0.0.1 b.0.receiver) n.0))
+      sym (is_called core (called core ann x name) a.0 b.0 false false a.1 b.1 (no_behaviour b.0.kind f.0) (not-true (fits a.0.0.1 b.0.receiver) n.0))
 
   is_send : (name : ℕ) → send_says core ann x name m ≡ Some q → rule.Send ≡ call_rule core (called core ann x name)
   is_send name e =
@@ -144,13 +138,9 @@ none_of core e name x g f c =
     ∙ ap (λ k. place_of method_name name (slice_range core.methods 0 (0 + k)) 0) c
     ∙ ap (λ ys. place_of method_name name ys 0) (take_none (drop 0 core.methods))
 
-either : (a b : Bool) → (a || b) ≡ true → (a ≡ true) ⊎ (b ≡ true)
-either true b e = inl refl
-either false b e = inr e
-
 no_method : (core : CoreData) (name : ℕ) (v : Ty) → Formed core → has_text v ≡ true → method_named core v.0 name ≡ None
 no_method core name v formed e =
-    elim (either (reads_as 1 v) (reads_as 2 v) e) [
+    elim (or_cases (reads_as 1 v) (reads_as 2 v) e) [
       | inl one ↦ let is : v.0 ≡ 1 = eqb-true v.0 1 (and_parts (nat_eq v.0 1) (readable v.1) one).0 in
           ap (λ k. method_named core k name) is ∙ none_of core 1 name _ formed.built_in.numbers refl refl
       | inr two ↦ let is : v.0 ≡ 2 = eqb-true v.0 2 (and_parts (nat_eq v.0 2) (readable v.1) two).0 in

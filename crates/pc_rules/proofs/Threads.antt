@@ -1,7 +1,7 @@
 -- A node of which a rule says something has its children evaluated one after the other, but for the branches of an `if`,
 -- which both follow the condition.
-use Rattle.std.specs.Prelude.{◌≡◌, ℕ, zero, suc, Bool, true, false, cond, List, [], ◌∷◌, length, Option, Some, None, slice_get, refl}
-use Rattle.std.proofs.Common.{ap, sym, subst, ◌∙◌, arith}
+use Rattle.std.specs.Prelude.{◌≡◌, ℕ, zero, suc, Bool, true, false, cond, List, [], ◌∷◌, length, Option, Some, None, slice_get}
+use Rattle.std.proofs.Common.{ap, sym, subst, ◌∙◌}
 use Rattle.std.proofs.lemmas.Option.{same_Some, none-some}
 use Rattle.std.proofs.lemmas.Bool.{and_parts, eqb-true}
 use Rattle.pc_caps.specs.Tables.{view}
@@ -11,8 +11,8 @@ use Rattle.pc_core.specs.declared.nodes.Node.{Node}
 use Rattle.pc_core.specs.declared.nodes.NodeKind.{NodeKind}
 use Rattle.pc_core.specs.declared.nodes.NodeKind.TheVariants as node
 use Rattle.pc_core.specs.CoreData.{CoreData}
-use Rattle.pc_core.specs.Words.{◌>>=◌}
-use Rattle.pc_core.specs.Members.{bind_some}
+use Rattle.pc_lists.specs.Options.{◌>>=◌}
+use Rattle.pc_lists.proofs.Options.{bind_some, kept, kept_otherwise, bind_is}
 use Rattle.pc_core.specs.Nodes.{HasArity}
 use Rattle.pc_ann.specs.declared.mask.Mask.{Mask}
 use Rattle.pc_ann.specs.declared.annotation.Note.{Note}
@@ -21,36 +21,20 @@ use Rattle.pc_ann.specs.declared.annotation.Rule.{Rule}
 use Rattle.pc_ann.specs.declared.annotation.Rule.TheVariants as rule
 use Rattle.pc_ann.specs.Masks.{same}
 use Rattle.pc_rules.specs.declared.said.Said.{Said}
-use Rattle.pc_rules.specs.Parts.{Ty, Masks, starts, before, after, through, type_of, one_child, two_children, three_children, two_types, last_child, slot_of}
-use Rattle.pc_rules.specs.Values.{defines, defined, assigns, assigned}
-use Rattle.pc_rules.specs.Fields.{own_field, incomplete, field_type, read_says, own_read_says, old_type, write_says, value_type, own_write_says}
-use Rattle.pc_rules.specs.Calls.{called}
-use Rattle.pc_rules.specs.Operators.{value_says, lazy_masks}
-use Rattle.pc_rules.specs.Control.{branch_masks, loop_masks, recovered}
-use Rattle.pc_rules.specs.Rules.{says}
-use Rattle.pc_rules.specs.Alike.{own_seen}
-
-pub kept : {A : Type 0} → (b : Bool) (o : Option A) (y : A) → cond b o None ≡ Some y → (b ≡ true) × (o ≡ Some y)
-kept true o y e = (refl, e)
-kept false o y e = absurd (none-some y e)
-
-pub kept_otherwise : {A : Type 0} → (b : Bool) (o : Option A) (y : A) → cond b None o ≡ Some y → (b ≡ false) × (o ≡ Some y)
-kept_otherwise true o y e = absurd (none-some y e)
-kept_otherwise false o y e = (refl, e)
-
-pub false_true : false ≡ true → ⊥
-false_true e = cc e
+use Rattle.pc_rules.specs.Parts.{Ty, Masks, starts, before, after, through, type_of, one_child, last_child}
+use Rattle.pc_rules.specs.Values.{defines, assigns}
+use Rattle.pc_rules.specs.Fields.{own_field, field_type, old_type}
+use Rattle.pc_rules.specs.Control.{recovered}
+use Rattle.pc_rules.proofs.ByNumber.{two_children, three_children, two_types, slot_of, defined, assigned, incomplete, read_says, own_read_says, write_says, value_type, own_write_says, called, value_says, lazy_masks, branch_masks, loop_masks, says, own_seen}
+use Rattle.pc_lists.proofs.Bools.{false_true}
+use Rattle.pc_lists.proofs.Cuts.{without_length}
 
 -- The children are evaluated one after the other.
 abbrev pub Threaded : Ann → List ℕ → Masks → Type 0
 Threaded ann cs m = (n : Masks) × (through ann cs m ≡ Some n)
 
-no_children : (cs : List ℕ) → length cs ≡ 0 → cs ≡ []
-no_children [] e = refl
-no_children (c ∷ cs) e = absurd (omega (arith, e))
-
 leaf : (ann : Ann) (cs : List ℕ) (m : Masks) → length cs ≡ 0 → Threaded ann cs m
-leaf ann cs m e = (m, ap (λ (ds : List ℕ). through ann ds m) (no_children cs e))
+leaf ann cs m e = (m, ap (λ (ds : List ℕ). through ann ds m) (without_length cs e))
 
 threaded : (ann : Ann) (cs : List ℕ) (m : Masks) (f : Masks → Option Said) (q : Said) → (through ann cs m >>= f) ≡ Some q → Threaded ann cs m
 threaded ann cs m f q e = let a = bind_some (through ann cs m) f q e in (a.0, a.1)
@@ -61,9 +45,6 @@ through_one ann c m n e =
     let a = bind_some (slice_get ann.notes c) _ n e in
     let k = kept (starts a.0 m) (Some (after a.0)) n a.2 in
     (a.0, a.1, k.0, same_Some (after a.0) n k.1)
-
-pub bind_is : {A B : Type 0} → (o : Option A) (f : A → Option B) (x : A) → o ≡ Some x → (o >>= f) ≡ f x
-bind_is o f x e = ap (λ p. p >>= f) e
 
 through_two : (ann : Ann) (c d : ℕ) (m n k : Masks) → through ann (c ∷ []) m ≡ Some n → through ann (d ∷ []) n ≡ Some k → through ann (c ∷ d ∷ []) m ≡ Some k
 through_two ann c d m n k e f =

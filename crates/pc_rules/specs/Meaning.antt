@@ -1,0 +1,448 @@
+-- The rules in words: for each its condition, the type, and the masks, over the types of the slots, the node's own note and
+-- the notes of its children, in order.
+use Rattle.std.specs.Prelude.{◌≡◌, ◌⊎◌, ℕ, ◌+◌, true, false, List, [], ◌∷◌, ◌++◌, ◌-◌, length, codes, Option, Some, None, slice_get}
+use Rattle.pc_caps.specs.Tables.{view, fits, sendable, sendable_form, plain, unalias, taken, may_write}
+use Rattle.pc_caps.specs.declared.capability.Cap.{Cap}
+use Rattle.pc_caps.specs.declared.capability.Cap.TheVariants as cap
+use Rattle.pc_caps.specs.declared.capability.Form.{Form}
+use Rattle.pc_caps.specs.declared.capability.Form.TheVariants as form
+use Rattle.pc_tree.specs.declared.kinds.Op.{Op}
+use Rattle.pc_core.specs.declared.declarations.FieldInfo.{FieldInfo}
+use Rattle.pc_core.specs.declared.declarations.Method.{Method}
+use Rattle.pc_core.specs.declared.declarations.MethodKind.TheVariants as method
+use Rattle.pc_core.specs.declared.declarations.ParamInfo.{ParamInfo}
+use Rattle.pc_core.specs.declared.nodes.Slot.{Slot}
+use Rattle.pc_core.specs.declared.nodes.SlotKind.TheVariants as slot_kind
+use Rattle.pc_core.specs.declared.nodes.Node.{Node}
+use Rattle.pc_core.specs.declared.nodes.NodeKind.{NodeKind}
+use Rattle.pc_core.specs.declared.nodes.NodeKind.TheVariants as node
+use Rattle.pc_core.specs.CoreData.{CoreData}
+use Rattle.pc_core.specs.Lookup.{method_named}
+use Rattle.pc_ann.specs.declared.annotation.Note.{Note}
+use Rattle.pc_ann.specs.declared.annotation.Rule.{Rule}
+use Rattle.pc_ann.specs.declared.annotation.Rule.TheVariants as rule
+use Rattle.pc_ann.specs.Masks.{IsIn, with_number, without_number, within, first}
+use Rattle.pc_rules.specs.Parts.{Ty, Masks, Slots, slot_of, goes_to, readable, lower, constructs, full, before, after}
+use Rattle.pc_rules.specs.Values.{defined_type, old_value}
+use Rattle.pc_rules.specs.Fields.{field_of, own_field, place, own_old}
+use Rattle.pc_rules.specs.Calls.{recovered_result}
+use Rattle.pc_rules.specs.Operators.{is_arithmetic, is_comparison, is_equality, is_add, is_xor, meet_masks}
+use Rattle.pc_rules.specs.Control.{without_items, joined, recovered, start_set}
+
+-- ---- words
+
+-- Nodes of these notes are evaluated one after the other: each starts from the masks behind the one before it.
+abbrev pub OneAfterOther : List Note → Masks → Masks → Type 0
+OneAfterOther [] from to = from ≡ to
+OneAfterOther (t ∷ ts) from to = (before t ≡ from) × OneAfterOther ts (after t) to
+
+abbrev pub Reachable : Node → Slot × (ℕ × Cap) → Type 0
+Reachable x i = (i.0.depth ≡ x.depth) ⊎ (sendable i.1.1 ≡ true)
+
+-- A readable value of this entity.
+abbrev pub Reads : ℕ → Option Ty → Type 0
+Reads e o = (v : Ty) × (o ≡ Some v) × (v.0 ≡ e) × (readable v.1 ≡ true)
+
+-- Two children, each a readable value of this entity.
+abbrev pub BothRead : ℕ → List Note → Type 0
+BothRead e ns = (a : Note) × (b : Note) × (ns ≡ a ∷ b ∷ []) × Reads e a.ty × Reads e b.ty
+
+-- As many arguments as parameters, and each goes to its parameter.
+abbrev pub Go : CoreData → List Note → List ParamInfo → Type 0
+Go core [] [] = Unit {0}
+Go core (t ∷ ts) (p ∷ ps) = ((v : Ty) × (t.ty ≡ Some v) × (goes_to core v (p.entity, p.cap) ≡ true)) × Go core ts ps
+Go core ts ps = ⊥
+
+-- Each argument has a sendable form, or goes to a sendable parameter.
+abbrev pub Sendable : List Note → List ParamInfo → Type 0
+Sendable [] [] = Unit {0}
+Sendable (t ∷ ts) (p ∷ ps) = ((v : Ty) × (t.ty ≡ Some v) × ((sendable_form v.1 ≡ true) ⊎ (sendable p.cap ≡ true))) × Sendable ts ps
+Sendable ts ps = ⊥
+
+-- The last element of a list.
+abbrev pub by_last : {A : Type 0} → List A → Option A
+by_last xs = slice_get xs (length xs - 1)
+
+-- The node is of a constructor, outside of every recover, and its last child is `this`, before which a field is not set.
+pub record Incomplete (core : CoreData) (ns : List Note) (x : Node) : Type 0 where
+  pub own : Method
+  pub is_own : slice_get core.methods x.method ≡ Some own
+  pub constructor : constructs own.kind ≡ true
+  pub outside : x.depth ≡ 0
+  pub child : ℕ
+  pub is_child : by_last x.children ≡ Some child
+  pub origin : Node
+  pub is_origin : slice_get core.nodes child ≡ Some origin
+  pub is_this : origin.kind ≡ node.This
+  pub note : Note
+  pub is_note : by_last ns ≡ Some note
+  pub lacks : full core own.entity note.set_before ≡ true → ⊥
+
+-- A call: its arguments, and behind them the receiver, whose entity has the method.
+pub record Called (core : CoreData) (ns : List Note) (name : ℕ) : Type 0 where
+  pub arguments : List Note
+  pub receiver : Note
+  pub children : ns ≡ arguments ++ receiver ∷ []
+  pub to : Ty
+  pub is_to : receiver.ty ≡ Some to
+  pub number : ℕ
+  pub is_number : method_named core to.0 name ≡ Some number
+  pub called : Method
+  pub is_called : slice_get core.methods number ≡ Some called
+
+-- ---- values and slots
+
+-- A literal, or the value of a primitive: of entity e.
+pub record Literal (own : Note) (e : ℕ) : Type 0 where
+  pub type : own.ty ≡ Some (e, form.Val)
+  pub masks : after own ≡ before own
+
+-- `this`.
+pub record This (core : CoreData) (slots : Slots) (own : Note) (x : Node) : Type 0 where
+  pub home : Method
+  pub is_home : slice_get core.methods x.method ≡ Some home
+  pub slot : Slot × (ℕ × Cap)
+  pub is_slot : slot_of core slots x.method 0 ≡ Some slot
+  pub seen : Form
+  pub whole : full core home.entity own.set_before ≡ true → Reachable x slot → seen ≡ plain slot.1.1
+  pub else_tag : (full core home.entity own.set_before ≡ true → Reachable x slot → ⊥) → seen ≡ form.Tag
+  pub type : own.ty ≡ Some (home.entity, seen)
+  pub masks : after own ≡ before own
+
+-- A local or parameter s.
+pub record Local (core : CoreData) (slots : Slots) (own : Note) (x : Node) (s : ℕ) : Type 0 where
+  pub slot : Slot × (ℕ × Cap)
+  pub is_slot : slot_of core slots x.method s ≡ Some slot
+  pub live : IsIn own.live_before s
+  pub reachable : Reachable x slot
+  pub type : own.ty ≡ Some (slot.1.0, plain slot.1.1)
+  pub masks : after own ≡ before own
+
+-- `consume` s.
+pub record Consume (core : CoreData) (slots : Slots) (own : Note) (x : Node) (s : ℕ) : Type 0 where
+  pub slot : Slot × (ℕ × Cap)
+  pub is_slot : slot_of core slots x.method s ≡ Some slot
+  pub live : IsIn own.live_before s
+  pub reachable : Reachable x slot
+  pub type : own.ty ≡ Some (slot.1.0, unalias slot.1.1)
+  pub masks : after own ≡ (without_number own.live_before s, own.set_before)
+
+-- The definition of local s.
+pub record Define (core : CoreData) (slots : Slots) (own : Note) (ns : List Note) (x : Node) (s : ℕ) : Type 0 where
+  pub child : Note
+  pub children : ns ≡ child ∷ []
+  pub value : Ty
+  pub is_value : child.ty ≡ Some value
+  pub slot : Slot × (ℕ × Cap)
+  pub is_slot : slot_of core slots x.method s ≡ Some slot
+  pub has_type : slot.1 ≡ defined_type slot.0.written value
+  pub goes : goes_to core value slot.1 ≡ true
+  pub type : own.ty ≡ None
+  pub behind : Masks
+  pub in_order : OneAfterOther ns (before own) behind
+  pub masks : after own ≡ (with_number behind.0 s, behind.1)
+
+-- An assignment to s.
+pub record Assign (core : CoreData) (slots : Slots) (own : Note) (ns : List Note) (x : Node) (s : ℕ) : Type 0 where
+  pub child : Note
+  pub children : ns ≡ child ∷ []
+  pub value : Ty
+  pub is_value : child.ty ≡ Some value
+  pub slot : Slot × (ℕ × Cap)
+  pub is_slot : slot_of core slots x.method s ≡ Some slot
+  pub variable : slot.0.kind ≡ slot_kind.Var
+  pub reachable : Reachable x slot
+  pub goes : goes_to core value slot.1 ≡ true
+  pub behind : Masks
+  pub in_order : OneAfterOther ns (before own) behind
+  pub type : own.ty ≡ old_value s slot.1 behind.0
+  pub masks : after own ≡ (with_number behind.0 s, behind.1)
+
+-- ---- fields
+
+-- A field that is read.
+pub record Get (core : CoreData) (own : Note) (ns : List Note) (x : Node) (name : ℕ) : Type 0 where
+  pub complete : Incomplete core ns x → ⊥
+  pub child : Note
+  pub children : ns ≡ child ∷ []
+  pub origin : Ty
+  pub is_origin : child.ty ≡ Some origin
+  pub field : ℕ × FieldInfo
+  pub is_field : field_of core origin.0 name ≡ Some field
+  pub seen : Form
+  pub sees : view origin.1 field.1.cap ≡ Some seen
+  pub type : own.ty ≡ Some (field.1.entity, seen)
+  pub masks : OneAfterOther ns (before own) (after own)
+
+-- A field of `this` that is read before all fields are set.
+pub record GetOwn (core : CoreData) (own : Note) (ns : List Note) (x : Node) (name : ℕ) : Type 0 where
+  pub incomplete : Incomplete core ns x
+  pub field : ℕ × FieldInfo
+  pub is_field : own_field core x name ≡ Some field
+  pub seen : Form
+  pub sees : view form.Ref field.1.cap ≡ Some seen
+  pub set : IsIn own.set_after field.0
+  pub type : own.ty ≡ Some (field.1.entity, seen)
+  pub masks : OneAfterOther ns (before own) (after own)
+
+-- A field that is written.
+pub record Put (core : CoreData) (own : Note) (ns : List Note) (x : Node) (name : ℕ) : Type 0 where
+  pub complete : Incomplete core ns x → ⊥
+  pub first : Note
+  pub second : Note
+  pub children : ns ≡ first ∷ second ∷ []
+  pub value : Ty
+  pub is_value : first.ty ≡ Some value
+  pub origin : Ty
+  pub is_origin : second.ty ≡ Some origin
+  pub field : ℕ × FieldInfo
+  pub is_field : field_of core origin.0 name ≡ Some field
+  pub variable : field.1.fixed ≡ false
+  pub goes : goes_to core value (place field.1) ≡ true
+  pub may : may_write origin.1 value.1 field.1.cap ≡ true
+  pub old : Form
+  pub takes : taken origin.1 field.1.cap ≡ Some old
+  pub type : own.ty ≡ Some (field.1.entity, old)
+  pub masks : OneAfterOther ns (before own) (after own)
+
+-- A field of `this` that is written before all fields are set.
+pub record PutOwn (core : CoreData) (own : Note) (ns : List Note) (x : Node) (name : ℕ) : Type 0 where
+  pub incomplete : Incomplete core ns x
+  pub field : ℕ × FieldInfo
+  pub is_field : own_field core x name ≡ Some field
+  pub first : Note
+  pub second : Note
+  pub children : ns ≡ first ∷ second ∷ []
+  pub value : Ty
+  pub is_value : first.ty ≡ Some value
+  pub behind : Masks
+  pub in_order : OneAfterOther ns (before own) behind
+  pub may : (field.1.fixed ≡ false) ⊎ (IsIn behind.1 field.0 → ⊥)
+  pub goes : goes_to core value (place field.1) ≡ true
+  pub type : own.ty ≡ own_old field behind.1
+  pub masks : after own ≡ (behind.0, with_number behind.1 field.0)
+
+-- ---- calls
+
+-- A constructor of a class.
+pub record New (core : CoreData) (own : Note) (ns : List Note) (k : ℕ) : Type 0 where
+  pub called : Method
+  pub is_called : slice_get core.methods k ≡ Some called
+  pub go : Go core ns called.params
+  pub type : own.ty ≡ Some called.result
+  pub masks : OneAfterOther ns (before own) (after own)
+
+-- A constructor of an actor.
+pub record Spawn (core : CoreData) (own : Note) (ns : List Note) (k : ℕ) : Type 0 where
+  pub called : Method
+  pub is_called : slice_get core.methods k ≡ Some called
+  pub go : Go core ns called.params
+  pub type : own.ty ≡ Some (called.entity, form.Tag)
+  pub masks : OneAfterOther ns (before own) (after own)
+
+-- A call.
+pub record Call (core : CoreData) (own : Note) (ns : List Note) (name : ℕ) : Type 0 where
+  pub call : Called core ns name
+  pub function : call.called.kind ≡ method.Fun
+  pub go : Go core call.arguments call.called.params
+  pub fit : fits call.to.1 call.called.receiver ≡ true
+  pub type : own.ty ≡ Some call.called.result
+  pub masks : OneAfterOther ns (before own) (after own)
+
+-- A call whose receiver is lent to the method.
+pub record CallRecover (core : CoreData) (own : Note) (ns : List Note) (name : ℕ) : Type 0 where
+  pub call : Called core ns name
+  pub function : call.called.kind ≡ method.Fun
+  pub go : Go core call.arguments call.called.params
+  pub no_fit : fits call.to.1 call.called.receiver ≡ false
+  pub isolated : (call.to.1 ≡ form.Iso) ⊎ (call.to.1 ≡ form.Trn)
+  pub lent : (call.called.receiver ≡ cap.Ref) ⊎ (call.called.receiver ≡ cap.Box)
+  pub may_go : Sendable call.arguments call.called.params
+  pub type : own.ty ≡ recovered_result call.called.result
+  pub masks : OneAfterOther ns (before own) (after own)
+
+-- A message.
+pub record Send (core : CoreData) (own : Note) (ns : List Note) (name : ℕ) : Type 0 where
+  pub call : Called core ns name
+  pub behaviour : call.called.kind ≡ method.Be
+  pub go : Go core call.arguments call.called.params
+  pub type : own.ty ≡ Some (0, form.Val)
+  pub masks : OneAfterOther ns (before own) (after own)
+
+-- The text of a number or of a truth value.
+pub record Builtin (core : CoreData) (own : Note) (ns : List Note) (name : ℕ) : Type 0 where
+  pub child : Note
+  pub children : ns ≡ child ∷ []
+  pub is_string : slice_get core.names name ≡ Some (codes "string")
+  pub reads : Reads 1 child.ty ⊎ Reads 2 child.ty
+  pub type : own.ty ≡ Some (3, form.Val)
+  pub masks : OneAfterOther ns (before own) (after own)
+
+-- ---- operators
+
+-- Arithmetic.
+pub record Arith (own : Note) (ns : List Note) (o : Op) : Type 0 where
+  pub operator : is_arithmetic o ≡ true
+  pub both : BothRead 1 ns
+  pub type : own.ty ≡ Some (1, form.Val)
+  pub masks : OneAfterOther ns (before own) (after own)
+
+-- Less and greater.
+pub record Compare (own : Note) (ns : List Note) (o : Op) : Type 0 where
+  pub operator : is_comparison o ≡ true
+  pub both : BothRead 1 ns
+  pub type : own.ty ≡ Some (2, form.Val)
+  pub masks : OneAfterOther ns (before own) (after own)
+
+-- Equality.
+pub record Equal (own : Note) (ns : List Note) (o : Op) : Type 0 where
+  pub operator : is_equality o ≡ true
+  pub both : BothRead 1 ns ⊎ (BothRead 2 ns ⊎ BothRead 3 ns)
+  pub type : own.ty ≡ Some (2, form.Val)
+  pub masks : OneAfterOther ns (before own) (after own)
+
+-- Two texts as one.
+pub record Join (own : Note) (ns : List Note) (o : Op) : Type 0 where
+  pub operator : is_add o ≡ true
+  pub both : BothRead 3 ns
+  pub type : own.ty ≡ Some (3, form.Val)
+  pub masks : OneAfterOther ns (before own) (after own)
+
+-- `xor`.
+pub record Xor (own : Note) (ns : List Note) (o : Op) : Type 0 where
+  pub operator : is_xor o ≡ true
+  pub both : BothRead 2 ns
+  pub type : own.ty ≡ Some (2, form.Val)
+  pub masks : OneAfterOther ns (before own) (after own)
+
+-- `not`.
+pub record Not (own : Note) (ns : List Note) : Type 0 where
+  pub child : Note
+  pub children : ns ≡ child ∷ []
+  pub reads : Reads 2 child.ty
+  pub type : own.ty ≡ Some (2, form.Val)
+  pub masks : OneAfterOther ns (before own) (after own)
+
+-- `and` and `or`.
+pub record Lazy (own : Note) (ns : List Note) : Type 0 where
+  pub left : Note
+  pub right : Note
+  pub children : ns ≡ left ∷ right ∷ []
+  pub left_reads : Reads 2 left.ty
+  pub right_reads : Reads 2 right.ty
+  pub type : own.ty ≡ Some (2, form.Val)
+  pub starts : before left ≡ before own
+  pub goes_on : before right ≡ after left
+  pub masks : after own ≡ meet_masks (after left) (after right)
+
+-- `is` and `isnt`.
+pub record Identity (own : Note) (ns : List Note) : Type 0 where
+  pub left : Note
+  pub right : Note
+  pub children : ns ≡ left ∷ right ∷ []
+  pub left_type : Ty
+  pub is_left : left.ty ≡ Some left_type
+  pub right_type : Ty
+  pub is_right : right.ty ≡ Some right_type
+  pub type : own.ty ≡ Some (2, form.Val)
+  pub masks : OneAfterOther ns (before own) (after own)
+
+-- ---- control
+
+-- A sequence.
+pub record Seq (core : CoreData) (own : Note) (ns : List Note) (x : Node) : Type 0 where
+  pub front : List Note
+  pub last : Note
+  pub children : ns ≡ front ++ last ∷ []
+  pub type : own.ty ≡ last.ty
+  pub behind : Masks
+  pub in_order : OneAfterOther ns (before own) behind
+  pub masks : after own ≡ (without_items core x.children behind.0, behind.1)
+
+-- `if`.
+pub record If (core : CoreData) (own : Note) (ns : List Note) : Type 0 where
+  pub condition : Note
+  pub yes : Note
+  pub no : Note
+  pub children : ns ≡ condition ∷ yes ∷ no ∷ []
+  pub reads : Reads 2 condition.ty
+  pub type : own.ty ≡ joined core yes.ty no.ty
+  pub starts : before condition ≡ before own
+  pub yes_starts : before yes ≡ after condition
+  pub no_starts : before no ≡ after condition
+  pub masks : after own ≡ meet_masks (after yes) (after no)
+
+-- `while`.
+pub record While (own : Note) (ns : List Note) : Type 0 where
+  pub condition : Note
+  pub body : Note
+  pub children : ns ≡ condition ∷ body ∷ []
+  pub reads : Reads 2 condition.ty
+  pub type : own.ty ≡ Some (0, form.Val)
+  pub starts : before condition ≡ before own
+  pub body_starts : before body ≡ after condition
+  pub keeps : within own.live_before body.live_after ≡ true
+  pub same_set : body.set_after ≡ own.set_before
+  pub masks : after own ≡ after condition
+
+-- `recover`.
+pub record Recover (own : Note) (ns : List Note) (k : Option Cap) : Type 0 where
+  pub child : Note
+  pub children : ns ≡ child ∷ []
+  pub value : Ty
+  pub is_value : child.ty ≡ Some value
+  pub lifted : Form
+  pub is_lifted : recovered k value.1 ≡ Some lifted
+  pub type : own.ty ≡ Some (value.0, lifted)
+  pub masks : OneAfterOther ns (before own) (after own)
+
+-- A method's body.
+pub record Body (core : CoreData) (own : Note) (ns : List Note) (x : Node) : Type 0 where
+  pub home : Method
+  pub is_home : slice_get core.methods x.method ≡ Some home
+  pub child : Note
+  pub children : ns ≡ child ∷ []
+  pub live : own.live_before ≡ first (1 + length home.params)
+  pub set : own.set_before ≡ start_set core home
+  pub result : home.kind ≡ method.Fun → (v : Ty) × (child.ty ≡ Some v) × (lower core v home.result ≡ true)
+  pub type : own.ty ≡ None
+  pub masks : OneAfterOther ns (before own) (after own)
+
+-- ---- every rule
+
+-- The note meets this rule of a node of this kind.
+abbrev pub Means : CoreData → Slots → Note → List Note → Node → Rule → NodeKind → Type 0
+Means core slots own ns x rule.Number (node.Number v) = Literal own 1
+Means core slots own ns x rule.Truth (node.Truth v) = Literal own 2
+Means core slots own ns x rule.Text (node.Text v) = Literal own 3
+Means core slots own ns x rule.Prim (node.Prim e) = Literal own e
+Means core slots own ns x rule.This node.This = This core slots own x
+Means core slots own ns x rule.Local (node.Local s) = Local core slots own x s
+Means core slots own ns x rule.Consume (node.Consume s) = Consume core slots own x s
+Means core slots own ns x rule.Get (node.Field name) = Get core own ns x name
+Means core slots own ns x rule.GetOwn (node.Field name) = GetOwn core own ns x name
+Means core slots own ns x rule.Put (node.SetField name) = Put core own ns x name
+Means core slots own ns x rule.PutOwn (node.SetField name) = PutOwn core own ns x name
+Means core slots own ns x rule.Define (node.Define s) = Define core slots own ns x s
+Means core slots own ns x rule.Assign (node.Assign s) = Assign core slots own ns x s
+Means core slots own ns x rule.New (node.New k) = New core own ns k
+Means core slots own ns x rule.Spawn (node.Spawn k) = Spawn core own ns k
+Means core slots own ns x rule.Call (node.Call name) = Call core own ns name
+Means core slots own ns x rule.CallRecover (node.Call name) = CallRecover core own ns name
+Means core slots own ns x rule.Send (node.Call name) = Send core own ns name
+Means core slots own ns x rule.Builtin (node.Call name) = Builtin core own ns name
+Means core slots own ns x rule.Arith (node.Binary o) = Arith own ns o
+Means core slots own ns x rule.Compare (node.Binary o) = Compare own ns o
+Means core slots own ns x rule.Equal (node.Binary o) = Equal own ns o
+Means core slots own ns x rule.Join (node.Binary o) = Join own ns o
+Means core slots own ns x rule.Logic (node.Binary o) = Xor own ns o
+Means core slots own ns x rule.Logic node.Not = Not own ns
+Means core slots own ns x rule.Lazy node.And = Lazy own ns
+Means core slots own ns x rule.Lazy node.Or = Lazy own ns
+Means core slots own ns x rule.Identity (node.Same v) = Identity own ns
+Means core slots own ns x rule.Seq node.Seq = Seq core own ns x
+Means core slots own ns x rule.If node.If = If core own ns
+Means core slots own ns x rule.While node.While = While own ns
+Means core slots own ns x rule.Recover (node.Recover k) = Recover own ns k
+Means core slots own ns x rule.Body node.Body = Body core own ns x
+Means core slots own ns x r k = ⊥
