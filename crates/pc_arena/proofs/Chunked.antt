@@ -16,17 +16,14 @@ take_nothing (suc p) = refl
 drop_all : {X : Type 0} (p : ℕ) (xs : List X) → length xs ≤ p → drop p xs ≡ []
 drop_all p xs h = nothing_left (drop p xs) (omega (arith, length-drop p xs))
 
-pub get_taken : {X : Type 0} (m : ℕ) (xs : List X) (i : ℕ) → i < m → slice_get (take m xs) i ≡ slice_get xs i
-get_taken zero xs i h = absurd (omega arith)
-get_taken (suc m) [] i h = refl
-get_taken (suc m) (x ∷ xs) zero h = refl
-get_taken (suc m) (x ∷ xs) (suc i) h = get_taken m xs i (omega arith)
-
-pub get_dropped : {X : Type 0} (k : ℕ) (xs : List X) (i j : ℕ) → j ≡ k + i → slice_get (drop k xs) i ≡ slice_get xs j
-get_dropped zero xs i j e = let same : i ≡ j = omega arith in ap (slice_get xs) same
-get_dropped (suc k) [] i j e = refl
-get_dropped (suc k) (x ∷ xs) i zero e = absurd (omega arith)
-get_dropped (suc k) (x ∷ xs) i (suc j) e = get_dropped k xs i j (omega arith)
+-- the values from the m-th on, n of them, one by one
+pub get_within : {X : Type 0} (m n : ℕ) (xs : List X) (i : ℕ) → i < n → slice_get (take n (drop m xs)) i ≡ slice_get xs (m + i)
+get_within m zero xs i h = absurd (omega arith)
+get_within zero (suc n) [] i h = refl
+get_within zero (suc n) (x ∷ xs) zero h = refl
+get_within zero (suc n) (x ∷ xs) (suc i) h = let next : suc (0 + i) ≡ 0 + suc i = omega arith in get_within zero n xs i (omega arith) ∙ ap (slice_get (x ∷ xs)) next
+get_within (suc m) (suc n) [] i h = refl
+get_within (suc m) (suc n) (x ∷ xs) i h = let next : suc (m + i) ≡ suc m + i = omega arith in get_within m (suc n) xs i h ∙ ap (slice_get (x ∷ xs)) next
 
 module _ {X : Type 0} (p : ℕ) where
   -- what the q-th chunk holds
@@ -61,7 +58,7 @@ module _ {X : Type 0} (p : ℕ) where
   within_part q r xs e h = let left = length-drop (q * p) xs in let cut = length-take p (drop (q * p) xs) in omega arith
 
   pub get_part : (q r : ℕ) (xs : List X) → r < p → slice_get (part q xs) r ≡ slice_get xs (q * p + r)
-  get_part q r xs h = get_taken p (drop (q * p) xs) r h ∙ get_dropped (q * p) xs r (q * p + r) refl
+  get_part q r xs h = get_within (q * p) p xs r h
 
   -- a value is put in the place of another
   pub put_part : (n q r : ℕ) (xs : List X) (x : X) → q < n → r < p → set (chunked p n xs) q (set (part q xs) r x) ≡ chunked p n (set xs (q * p + r) x)

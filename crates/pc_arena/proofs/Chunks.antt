@@ -1,47 +1,53 @@
 -- A chunk stays sound, and what its values are then.
-use Rattle.std.proofs.Common.{◌≡◌, ℕ, ◌+◌, ◌-◌, ◌<◌, ◌≤◌, List, [], ◌∷◌, ◌++◌, length, set, get_or, slice_get, Some, None, sym, ap, ◌∙◌, arith, length-append, length-set}
+use Rattle.std.proofs.Common.{◌≡◌, ℕ, ◌+◌, ◌-◌, ◌<◌, List, [], ◌∷◌, ◌++◌, length, set, get_or, replicate, slice_get, Option, Some, None, sym, ap, ◌∙◌, subst, arith, length-append, length-set}
 use denote.RawPtr.{Ptr}
 use Rattle.pc_arena.specs.declared.cells.Places.{Places}
 use Rattle.pc_arena.specs.declared.cells.Title.{Title}
-use Rattle.pc_arena.specs.Places.{somes, filled, HoldsAt}
+use Rattle.pc_arena.specs.Places.{values, FilledInOrder, HoldsAt}
 use Rattle.pc_arena.specs.Chunks.{chunk_size, Sound}
-use Rattle.pc_arena.proofs.Filled.{somes-filled, some_at, last_at, cut_end, same_value, get_filled, write_filled, take_filled, put_filled}
+use Rattle.pc_arena.proofs.Filled.{none_is, next_empty, value_at, write_next, take_last, put_other}
 
 module _ {X Z : Type 0} (start : Ptr) (count : ℕ) (places : Places X) (title : Title X Z) (alloc : Z) (h : Sound start count places title alloc) where
   abbrev items : List X
-  items = somes places.held
+  items = values places.held
 
   pub holds : (i : ℕ) → i < length items → HoldsAt places.held i
-  holds i lt = let x = some_at items i lt in (x.0, ap (λ l. get_or l i None) h.laid ∙ get_filled items chunk_size i lt ∙ x.1)
+  holds i lt = let x = value_at places.held i lt in (x.0, x.2)
 
   pub value_is : (i : ℕ) → i < length items → slice_get items i ≡ get_or places.held i None
-  value_is i lt = sym (get_filled items chunk_size i lt) ∙ ap (λ l. get_or l i None) (sym h.laid)
+  value_is i lt = let x = value_at places.held i lt in x.1 ∙ sym x.2
 
-  -- the row once its places begin with other values
-  module _ (new : Places X) (at : new.at ≡ places.at) (n : ℕ) (xs : List X) (laid : new.held ≡ filled xs chunk_size) (counted : n ≡ length xs) (within : n ≤ chunk_size) where
-    pub values : somes new.held ≡ xs
-    values = ap somes laid ∙ somes-filled xs chunk_size
+  pub room_is : length items < chunk_size → (count < length places.held) × (get_or places.held count None ≡ None)
+  room_is room = let counted = h.counted in let long = h.long in (omega arith, next_empty places.held count counted)
 
-    pub sound : Sound start n new title alloc
-    sound = record { at = at ∙ h.at; owed = h.owed; laid = laid ∙ ap (λ l. filled l chunk_size) (sym values); counted = counted ∙ ap length (sym values); within = within }
+  pub none_left : items ≡ [] → places.held ≡ replicate chunk_size None
+  none_left none = none_is places.held chunk_size h.long h.filled none
+
+  -- the row with something else at one place
+  module _ (new : Places X) (at : new.at ≡ places.at) (i : ℕ) (c : Option X) (e : new.held ≡ set places.held i c) where
+    changed : (n : ℕ) → FilledInOrder (set places.held i c) → n ≡ length (values (set places.held i c)) → Sound start n new title alloc
+    changed n filled counted = record {
+      at = at ∙ h.at;
+      owed = h.owed;
+      long = ap length e ∙ length-set places.held i c ∙ h.long;
+      filled = subst (λ (l : List (Option X)). FilledInOrder l) (sym e) filled;
+      counted = counted ∙ ap (λ (l : List (Option X)). length (values l)) (sym e);
+    }
 
   module _ (new : Places X) (at : new.at ≡ places.at) (x : X) where
-    pub pushed : length items < chunk_size → new.held ≡ set places.held count (Some x) → Sound start (count + 1) new title alloc × (somes new.held ≡ items ++ x ∷ [])
+    pub pushed : length items < chunk_size → new.held ≡ set places.held count (Some x) → Sound start (count + 1) new title alloc × (values new.held ≡ items ++ x ∷ [])
     pushed room e =
-        let counted = h.counted in let more = length-append items (x ∷ []) in
-        let laid = e ∙ ap (λ l. set l count (Some x)) h.laid ∙ ap (λ i. set (filled items chunk_size) i (Some x)) h.counted ∙ write_filled items chunk_size x room in
-        (sound new at (count + 1) (items ++ x ∷ []) laid (omega arith) (omega arith), values new at (count + 1) (items ++ x ∷ []) laid (omega arith) (omega arith))
+        let counted = h.counted in let long = h.long in let more = length-append items (x ∷ []) in
+        let next = write_next places.held count x counted (omega arith) h.filled in let wide = ap length next.1 in
+        (changed new at count (Some x) e (count + 1) next.0 (omega arith), ap values e ∙ next.1)
 
-    pub exchanged : (i : ℕ) → i < length items → new.held ≡ set places.held i (Some x) → Sound start count new title alloc × (somes new.held ≡ set items i x)
+    pub exchanged : (i : ℕ) → i < length items → new.held ≡ set places.held i (Some x) → Sound start count new title alloc × (values new.held ≡ set items i x)
     exchanged i lt e =
-        let counted = h.counted in let same = length-set items i x in
-        let laid = e ∙ ap (λ l. set l i (Some x)) h.laid ∙ put_filled items chunk_size i x lt in
-        (sound new at count (set items i x) laid (omega arith) h.within, values new at count (set items i x) laid (omega arith) h.within)
+        let put = put_other places.held i x lt h.filled in
+        (changed new at i (Some x) e count put.0 (h.counted ∙ sym (length-set items i x) ∙ sym (ap length put.1)), ap values e ∙ put.1)
 
-    pub popped : 0 < length items → new.held ≡ set places.held (count - 1) None → get_or places.held (count - 1) None ≡ Some x → Sound start (count - 1) new title alloc × (items ≡ somes new.held ++ x ∷ [])
+    pub popped : 0 < length items → new.held ≡ set places.held (count - 1) None → get_or places.held (count - 1) None ≡ Some x → Sound start (count - 1) new title alloc × (items ≡ values new.held ++ x ∷ [])
     popped some e out =
-        let counted = h.counted in let fits = h.within in let cut = cut_end items some in let us = cut.0 in let y = cut.1 in
-        let long = ap length cut.2 in let more = length-append us (y ∷ []) in let last : count - 1 ≡ length us = omega arith in
-        let laid = e ∙ ap (λ l. set l (count - 1) None) (h.laid ∙ ap (λ l. filled l chunk_size) cut.2) ∙ ap (λ i. set (filled (us ++ y ∷ []) chunk_size) i None) last ∙ take_filled us chunk_size y (omega arith) in
-        let is = same_value y x (sym (last_at us y) ∙ ap (λ l. slice_get l (length us)) (sym cut.2) ∙ ap (slice_get items) (sym last) ∙ value_is (count - 1) (omega arith) ∙ out) in
-        (sound new at (count - 1) us laid last (omega arith), cut.2 ∙ ap (λ l. l ++ y ∷ []) (sym (values new at (count - 1) us laid last (omega arith))) ∙ ap (λ z. somes new.held ++ z ∷ []) is)
+        let counted = h.counted in let last = take_last places.held (count - 1) x (omega arith) out h.filled in
+        let rest = values (set places.held (count - 1) None) in let more = length-append rest (x ∷ []) in let wide = ap length last.1 in
+        (changed new at (count - 1) None e (count - 1) last.0 (omega arith), last.1 ∙ ap (λ (l : List (Option X)). values l ++ x ∷ []) (sym e))

@@ -1,17 +1,17 @@
 -- A row that is lent, by what lends a value at one of its places.
-use Prim.Native.Nat.{ℕ, ◌+◌}
-use Rattle.std.specs.Prelude.{List, [], ◌∷◌, Option, Some, None}
-use Rattle.std.specs.Mem.{type_size}
-use seplogic.Ra.Ura.{Ura}
-use base.Fml.{Lft, Incl, ftrue, ffalse}
-use types.Logic.{Logic}
-use denote.Param.Laws.{Laws}
 use denote.RattleType.{RattleType, RowLaws}
-use denote.RawPtr.{Ptr, block_ptr, null_ptr}
+use denote.Param.Laws.{Laws}
 use denote.Sharing.{ShrLaws, said}
 use denote.SharingLaws.{beside_shr_laws, nothing_shr_laws, said_shr_laws}
-use denote.Shares.{Shares-less}
+use denote.RawPtr.{Ptr, block_ptr, null_ptr}
 use denote.Struct.Lending.{Lends, Lends-both, Lends-nothing, Lends-said, Lends-false}
+use denote.Shares.{Shares-less}
+use types.Logic.{Logic}
+use base.Fml.{Lft, Incl, ftrue, ffalse}
+use seplogic.Ra.Ura.{Ura}
+use Rattle.std.specs.Mem.{type_size}
+use Rattle.std.specs.Prelude.{List, [], ◌∷◌, Option, Some, None}
+use Prim.Native.Nat.{ℕ, ◌+◌}
 use Rattle.pc_arena.specs.Ownership.{place_at, places_from, place_lent, places_lent, short, row_owned, row_lent}
 
 -- what is lent can be had twice, and for a shorter time

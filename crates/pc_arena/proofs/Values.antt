@@ -15,10 +15,13 @@ marker_val = vstruct (vcons (vstruct vnil) vnil)
 abbrev pub Good : Ty → Val → Type 0
 Good τ v = Holds (has_ty τ v) × WT v
 
+no_values : (vs : List Val) → Typed [] vs → vs ≡ []
+no_values [] t = refl
+no_values (v ∷ vs) t = absurd t
+
 pub lone_value : (τ : Ty) (vs : List Val) → Typed (τ ∷ []) vs → (v : Val) × (vs ≡ v ∷ []) × Good τ v
 lone_value τ [] t = absurd t
-lone_value τ (v ∷ []) t = (v, refl, t.0)
-lone_value τ (v ∷ w ∷ vs) t = absurd t.1
+lone_value τ (v ∷ vs) t = (v, ap (λ ws. v ∷ ws) (no_values vs t.1), t.0)
 
 module _ (R : RattleType) where
   abbrev pub St : RattleType

@@ -1,14 +1,14 @@
 -- What a row of places owns and lends, for values of the type of the row R.
-use Rattle.std.specs.Prelude.{ℕ, ◌+◌, ◌*◌, ◌^◌, List, [], ◌∷◌, length, Option, Some, None}
-use Rattle.std.specs.Mem.{type_size}
-use base.Fraction.{full_share}
-use base.Fml.{Lft, Fml, ftrue, ffalse, fsep, flt, froom}
-use mir.Syntax.{Ty, ty_array}
-use mir.Raw.{raw}
 use denote.RattleType.{RattleType}
 use denote.Memory.{lone, part_at, shared_of}
-use denote.Sharing.{nothing, said, beside}
 use denote.RawPtr.{Ptr, block_ptr, null_ptr}
+use denote.Sharing.{nothing, said, beside}
+use mir.Syntax.{Ty, ty_array}
+use mir.Raw.{raw}
+use base.Fml.{Lft, Fml, ftrue, ffalse, fsep, flt, froom}
+use base.Fraction.{full_share}
+use Rattle.std.specs.Mem.{type_size}
+use Rattle.std.specs.Prelude.{ℕ, ◌+◌, ◌*◌, ◌^◌, List, [], ◌∷◌, length, Option, Some, None}
 
 module _ (R : RattleType) where
   -- one place, which lies o bytes into the block b: the memory for a value, or the value

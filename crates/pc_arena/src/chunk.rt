@@ -24,10 +24,10 @@ impl<T> Model for Chunk<T> {
 
     ghost Value = { List T };
 
-    ghost use Rattle.pc_arena.specs.Places.{somes};
+    ghost use Rattle.pc_arena.specs.Places.{values};
     ghost use Rattle.pc_arena.specs.Chunks.{Sound};
 
-    ghost view = { λ chunk. somes chunk.places.held };
+    ghost view = { λ chunk. values chunk.places.held };
 
     ghost invariant = { λ chunk. Sound chunk.start.at chunk.count chunk.places chunk.title chunk.alloc };
 }

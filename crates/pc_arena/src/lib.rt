@@ -1,4 +1,11 @@
 //! An arena: values at places that never move, each named by its number.
+//!
+//! Proved: An arena is the list of the values that were pushed, with the exchanges applied, and the number of pushes
+//! that it has memory for: `reserve` takes all memory, and a refusal takes nothing away; `push`, `get` and `exchange`
+//! say exactly what they put, find and answer. Its places lie in memory that is reached by pointers, in six functions
+//! proved by hand: a place is written before it is read, no value is written over, and none leaves twice.
+//!
+//! Only tested: that an arena that is dropped drops each value that it still has.
 #![tactic(auto)]
 
 mod arena;

@@ -1,3 +1,5 @@
+pub mod Counts
 pub mod Finds
+pub mod Maps
 pub mod Slices
 pub mod Sounds

@@ -3,7 +3,8 @@ use Rattle.std.proofs.Common.{◌≡◌, ℕ, zero, suc, ◌+◌, ◌-◌, ◌<�
 use Rattle.std.proofs.lemmas.List.{take-set-le, drop-set-lt, drop-set-add, take-append-le, drop-append-le}
 use Rattle.std.proofs.lemmas.Option.{slice_get_past}
 use Rattle.std.proofs.Math.Seq.{take-set-lt, drop-append_seam, take-length}
-use Rattle.pc_arena.proofs.Chunked.{get_taken, get_dropped}
+use Rattle.pc_arena.proofs.Chunked.{get_within}
+use Rattle.pc_lists.proofs.Gets.{get_behind}
 
 module _ {X : Type 0} where
   -- n values from m on
@@ -11,7 +12,7 @@ module _ {X : Type 0} where
   part m n xs = take n (drop m xs)
 
   pub get_part : (m n : ℕ) (xs : List X) (i : ℕ) → i < n → slice_get (part m n xs) i ≡ slice_get xs (m + i)
-  get_part m n xs i h = get_taken n (drop m xs) i h ∙ get_dropped m xs i (m + i) refl
+  get_part m n xs i h = get_within m n xs i h
 
   pub get_outside : (m n : ℕ) (xs : List X) (i : ℕ) → n ≤ i → slice_get (part m n xs) i ≡ None
   get_outside m n xs i h = slice_get_past (part m n xs) i (omega (arith, length-take n (drop m xs)))
@@ -39,10 +40,7 @@ module _ {X : Type 0} where
   get_old (y ∷ xs) x (suc i) h = get_old xs x i (omega arith)
 
   pub get_new : (xs : List X) (x : X) (i : ℕ) → i ≡ length xs → slice_get (xs ++ x ∷ []) i ≡ Some x
-  get_new [] x zero e = refl
-  get_new [] x (suc i) e = absurd (omega arith)
-  get_new (y ∷ xs) x zero e = absurd (omega arith)
-  get_new (y ∷ xs) x (suc i) e = get_new xs x i (omega arith)
+  get_new xs x i e = ap (slice_get (xs ++ x ∷ [])) e ∙ get_behind xs x []
 
   pub get_far : (xs : List X) (x : X) (i : ℕ) → length xs < i → slice_get (xs ++ x ∷ []) i ≡ None
   get_far xs x i h = slice_get_past (xs ++ x ∷ []) i (omega (arith, length-append xs (x ∷ [])))

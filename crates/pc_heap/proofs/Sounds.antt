@@ -2,22 +2,21 @@
 use Rattle.std.proofs.Common.{◌≡◌, ℕ, zero, suc, ◌+◌, ◌^◌, ◌<◌, ◌≤◌, ◌⊎◌, inl, inr, Bool, true, false, cond, List, [], ◌∷◌, ◌++◌, length, set, slice_get, replicate, Option, Some, None, refl, sym, ap, ◌∙◌, subst, arith, length-append, length-set}
 use Rattle.std.proofs.lemmas.List.{length-replicate}
 use Rattle.std.specs.Prelude.{nat_eq}
-use Rattle.std.specs.Ordering.{nat_cmp, eq_by_cmp}
-use Rattle.std.specs.Cmp.{nat_cmp_total}
+use Rattle.std.specs.Ordering.{eq_by_cmp}
 use Rattle.std.specs.FinMap.{empty, get, insert, len, same_map, get-insert, get-empty, len-empty}
-use Rattle.std.proofs.lemmas.Bool.{true≢false, eq-eqb, eqb-true}
+use Rattle.std.proofs.lemmas.Bool.{eq-eqb, eqb-true}
 use Rattle.std.proofs.lemmas.Option.{none-some, same_Some, slice_get_within, slice_get_past}
-use Rattle.std.proofs.lemmas.Map.Lookups.{exact_unsigned}
 use Rattle.std.proofs.lemmas.Map.Views.{tells_apart}
 use Rattle.pc_heap.specs.declared.value.Address.{Address}
-use Rattle.pc_heap.specs.declared.value.Object.{Object}
+use Rattle.pc_heap.specs.Object.{Object}
 use Rattle.pc_heap.specs.declared.value.Value.{Value}
 use Rattle.pc_heap.specs.declared.entry.Entry.{Entry}
 use Rattle.pc_heap.specs.Objects.{address_cmp, ObjectMap, made_by, new_object, with_field, with_value, object_in, field_in}
 use Rattle.pc_heap.specs.Heaps.{Room, object_limit}
-use Rattle.pc_heap.specs.Maps.{addresses_total, exact_addresses, tied_own, get_at}
-use Rattle.pc_heap.specs.Counts.{one_if, made_more, made_same, len_more, len_same, made_few}
-use Rattle.pc_heap.specs.Rows.{RowList, RowData, row_in, numbers_of}
+use Rattle.pc_heap.proofs.Maps.{addresses_total, exact_addresses, get_at}
+use Rattle.pc_heap.proofs.Counts.{made_more, made_same, len_more, len_same, made_few}
+use Rattle.pc_lists.specs.Counts.{one_if}
+use Rattle.pc_heap.specs.Rows.{RowList, numbers_of}
 use Rattle.pc_heap.specs.Entries.{Items, object_of, objects_of, at_number, entry_found, Laid}
 use Rattle.pc_heap.specs.Inside.{Ready, Sound}
 use Rattle.pc_heap.proofs.Finds.{other_than, object_found, found_is, entry_is, laid_within, laid_apart, laid_more}

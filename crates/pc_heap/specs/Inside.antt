@@ -15,7 +15,7 @@ room_of (Some room) = Some record { maker = room.maker; fields = room.fields }
 
 -- The next object can be made without memory: there is a free place for its entry, as many places for its fields as it
 -- has, and a free place in its maker's row.
-abbrev pub Ready : ℕ → ℕ → ℕ → RowList → Option Room → Type 0
+abbrev pub Ready : (made free spare : ℕ) → RowList → Option Room → Type 0
 Ready made free spare rows None = ⊤
 Ready made free spare rows (Some room) = (0 < free) × (room.fields ≤ spare) × (0 < spare_of rows room.maker) × (made < object_limit) × (room.fields ≤ field_limit)
 

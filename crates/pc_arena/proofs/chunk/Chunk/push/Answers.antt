@@ -1,6 +1,11 @@
-use Rattle.std.proofs.Common.{◌∷◌, ◌++◌, [], length, ap, ◌∙◌, arith}
-use Rattle.pc_arena.proofs.Chunks.{pushed}
+use Rattle.std.proofs.Common.{◌∷◌, ◌++◌, [], length, sym, ap, ◌∙◌, arith}
+use Rattle.pc_arena.proofs.Chunks.{room_is, pushed}
 use Rattle.pc_arena.proofs.chunk.Chunk.push.Goals as goal
+
+pub write-requires : goal.write-requires
+write-requires g c =
+    let i = c.self.inside in let h = c.self.invariant in let long = ap length c.self.view_is in let asked = c.requires in
+    let next = room_is i.start.at i.count i.places i.title i.alloc h (omega arith) in (sym h.at, next.0, next.1)
 
 pub invariant_of-self : goal.invariant_of-self
 invariant_of-self g c =
