@@ -8,7 +8,7 @@ use Rattle.pc_tree.specs.declared.kinds.Op.{Op}
 use Rattle.pc_tree.specs.declared.kinds.Op.TheVariants as op
 use Rattle.pc_heap.specs.Objects.{next_address}
 use Rattle.pc_heap.specs.declared.value.Address.{Address}
-use Rattle.pc_heap.specs.declared.value.Object.{Object}
+use Rattle.pc_heap.specs.Object.{Object}
 use Rattle.pc_heap.specs.declared.value.Value.{Value}
 use Rattle.pc_heap.specs.declared.value.Value.TheVariants.{Num, Truth, Text, Prim, At}
 use Rattle.pc_core.specs.CoreData.{CoreData}
@@ -33,16 +33,13 @@ use Rattle.pc_tasks.specs.Inside.{first_move, relieved}
 use Rattle.pc_machine.specs.declared.plan.Plan.{Plan}
 use Rattle.pc_machine.specs.declared.plan.Plan.TheVariants as plan
 use Rattle.pc_machine.specs.Plans.{move_of, Reaches}
+use Rattle.pc_lists.proofs.Bools.{second_true}
 
 abbrev pub Allowed : Around → Move → Type 0
 Allowed around (Writes at k v f) = IsSome (get around.objects at)
 Allowed around (Makes at o g f) = at ≡ next_address around.objects around.actor
 Allowed around (Sends j m f) = j < around.actors
 Allowed around m = Unit {0}
-
-both_true : (a b : Bool) → (a && b) ≡ true → b ≡ true
-both_true true b e = e
-both_true false b e = absurd (let bad : false ≡ true = e in cc)
 
 module _ (core : CoreData) (around : Around) where
   -- ---- what is popped
@@ -244,7 +241,7 @@ module _ (core : CoreData) (around : Around) where
   entered m x this vs f (Some body) = tt
 
   sent : (m : ℕ) (x : Method) (vs : List Value) (f : Frame) (v : Value) → Allowed around (send around m x vs f v)
-  sent m x vs f (At a) = if_true (nat_eq a.serial 0 && nat_lt a.maker around.actors) _ _ (λ e. count x vs _ (ltb-true a.maker around.actors (both_true _ _ e))) tt
+  sent m x vs f (At a) = if_true (nat_eq a.serial 0 && nat_lt a.maker around.actors) _ _ (λ e. count x vs _ (ltb-true a.maker around.actors (second_true _ _ e))) tt
   sent m x vs f (Num n) = tt
   sent m x vs f (Truth b) = tt
   sent m x vs f (Text t) = tt

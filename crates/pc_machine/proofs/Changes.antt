@@ -6,7 +6,7 @@ use Rattle.std.proofs.lemmas.Option.{same_Some, none-some}
 use Rattle.pc_semantics.specs.declared.actors.Actor.{Actor}
 use Rattle.pc_semantics.specs.declared.frames.Frame.{Frame}
 use Rattle.pc_semantics.specs.declared.mailbox.Message.{Message}
-use Rattle.pc_caps.specs.Gets.{get_within}
+use Rattle.pc_lists.proofs.Gets.{get_within}
 use Rattle.pc_machine.specs.Changed.{changed, framed, mailed, unmailed, frames_of, messages_in}
 
 -- a write of what stands there, changed

@@ -4,7 +4,7 @@ use Rattle.std.specs.Prelude.{slice_get, slice_set, Result, IfOk, OnErr}
 use Rattle.std.specs.declared.alloc.AllocError.{AllocError}
 use Rattle.std.specs.FinMap.{get, len}
 use Rattle.std.proofs.lemmas.List.{length-set}
-use Rattle.pc_caps.specs.Gets.{get_below}
+use Rattle.pc_lists.proofs.Gets.{get_below}
 use Rattle.pc_heap.specs.Heaps.{object_limit}
 use Rattle.pc_heap.specs.Objects.{ObjectMap, with_field, object_in}
 use Rattle.pc_heap.specs.declared.value.Address.{Address}

@@ -7,3 +7,4 @@ mod Stepped
 mod Allowed
 mod Kept
 mod Starting
+pub mod Growing

@@ -13,17 +13,15 @@ use Rattle.pc_heap.specs.Addresses.{addresses_total}
 use Rattle.pc_heap.specs.Heaps.{object_limit}
 use Rattle.pc_heap.specs.Objects.{address_cmp, ObjectMap, made_by, next_address}
 use Rattle.pc_heap.specs.declared.value.Address.{Address}
-use Rattle.pc_heap.specs.declared.value.Object.{Object}
+use Rattle.pc_heap.specs.Object.{Object}
 use Rattle.pc_semantics.specs.Configurations.{own_address}
 use Rattle.pc_machine.specs.States.{Peopled}
+use Rattle.pc_lists.specs.Counts.{one_if}
 
 pub exact_addresses : CmpEqualImpliesEq address_cmp
 exact_addresses a b h = ap (λ (p : ℕ × ℕ). record { maker = p.0; serial = p.1 }) (exact_pairs nat_cmp nat_cmp exact_unsigned exact_unsigned (a.maker, a.serial) (b.maker, b.serial) h)
 
 -- ---- an actor that has made nothing
-
-abbrev one_if : Bool → ℕ
-one_if b = cond b 1 0
 
 -- a number that is less is another
 other_number : (a n : ℕ) (b : Bool) → nat_eq a n ≡ b → a < n → one_if b ≡ 0

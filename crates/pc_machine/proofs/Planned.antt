@@ -3,7 +3,7 @@ use Rattle.std.proofs.Common.{◌≡◌, ℕ, zero, suc, ◌<◌, List, [], ◌�
 use Rattle.std.specs.Prelude.{slice_get}
 use Rattle.std.specs.FinMap.{insert}
 use Rattle.std.proofs.lemmas.List.{length-set}
-use Rattle.pc_caps.specs.Gets.{get_within}
+use Rattle.pc_lists.proofs.Gets.{get_within}
 use Rattle.pc_heap.specs.Objects.{ObjectMap, next_address, new_object}
 use Rattle.pc_heap.specs.declared.value.Address.{Address}
 use Rattle.pc_heap.specs.declared.value.Value.TheVariants.{At}
@@ -168,7 +168,3 @@ pub changed_planned : (c : Configuration) (i : ℕ) (ch : Change) (last : List A
     → ◌≡◌ {A = Outcome × Configuration} (Moved, amended c c.objects last) (planned c i (Changes ch))
 changed_planned c i ch last runs first =
     ap (λ actors. let o : Outcome × Configuration = (Moved, amended c c.objects actors) in o) first ∙ change_planned c i (running c.actors i runs) ch
-
--- Nothing happens where something is lacking.
-pub lack_planned : (c : Configuration) (i : ℕ) (l : Lack) → 0 < length (frames_of c.actors i) → ◌≡◌ {A = Outcome × Configuration} (Lacks l, c) (planned c i (plan.Lacks l))
-lack_planned c i l runs = sym (planned_is c i (running c.actors i runs) (plan.Lacks l))

@@ -1,5 +1,5 @@
 -- Where the program of a core begins.
-use Rattle.std.proofs.Common.{◌≡◌, ℕ, ◌+◌, ◌<◌, Bool, true, false, cond, List, [], ◌∷◌, length, Option, Some, None, refl, sym, ap, ◌∙◌, arith}
+use Rattle.std.proofs.Common.{◌≡◌, ℕ, ◌+◌, ◌<◌, Bool, true, false, cond, List, [], ◌∷◌, Option, Some, None, refl, sym, ap, ◌∙◌, arith}
 use Rattle.std.specs.Prelude.{map, position, is_some, IsSome, slice_get, replicate, not}
 use Rattle.std.specs.List.{position_or_len}
 use Rattle.std.specs.FinMap.{empty, get, insert, len, entries, put, get-insert, same_map, len-empty, len-entries, entries-insert}
@@ -9,7 +9,7 @@ use Rattle.pc_heap.specs.Addresses.{addresses_total}
 use Rattle.pc_heap.specs.Heaps.{object_limit}
 use Rattle.pc_heap.specs.Objects.{address_cmp, ObjectMap, field_at, field_in, next_address, object_in, with_field, with_value}
 use Rattle.pc_heap.specs.declared.value.Address.{Address}
-use Rattle.pc_heap.specs.declared.value.Object.{Object}
+use Rattle.pc_heap.specs.Object.{Object}
 use Rattle.pc_heap.specs.declared.value.Value.{Value}
 use Rattle.pc_heap.specs.declared.value.Value.TheVariants.{At}
 use Rattle.pc_core.specs.CoreData.{CoreData}
@@ -17,6 +17,7 @@ use Rattle.pc_core.specs.Formed.{Formed}
 use Rattle.pc_semantics.specs.Configurations.{own_address, environment_address, environment, blank_object, fields_in, start, start_of, main_create}
 use Rattle.pc_machine.specs.States.{Peopled, IsPeopled}
 use Rattle.pc_machine.proofs.Peopling.{exact_addresses, len_grows, peopled_actor, peopled_none, peopled_object}
+use Rattle.pc_lists.proofs.Cuts.{without_length}
 
 -- ---- places in a mapped list
 
@@ -34,10 +35,6 @@ inserted m a o b = get-insert addresses_total m a o b
 
 listed : (m : ObjectMap) (a : Address) (o : Object) → entries (insert m a o) ≡ put address_cmp a o (entries m)
 listed m a o = entries-insert addresses_total m a o
-
-without_length : {T : Type 0} → (xs : List T) → length xs ≡ 0 → xs ≡ []
-without_length [] e = refl
-without_length (x ∷ xs) e = absurd (omega (arith, e))
 
 none_listed : entries (empty {X = Object} {R = address_cmp}) ≡ []
 none_listed = without_length _ (sym (len-entries (empty {X = Object} {R = address_cmp})) ∙ len-empty address_cmp Object)

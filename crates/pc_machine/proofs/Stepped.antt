@@ -1,12 +1,12 @@
 -- From what a function did to the step of the actor.
-use Rattle.std.proofs.Common.{◌≡◌, ℕ, zero, suc, ◌<◌, List, [], ◌∷◌, ◌++◌, length, drop, set, Option, Some, None, refl, sym, ap, ◌∙◌, subst, arith}
-use Rattle.std.specs.Prelude.{slice_get, IfSome, IsSomeAnd}
+use Rattle.std.proofs.Common.{◌≡◌, ℕ, zero, suc, ◌<◌, List, [], ◌∷◌, ◌++◌, length, drop, get_or, set, Option, Some, None, Result, Ok, Err, refl, sym, ap, ◌∙◌, subst, arith}
+use Rattle.std.specs.Prelude.{slice_get, IfOk, IfSome, IsSomeAnd, OnErr}
 use Rattle.std.proofs.lemmas.Option.{same_Some, none-some}
 use Rattle.pc_heap.specs.Objects.{ObjectMap}
 use Rattle.pc_heap.specs.declared.value.Value.{Value}
 use Rattle.pc_heap.specs.declared.value.Value.TheVariants.{Text, At}
 use Rattle.pc_core.specs.CoreData.{CoreData}
-use Rattle.pc_core.specs.Words.{◌>>=◌}
+use Rattle.pc_lists.specs.Options.{◌>>=◌}
 use Rattle.pc_core.specs.declared.declarations.Method.{Method}
 use Rattle.pc_semantics.specs.declared.actors.Actor.{Actor}
 use Rattle.pc_semantics.specs.declared.frames.Frame.{Frame}
@@ -17,11 +17,11 @@ use Rattle.pc_semantics.specs.Configurations.{Configuration, own_address, with_f
 use Rattle.pc_semantics.specs.Around.{first_frame}
 use Rattle.pc_semantics.specs.Step.{begin_method, begun, printed_text, run_frames, step, step_of, take, take_first}
 use Rattle.pc_tasks.specs.Inside.{IsInside}
-use Rattle.pc_tasks.specs.Steps.{inside_step}
-use Rattle.pc_machine.specs.Changed.{changed, framed, unmailed, frames_of}
-use Rattle.pc_machine.specs.Ran.{Ran}
+use Rattle.pc_tasks.proofs.Steps.{inside_step}
+use Rattle.pc_machine.specs.Changed.{changed, framed, unmailed, frames_in, frames_of, messages_in}
+use Rattle.pc_machine.specs.Ran.{Ran, RanAt}
 use Rattle.pc_machine.specs.Taken.{only_text, frame_begun}
-use Rattle.pc_machine.proofs.Changes.{changed_set, swapped}
+use Rattle.pc_machine.proofs.Changes.{changed_set, get_there, is_there, messages_same, set_changed}
 use Rattle.pc_machine.proofs.Planned.{amended, Running, running, goes_on}
 
 -- ---- a message is taken
@@ -93,18 +93,42 @@ begin_step core c i a m f mid last fs other here idle oldest frame first second 
 
 -- ---- a task is done inside a frame
 
-pub has_first : {T : Type 0} → (xs : List T) (P : T → Type 0) → IsSomeAnd (slice_get xs 0) P → 0 < length xs
+has_first : {T : Type 0} → (xs : List T) (P : T → Type 0) → IsSomeAnd (slice_get xs 0) P → 0 < length xs
 has_first [] P h = absurd h
 has_first (x ∷ xs) P h = omega arith
 
-pub ran_step : (core : CoreData) (c : Configuration) (i : ℕ) (o : Outcome) (objects : ObjectMap) (held frames : List Frame) (mid last : List Actor) → IsSomeAnd (slice_get (frames_of c.actors i) 0) (λ f. IsInside (slice_get f.tasks 0))
-    → IfSome (slice_get (frames_of c.actors i) 0) (λ f. Ran core c.objects f (drop 1 (frames_of c.actors i)) o objects frames)
-    → mid ≡ changed c.actors i (framed held) → last ≡ changed mid i (framed frames)
-    → ◌≡◌ {A = Outcome × Configuration} (o, amended c objects last) (step core c i)
-ran_step core c i o objects held frames mid last inside ran first second =
+ran_step : (core : CoreData) (c : Configuration) (i : ℕ) (o : Outcome) (objects : ObjectMap) (last : List Actor) → IsSomeAnd (slice_get (frames_of c.actors i) 0) (λ f. IsInside (slice_get f.tasks 0))
+    → RanAt core c.objects c.actors i o objects last → ◌≡◌ {A = Outcome × Configuration} (o, amended c objects last) (step core c i)
+ran_step core c i o objects last inside at =
     let r : Running c.actors i = running c.actors i (has_first (frames_of c.actors i) (λ f. IsInside (slice_get f.tasks 0)) inside) in
     let task : IsInside (slice_get r.frame.tasks 0) = subst (λ (fs : List Frame). IsSomeAnd (slice_get fs 0) (λ f. IsInside (slice_get f.tasks 0))) r.of inside in
-    let done : Ran core c.objects r.frame r.below o objects frames = subst (λ (fs : List Frame). IfSome (slice_get fs 0) (λ f. Ran core c.objects f (drop 1 fs) o objects frames)) r.of ran in
-    let ends : last ≡ (with_frames c i r.actor (done.frame ∷ r.below)).actors = swapped c.actors mid last i held frames (done.frame ∷ r.below) first second done.frames_are ∙ goes_on c i r (done.frame ∷ r.below) in
+    let done : Ran core c.objects r.frame r.below o objects at.frames = subst (λ (fs : List Frame). IfSome (slice_get fs 0) (λ f. Ran core c.objects f (drop 1 fs) o objects at.frames)) r.of at.ran in
+    let ends : last ≡ (with_frames c i r.actor (done.frame ∷ r.below)).actors = at.actors_are ∙ ap (λ fs. changed c.actors i (framed fs)) done.frames_are ∙ goes_on c i r (done.frame ∷ r.below) in
     ap (λ actors. let p : Outcome × Configuration = (o, amended c objects actors) in p) ends
     ∙ sym (inside_step core c i r.actor r.frame done.frame r.below o objects r.here r.frames task done.inside)
+
+-- The frames of one actor, where they were changed in their place.
+pub ran_at : {E : Type 0} (core : CoreData) (objects objects' : ObjectMap) (all : List Actor) (i : ℕ) (a : Actor) (frames : List Frame) (r : Result Outcome E) → i < length all → a ≡ get_or all i a
+    → IfOk r (λ o. IfSome (slice_get a.frames 0) (λ f. Ran core objects f (drop 1 a.frames) o objects' frames))
+    → IfOk r (λ o. RanAt core objects all i o objects' (set all i (record { mailbox = a.mailbox; frames = frames })))
+ran_at core objects objects' all i a frames (Err e) l is h = tt
+ran_at core objects objects' all i a frames (Ok o) l is h = record {
+  frames = frames;
+  ran = subst (λ (fs : List Frame). IfSome (slice_get fs 0) (λ f. Ran core objects f (drop 1 fs) o objects' frames)) (sym (ap frames_in (get_there all i a l is))) h;
+  actors_are = set_changed all i a (framed frames) l is;
+}
+
+-- No message comes or goes.
+pub ran_messages : {E : Type 0} (core : CoreData) (objects objects' : ObjectMap) (all last : List Actor) (i : ℕ) (r : Result Outcome E) → i < length all
+    → IfOk r (λ o. RanAt core objects all i o objects' last) → OnErr r (last ≡ all) → messages_in last ≡ messages_in all
+ran_messages core objects objects' all last i (Err e) l ran same = ap messages_in same
+ran_messages core objects objects' all last i (Ok o) l ran same = ap messages_in ran.actors_are ∙ messages_same all i (framed ran.frames) l (λ a. refl)
+
+pub ran_steps : {E : Type 0} (core : CoreData) (c : Configuration) (i : ℕ) (objects : ObjectMap) (last : List Actor) (r : Result Outcome E) → IsSomeAnd (slice_get (frames_of c.actors i) 0) (λ f. IsInside (slice_get f.tasks 0))
+    → IfOk r (λ o. RanAt core c.objects c.actors i o objects last) → IfOk r (λ o. ◌≡◌ {A = Outcome × Configuration} (o, amended c objects last) (step core c i))
+ran_steps core c i objects last (Err e) inside ran = tt
+ran_steps core c i objects last (Ok o) inside ran = ran_step core c i o objects last inside ran
+
+-- An actor whose running frame has a task inside is there.
+pub runs_there : (all : List Actor) (i : ℕ) → IsSomeAnd (slice_get (frames_of all i) 0) (λ f. IsInside (slice_get f.tasks 0)) → i < length all
+runs_there all i inside = is_there all i (has_first (frames_of all i) (λ (f : Frame). IsInside (slice_get f.tasks 0)) inside)

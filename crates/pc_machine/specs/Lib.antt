@@ -4,4 +4,3 @@ pub mod States
 pub mod Taken
 pub mod Ran
 pub mod Machines
-pub mod Growing

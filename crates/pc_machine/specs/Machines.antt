@@ -3,7 +3,7 @@ use Rattle.std.specs.Prelude.{ℕ, List, refl}
 use Rattle.std.specs.Coded.{Coded, code_by, coded×, coded_list, coded_ℕ}
 use Rattle.std.specs.FinMap.{code}
 use Rattle.pc_heap.specs.Objects.{ObjectMap, coded_address}
-use Rattle.pc_heap.specs.contracts.value.Object as object
+use Rattle.pc_heap.specs.Object.{coded_object}
 use Rattle.pc_core.specs.CoreData.{CoreData}
 use Rattle.pc_core.specs.contracts.cores.Core as core
 use Rattle.pc_semantics.specs.declared.actors.Actor.{Actor}
@@ -21,7 +21,7 @@ message_limit = 4194304
 abbrev pub coded_configuration : Coded Configuration
 coded_configuration =
     code_by (ObjectMap × (List Actor × List (List ℕ)))
-    (coded× (code coded_address object.the_row.coded) (coded× (coded_list actor.the_row.coded) (coded_list (coded_list coded_ℕ))))
+    (coded× (code coded_address coded_object) (coded× (coded_list actor.the_row.coded) (coded_list (coded_list coded_ℕ))))
     (λ c. (c.objects, (c.actors, c.printed))) (λ p. record { objects = p.0; actors = p.1.0; printed = p.1.1 }) (λ _. refl)
 
 abbrev pub coded_machine : Coded MachineData

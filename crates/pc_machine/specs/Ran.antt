@@ -1,13 +1,21 @@
 -- The first task of a running frame was done inside the frame.
-use Rattle.std.specs.Prelude.{◌≡◌, List, ◌∷◌}
+use Rattle.std.specs.Prelude.{◌≡◌, ℕ, List, ◌∷◌, drop, slice_get, IfSome}
 use Rattle.pc_heap.specs.Objects.{ObjectMap}
 use Rattle.pc_core.specs.CoreData.{CoreData}
+use Rattle.pc_semantics.specs.declared.actors.Actor.{Actor}
 use Rattle.pc_semantics.specs.declared.frames.Frame.{Frame}
 use Rattle.pc_semantics.specs.declared.outcome.Outcome.{Outcome}
 use Rattle.pc_tasks.specs.Inside.{Inside}
+use Rattle.pc_machine.specs.Changed.{changed, framed, frames_of}
 
 -- From these objects and frames, f with those below it, to others.
 pub record Ran (core : CoreData) (objects : ObjectMap) (f : Frame) (below : List Frame) (o : Outcome) (objects' : ObjectMap) (frames : List Frame) : Type 0 where
   pub frame : Frame
   pub inside : Inside core objects f o objects' frame
   pub frames_are : frames ≡ frame ∷ below
+
+-- The same of actor i: from these objects and actors to others.
+pub record RanAt (core : CoreData) (objects : ObjectMap) (actors : List Actor) (i : ℕ) (o : Outcome) (objects' : ObjectMap) (actors' : List Actor) : Type 0 where
+  pub frames : List Frame
+  pub ran : IfSome (slice_get (frames_of actors i) 0) (λ f. Ran core objects f (drop 1 (frames_of actors i)) o objects' frames)
+  pub actors_are : actors' ≡ changed actors i (framed frames)

@@ -1,8 +1,13 @@
 //! The actors of a machine, with a count of the messages that wait for them.
 ghost use Rattle.std.specs.Prelude.{◌≡◌, ◌+◌, ◌<◌, ◌^◌, ◌-◌, ◌++◌, ◌∷◌, [], length, take, slice_get, option_copied, IsSomeAnd, IfOk, OnOk, OnErr};
 ghost use Rattle.pc_machine.specs.Changed.{changed, framed, mailed, unmailed, frames_of, messages_in};
+ghost use Rattle.pc_machine.specs.Ran.{RanAt};
+ghost use Rattle.pc_tasks.specs.Inside.{IsInside};
 
-use pc_semantics::{Actor, Frame, Mailbox, Message, Stack};
+use crate::inside::run_in;
+use pc_core::Core;
+use pc_heap::Heap;
+use pc_semantics::{Actor, Frame, Mailbox, Message, Outcome, Stack};
 use std::alloc::{AllocError, Global};
 use std::marker::Model;
 use std::mem;
@@ -89,6 +94,23 @@ impl Actors {
     {
         take_from(&mut self.all, actor);
         self.waiting -= 1;
+    }
+
+    /// Does the first task of an actor's running frame, where it concerns that frame and the objects alone. An `Err` changes
+    /// nothing.
+    pub fn run_frame(
+        &mut self,
+        alloc: Global,
+        core: &Core,
+        heap: &mut Heap,
+        actor: usize,
+    ) -> Result<Outcome, AllocError>
+        requires { IsSomeAnd (slice_get (frames_of self.old actor) 0) (λ f. IsInside (slice_get f.tasks 0)) }
+        ensures ok { IfOk result (λ o. RanAt core.now heap.old.objects self.old actor o heap.new.objects self.new) }
+        ensures objects { OnErr result (heap.new.objects ≡ heap.old.objects) }
+        ensures actors { OnErr result (self.new ≡ self.old) }
+    {
+        run_in(alloc, core, heap, &mut self.all, actor)
     }
 
     /// Gives an actor other frames, and answers those that it had. It takes no memory.

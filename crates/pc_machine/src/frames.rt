@@ -11,8 +11,8 @@ use pc_heap::Value;
 use pc_semantics::{Frame, Stack, Task};
 use std::alloc::{AllocError, Global};
 
-/// A frame that holds the place of another. It takes no memory.
-pub fn blank(alloc: Global) -> Frame {
+// A frame that holds the place of another. It takes no memory.
+fn blank(alloc: Global) -> Frame {
     Frame {
         method: 0,
         slots: List::new(alloc),
@@ -96,15 +96,13 @@ fn place_value(frame: &mut Frame, count: usize, value: Value)
 }
 
 /// The running frame goes on with a value in the place of the topmost ones. It takes no memory.
-pub fn place_top(alloc: Global, frames: &mut Stack<Frame>, count: usize, value: Value)
+pub fn place_top(frames: &mut Stack<Frame>, count: usize, value: Value)
     requires running { 0 < length frames.old }
     requires some { 0 < count }
     requires enough { IfSome (slice_get frames.old 0) (λ f. count ≤ length f.stack) }
     ensures { frames.new ≡ given count value frames.old }
 {
-    let mut frame = frames.replace_top(blank(alloc));
-    place_value(&mut frame, count, value);
-    let _ = frames.replace_top(frame);
+    place_value(frames.top_mut(), count, value);
 }
 
 // The same where the value may take no value's place.
@@ -123,28 +121,13 @@ fn push_value(frame: &mut Frame, count: usize, value: Value) -> Result<(), Alloc
 }
 
 // The running frame goes on with a value.
-fn give(
-    alloc: Global,
-    frames: &mut Stack<Frame>,
-    count: usize,
-    value: Value,
-) -> Result<(), AllocError>
+fn give(frames: &mut Stack<Frame>, count: usize, value: Value) -> Result<(), AllocError>
     requires some { 0 < length frames.old }
     requires enough { IfSome (slice_get frames.old 0) (λ f. count ≤ length f.stack) }
     ensures ok { OnOk result (frames.new ≡ given count value frames.old) }
     ensures err { OnErr result (frames.new ≡ frames.old) }
 {
-    let mut frame = frames.replace_top(blank(alloc));
-    match push_value(&mut frame, count, value) {
-        Ok(()) => {
-            let _ = frames.replace_top(frame);
-            Ok(())
-        }
-        Err(error) => {
-            let _ = frames.replace_top(frame);
-            Err(error)
-        }
-    }
+    push_value(frames.top_mut(), count, value)
 }
 
 // The running frame goes on below another.
@@ -175,7 +158,7 @@ fn push_on(frame: &mut Frame, value: Value) -> Result<(), AllocError>
 }
 
 // The running frame ends, and leaves a value to the one below.
-#[tactic(auto, using(pc_caps::specs::Gets::set_back))]
+#[tactic(auto, using(pc_lists::proofs::Gets::set_back))]
 fn leave(alloc: Global, frames: &mut Stack<Frame>, value: Value) -> Result<(), AllocError>
     requires { 0 < length frames.old }
     ensures ok { OnOk result (frames.new ≡ ended (Some value) frames.old) }
@@ -211,7 +194,7 @@ pub fn change_frames(
     ensures err { OnErr result (frames.new ≡ frames.old) }
 {
     match change {
-        Change::Gives { count, value } => give(alloc, frames, count, value),
+        Change::Gives { count, value } => give(frames, count, value),
         Change::Enters { count, frame } => enter(alloc, frames, count, frame),
         Change::Leaves(Some(value)) => leave(alloc, frames, value),
         Change::Leaves(None) => {

@@ -1,16 +1,15 @@
-//! The tasks that concern one frame and the objects alone.
+//! The tasks that concern one frame and the objects alone. The frame stays in its place among all frames while its task is done.
 ghost use Rattle.std.specs.Prelude.{◌≡◌, drop, slice_get, IfOk, IfSome, OnErr, IsSomeAnd};
 ghost use Rattle.pc_semantics.specs.Step.{step};
 ghost use Rattle.pc_tasks.specs.Inside.{IsInside};
 ghost use Rattle.pc_machine.specs.Changed.{frames_of};
-ghost use Rattle.pc_machine.specs.Ran.{Ran};
+ghost use Rattle.pc_machine.specs.Ran.{Ran, RanAt};
 ghost use Rattle.pc_machine.specs.States.{configuration_of};
 
-use crate::frames::blank;
 use crate::state::State;
 use pc_core::Core;
 use pc_heap::Heap;
-use pc_semantics::{Frame, Outcome, Stack};
+use pc_semantics::{Actor, Frame, Outcome, Stack};
 use pc_tasks::run_inside;
 use std::alloc::{AllocError, Global};
 
@@ -27,17 +26,24 @@ fn run_top(
     ensures objects { OnErr result (heap.new.objects ≡ heap.old.objects) }
     ensures frames { OnErr result (frames.new ≡ frames.old) }
 {
-    let mut frame = frames.replace_top(blank(alloc));
-    match run_inside(alloc, core, heap, &mut frame) {
-        Ok(outcome) => {
-            let _ = frames.replace_top(frame);
-            Ok(outcome)
-        }
-        Err(error) => {
-            let _ = frames.replace_top(frame);
-            Err(error)
-        }
-    }
+    run_inside(alloc, core, heap, frames.top_mut())
+}
+
+/// The first task of the running frame of one of these actors is done. An `Err` changes nothing.
+pub fn run_in(
+    alloc: Global,
+    core: &Core,
+    heap: &mut Heap,
+    all: &mut Vec<Actor>,
+    actor: usize,
+) -> Result<Outcome, AllocError>
+    requires { IsSomeAnd (slice_get (frames_of all.old.items actor) 0) (λ f. IsInside (slice_get f.tasks 0)) }
+    ensures ok { IfOk result (λ o. RanAt core.now heap.old.objects all.old.items actor o heap.new.objects all.new.items) }
+    ensures objects { OnErr result (heap.new.objects ≡ heap.old.objects) }
+    ensures actors { OnErr result (all.new.items ≡ all.old.items) }
+{
+    let running = &mut all[actor];
+    run_top(alloc, core, heap, &mut running.frames)
 }
 
 /// The step of an actor whose first task concerns its running frame and the objects alone.
@@ -51,15 +57,7 @@ pub fn run_frame(
     ensures ok { IfOk result (λ o. (o, configuration_of state.new) ≡ step core.now (configuration_of state.old) actor) }
     ensures err { OnErr result (configuration_of state.new ≡ configuration_of state.old) }
 {
-    let mut frames = state.actors.swap_frames(actor as usize, Stack::new(alloc));
-    match run_top(alloc, core, &mut state.heap, &mut frames) {
-        Ok(outcome) => {
-            let _ = state.actors.swap_frames(actor as usize, frames);
-            Ok(outcome)
-        }
-        Err(error) => {
-            let _ = state.actors.swap_frames(actor as usize, frames);
-            Err(error)
-        }
-    }
+    state
+        .actors
+        .run_frame(alloc, core, &mut state.heap, actor as usize)
 }

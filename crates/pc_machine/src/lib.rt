@@ -1,5 +1,11 @@
 //! The machine that runs a core. What it does is the definition's: where a program begins, each step of an actor, and what
 //! an actor is about to touch are those of `pc_semantics`, exactly.
+//!
+//! Proved: `start` is the definition's, `step` in outcome and configuration too, for every core, every configuration
+//! that steps reach and every actor; `access` and the counts are the configuration's, and take no memory. After want of
+//! memory the configuration is as it was.
+//!
+//! Only tested: that a million steps take about a second.
 #![tactic(auto)]
 
 mod access;

@@ -50,7 +50,7 @@ fn place_for(alloc: Global, actors: &mut Actors, actor: usize, count: usize, val
     ensures { actors.new ≡ changed actors.old actor (framed (given count value (frames_of actors.old actor))) }
 {
     let mut frames = actors.swap_frames(actor, Stack::new(alloc));
-    place_top(alloc, &mut frames, count, value);
+    place_top(&mut frames, count, value);
     let _ = actors.swap_frames(actor, frames);
 }
 

@@ -26,7 +26,7 @@ use Rattle.pc_run.specs.Counting.{counted}
 use Rattle.pc_run.specs.Ends.{NeverLacks, IsBegun}
 use Rattle.pc_run.specs.Spreading.{spread}
 use Rattle.pc_run.specs.Underway.{Underway, Reached}
-use Rattle.pc_machine.specs.Growing.{Changes, step_changes, few_at_start}
+use Rattle.pc_machine.proofs.Growing.{Changes, step_changes, few_at_start}
 
 -- ---- the steps of turns
 
@@ -34,10 +34,6 @@ pub length-spread : (turns : List Turn) → length (spread turns) ≡ total turn
 length-spread [] = refl
 length-spread (t ∷ ts) =
     length-append (replicate t.times t.actor) (spread ts) ∙ ap (λ n. n + length (spread ts)) (length-replicate t.times t.actor) ∙ ap (λ n. t.times + n) (length-spread ts)
-
--- what is left at a turn: its steps, and those of the turns behind it
-pub spread_next : (turns : List Turn) (at : ℕ) (t : Turn) → at < length turns → t ≡ get_or turns at t → spread (drop at turns) ≡ replicate t.times t.actor ++ spread (drop (at + 1) turns)
-spread_next turns at t l is = ap spread (drop_more turns at t l ∙ ap (λ x. x ∷ drop (at + 1) turns) (sym is))
 
 -- one step of an actor less
 pub replicate_next : (n k i : ℕ) (rest : List ℕ) → k < n → replicate (n - k) i ++ rest ≡ i ∷ (replicate (n - (k + 1)) i ++ rest)

@@ -1,12 +1,13 @@
 -- Writings one after the other.
-use Rattle.std.proofs.Common.{◌≡◌, ℕ, ◌+◌, ◌<◌, ◌≤◌, List, ◌∷◌, ◌++◌, length, get_or, take, drop, Option, Some, None, Result, Ok, Err, sym, ap, ◌∙◌, subst, arith, append_assoc}
-use Rattle.std.proofs.Math.Seq.{take-append-add, take-append_seam}
+use Rattle.std.proofs.Common.{◌≡◌, ℕ, ◌+◌, ◌<◌, ◌≤◌, List, ◌∷◌, ◌++◌, length, get_or, take, drop, Option, Some, None, Result, Ok, Err, sym, ap, ◌∙◌, subst, append_assoc}
+use Rattle.std.proofs.Math.Seq.{take-append_seam}
 use Rattle.std.specs.Prelude.{IsErrAnd}
 use Rattle.std.proofs.lemmas.List.{take-append-drop, drop_more}
 use Rattle.std.proofs.lemmas.List.Concat.{flat_map-append}
 use Rattle.std.proofs.KnownBytes.{Appends-nil, Appends-trans}
 use Rattle.std.specs.Io.KnownBytes.{Appends, Keeps}
-use Rattle.pc_io.specs.Sink.{Rose, GrowsByPrefix}
+use Rattle.pc_io.specs.Sink.{GrowsByPrefix}
+use Rattle.pc_io.proofs.Prefixes.{grows_more, grows_on, rose_before}
 use Rattle.pc_semantics.specs.Text.{line_end, lines}
 use Rattle.pc_run.specs.declared.report.RunFault.{RunFault}
 use Rattle.pc_run.specs.declared.report.RunFault.TheVariants.{Sink, TooLong, Memory}
@@ -15,35 +16,9 @@ use Rattle.pc_run.specs.Writing.{WriteStops, Wrote}
 
 -- ---- prefixes
 
--- The first bytes of a are the first of what begins with a.
-grows_more : (w x : Option (List ℕ)) (a b : List ℕ) → GrowsByPrefix w x a → GrowsByPrefix w x (a ++ b)
-grows_more w x a b (n, h) =
-    let front = take n a in
-    let all : front ++ (drop n a ++ b) ≡ a ++ b = sym (append_assoc front (drop n a) b) ∙ ap (λ l. l ++ b) (take-append-drop n a) in
-    let same : front ≡ take (length front) (a ++ b) = sym (take-append_seam front (drop n a ++ b)) ∙ ap (take (length front)) all in
-    (length front, subst (Appends w x) same h)
-
--- What was written whole, and the first bytes of what followed.
-grows_on : (w x y : Option (List ℕ)) (a b : List ℕ) → Appends w x a → GrowsByPrefix x y b → GrowsByPrefix w y (a ++ b)
-grows_on w x y a b h (n, k) = (length a + n, subst (Appends w y) (sym (take-append-add a b n)) (Appends-trans w x y a (take n b) h k))
-
 -- All of a is a prefix of what begins with a.
 pub grows_whole : (w x : Option (List ℕ)) (a b : List ℕ) → Appends w x a → GrowsByPrefix w x (a ++ b)
 grows_whole w x a b h = (length a, subst (Appends w x) (sym (take-append_seam a b)) h)
-
--- What was kept grew by nothing.
-pub grows_none : (w x : Option (List ℕ)) (a : List ℕ) → Keeps w x → GrowsByPrefix w x a
-grows_none None x a h = (0, tt)
-grows_none (Some w) None a h = absurd h
-grows_none (Some w) (Some x) a h = (0, h ∙ Appends-nil (Some w))
-
-pub grows_same : (w : Option (List ℕ)) (a : List ℕ) → GrowsByPrefix w w a
-grows_same w a = (0, Appends-nil w)
-
--- ---- counts
-
-rose_before : (f g h : ℕ) → f ≤ g → Rose g h → Rose f h
-rose_before f g h l r = omega (arith, l, r)
 
 -- ---- writings
 

@@ -23,7 +23,7 @@ IsBegun core list c = (n : ℕ) × (c ≡ after core (take n list))
 
 -- The answer to the run of a list of actors, by how often the sink had failed before and behind it: the numbers where no step
 -- ended the run, or the step that was too long, or a failure of the sink. Want of memory is free.
-abbrev pub IsAnswer : CoreData → List ℕ → ℕ → ℕ → Result Report RunFault → Type 0
+abbrev pub IsAnswer : CoreData → List ℕ → (before now : ℕ) → Result Report RunFault → Type 0
 IsAnswer core list before now (Ok report) = (end_of (outcomes core list) ≡ None) × (report ≡ report_of core list)
 IsAnswer core list before now (Err (TooLong n)) = end_of (outcomes core list) ≡ Some (n, outcome.TooLong)
 IsAnswer core list before now (Err Sink) = Rose before now

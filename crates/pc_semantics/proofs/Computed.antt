@@ -8,7 +8,7 @@ use Rattle.std.proofs.Common.{inl, inr, ap, sym, ◌∙◌, arith}
 use Rattle.std.proofs.lemmas.Option.{same_Some, none-some}
 use Rattle.pc_heap.specs.Objects.{ObjectMap, with_field, made_by}
 use Rattle.pc_heap.specs.declared.value.Address.{Address}
-use Rattle.pc_heap.specs.declared.value.Object.{Object}
+use Rattle.pc_heap.specs.Object.{Object}
 use Rattle.pc_heap.specs.declared.value.Value.TheVariants.{At, Text, Num}
 use Rattle.pc_heap.specs.declared.value.Value.{Value}
 use Rattle.pc_semantics.specs.declared.frames.Frame.{Frame}

@@ -1,12 +1,13 @@
 -- Maps from addresses, as rules to compute with.
-use Rattle.std.specs.Prelude.{◌≡◌, ◌+◌, cond, List, [], ◌∷◌, length, Some, None, refl}
+use Rattle.std.specs.Prelude.{◌≡◌, ◌+◌, cond, [], Some, None}
 use Rattle.std.specs.FinMap.{empty, get, insert, len, contains_key, entries, put, get-insert, get-empty, len-insert, len-entries, len-empty, entries-insert}
 use Rattle.std.specs.Ordering.{eq_by_cmp}
-use Rattle.std.proofs.Common.{sym, ◌∙◌, arith}
+use Rattle.std.proofs.Common.{sym, ◌∙◌}
 use Rattle.pc_heap.specs.Addresses.{addresses_total}
 use Rattle.pc_heap.specs.Objects.{address_cmp, ObjectMap}
 use Rattle.pc_heap.specs.declared.value.Address.{Address}
-use Rattle.pc_heap.specs.declared.value.Object.{Object}
+use Rattle.pc_heap.specs.Object.{Object}
+use Rattle.pc_lists.proofs.Cuts.{without_length}
 
 pub get_inserted : (m : ObjectMap) (a : Address) (o : Object) (b : Address) → get (insert m a o) b ≡ cond (eq_by_cmp address_cmp b a) (Some o) (get m b)
 get_inserted m a o b = get-insert addresses_total m a o b
@@ -22,10 +23,6 @@ len_none = len-empty address_cmp Object
 
 pub insert_listed : (m : ObjectMap) (a : Address) (o : Object) → entries (insert m a o) ≡ put address_cmp a o (entries m)
 insert_listed m a o = entries-insert addresses_total m a o
-
-without_length : {T : Type 0} → (xs : List T) → length xs ≡ 0 → xs ≡ []
-without_length [] e = refl
-without_length (x ∷ xs) e = absurd (omega arith)
 
 pub none_listed : entries (empty {X = Object} {R = address_cmp}) ≡ []
 none_listed = without_length _ (sym (len-entries (empty {X = Object} {R = address_cmp})) ∙ len_none)

@@ -4,10 +4,10 @@ use Rattle.std.specs.Str.{bytes_eq}
 use Rattle.std.specs.FinMap.{empty, insert}
 use Rattle.pc_heap.specs.Objects.{ObjectMap, new_object, with_field}
 use Rattle.pc_heap.specs.declared.value.Address.{Address}
-use Rattle.pc_heap.specs.declared.value.Object.{Object}
+use Rattle.pc_heap.specs.Object.{Object}
 use Rattle.pc_heap.specs.declared.value.Value.TheVariants.{At}
 use Rattle.pc_core.specs.CoreData.{CoreData}
-use Rattle.pc_core.specs.Words.{◌>>=◌}
+use Rattle.pc_lists.specs.Options.{◌>>=◌}
 use Rattle.pc_core.specs.Lookup.{method_named}
 use Rattle.pc_core.specs.declared.declarations.EntityDef.{EntityDef}
 use Rattle.pc_semantics.specs.declared.actors.Actor.{Actor}

@@ -13,3 +13,4 @@ pub mod Safety
 pub mod Programs
 pub mod Examples
 pub mod Laws
+pub mod Lending

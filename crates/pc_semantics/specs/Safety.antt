@@ -9,7 +9,8 @@ use Rattle.pc_caps.specs.Tables.{sendable}
 use Rattle.pc_caps.specs.declared.capability.Cap.TheVariants as cap
 use Rattle.pc_core.specs.Lookup.{field_named}
 use Rattle.pc_core.specs.CoreData.{CoreData}
-use Rattle.pc_core.specs.Words.{◌>>=◌, Each}
+use Rattle.pc_lists.specs.Places.{Each}
+use Rattle.pc_lists.specs.Options.{◌>>=◌}
 use Rattle.pc_core.specs.declared.declarations.Method.{Method}
 use Rattle.pc_core.specs.declared.declarations.ParamInfo.{ParamInfo}
 use Rattle.pc_core.specs.declared.nodes.NodeKind.{NodeKind}

@@ -38,7 +38,7 @@ abbrev pub lines : List (List ℕ) → List ℕ
 lines texts = flat_map (λ t. t ++ line_end) texts
 
 -- One line: how many steps were done, how many were skipped, and how many actors, objects and waiting messages there are.
-abbrev pub summary : ℕ → ℕ → ℕ → ℕ → ℕ → List ℕ
+abbrev pub summary : (moved skipped actors objects messages : ℕ) → List ℕ
 summary moved skipped actors objects messages =
     codes "steps " ++ (decimal moved ++ (codes " skipped " ++ (decimal skipped ++ (codes " actors " ++ (decimal actors
     ++ (codes " objects " ++ (decimal objects ++ (codes " waiting " ++ (decimal messages ++ line_end)))))))))

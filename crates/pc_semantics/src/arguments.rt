@@ -1,3 +1,4 @@
+//! The arguments of a message.
 ghost use Rattle.std.specs.Prelude.{◌≡◌, ◌++◌, ◌∷◌, [], length, OnOk, OnErr, IfErr};
 
 use pc_heap::Value;

@@ -1,6 +1,11 @@
 //! What a machine is and does: its configurations, one step of an actor, runs over every schedule, and when a program is
 //! safe. These are definitions, in `specs/`; `docs/machine.md` goes through them. The types of what stands in a
 //! configuration are declared here.
+//!
+//! Proved: What a program does, as definitions: configurations, one step of an actor, runs over every schedule, races,
+//! and when a program is safe. Small programs are run in them (`hello_runs` and its like): texts and counts, messages
+//! in order, each lack, a text that is too long, races that are seen. A step that does not move leaves the
+//! configuration as it was (`only_moves_change`). The types of stacks and mailboxes, with their calls.
 #![tactic(auto)]
 
 mod access;

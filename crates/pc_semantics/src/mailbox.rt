@@ -1,3 +1,4 @@
+//! The messages that wait for an actor, in the order of sending.
 ghost use Rattle.std.specs.Prelude.{◌≡◌, ◌++◌, ◌∷◌, [], length, drop, slice_get, option_copied, OnOk, OnErr, IfErr};
 
 use crate::arguments::Arguments;

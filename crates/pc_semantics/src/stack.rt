@@ -1,3 +1,4 @@
+//! The values that a frame works on, with the last one on top.
 ghost use Rattle.std.specs.Prelude.{◌≡◌, ◌-◌, ◌<◌, ◌≤◌, ◌↔◌, ◌∷◌, ◌++◌, [], length, take, drop, reverse, slice_get, slice_set, option_copied, Some, IsSome, IfSome, OnOk, OnErr, IfErr};
 
 use std::alloc::{AllocError, AllocFailed, Global};
@@ -19,6 +20,9 @@ impl<T> Model for Stack<T> {
 }
 
 impl<T> Stack<T> {
+    ghost use Rattle.std.specs.Borrow.{sem};
+    ghost use Rattle.pc_semantics.specs.Lending.{lends_top};
+
     /// An empty stack. It takes no memory.
     pub fn new(alloc: Global) -> Stack<T>
         ensures { result ≡ [] }
@@ -57,6 +61,16 @@ impl<T> Stack<T> {
         ensures { option_copied result ≡ slice_get self.now 0 }
     {
         self.items.last()
+    }
+
+    /// The top, which may be changed in its place. It takes no memory.
+    pub fn top_mut(&mut self) -> &mut T
+        requires { 0 < length self.old }
+        ensures* writes_back { sem 𝓛 (lends_top T.row self.entry result) }
+        ensures value { slice_get self.old 0 ≡ Some result.now }
+    {
+        let place = self.items.len() - 1;
+        &mut self.items[place]
     }
 
     /// The value at a place, counted from the top. `None` exactly where there is none.

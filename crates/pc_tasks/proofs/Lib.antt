@@ -1,2 +1,3 @@
 mod Anyone
+pub mod Steps
 mod Tasks

@@ -1,14 +1,15 @@
 //! The evaluation of nodes.
-ghost use Rattle.std.specs.Prelude.{◌≡◌, ◌<◌, ◌∷◌, ◌++◌, [], length, None, Some, option_to_list, slice_get, IfOk, OnErr};
+ghost use Rattle.std.specs.Prelude.{◌≡◌, ◌<◌, ◌∷◌, ◌++◌, [], length, None, Some, option_to_list, slice_get, IfOk, OnOk, OnErr};
 ghost use Rattle.pc_semantics.specs.Around.{Goes, doing};
 ghost use Rattle.pc_semantics.specs.Evaluation as spec;
+ghost use Rattle.std.specs.List.{flat_map};
 ghost use Rattle.pc_tasks.specs.Inside.{relieved, within};
 
 use crate::frames::{go_on_with, push_value};
 use pc_caps::List;
 use pc_core::{Core, NodeKind};
 use pc_heap::Value;
-use pc_semantics::{Frame, Lack, Outcome, Task};
+use pc_semantics::{Frame, Lack, Outcome, Stack, Task};
 use std::alloc::{AllocError, Global};
 
 // A slot's value is pushed.
@@ -25,7 +26,7 @@ fn push_slot(alloc: Global, frame: &mut Frame, slot: u32) -> Result<Outcome, All
 }
 
 // A slot's value is pushed, and the slot is empty.
-#[tactic(auto, using(pc_caps::specs::Gets::set_read, pc_caps::specs::Gets::set_back))]
+#[tactic(auto, using(pc_lists::proofs::Gets::set_read, pc_lists::proofs::Gets::set_back))]
 fn take_slot(frame: &mut Frame, slot: u32) -> Result<Outcome, AllocError>
     requires { 0 < length frame.old.tasks }
     ensures ok { IfOk result (λ o. within frame.old (spec.take_slot (relieved frame.old) slot (slice_get frame.old.slots slot)) ≡ Some (o, frame.new)) }
@@ -46,31 +47,31 @@ fn take_slot(frame: &mut Frame, slot: u32) -> Result<Outcome, AllocError>
     Ok(Outcome::Moved)
 }
 
-// The evaluations of these nodes.
-fn evaluations(alloc: Global, children: &[u32]) -> Result<Vec<Task>, AllocError>
-    ensures { IfOk result (λ tasks. tasks.items ≡ spec.evaluations children.now) }
+// The evaluations of these nodes, before the other tasks. A refusal changes nothing.
+fn push_evaluations(tasks: &mut Stack<Task>, children: &[u32]) -> Result<(), AllocError>
+    ensures ok { OnOk result (tasks.new ≡ spec.evaluations children.now ++ tasks.old) }
+    ensures err { OnErr result (tasks.new ≡ tasks.old) }
 {
-    children
-        .iter()
-        .map(|child| Task::Eval(*child))
-        .collect(alloc)
+    let mut left = children.len();
+    'children: while left > 0 {
+        left -= 1;
+        if tasks.push(Task::Eval(children[left])).is_err() {
+            tasks.discard(children.len() - 1 - left);
+            return Err(AllocError);
+        }
+    }
+    Ok(())
 }
 
 // All children, and then this task.
 #[tactic(auto, using(std::proofs::Common::append_assoc))]
-fn children_first(
-    alloc: Global,
-    frame: &mut Frame,
-    children: &[u32],
-    then: Task,
-) -> Result<Outcome, AllocError>
+fn children_first(frame: &mut Frame, children: &[u32], then: Task) -> Result<Outcome, AllocError>
     requires { 0 < length frame.old.tasks }
     ensures ok { IfOk result (λ o. within frame.old (spec.children_first (relieved frame.old) children.now then) ≡ Some (o, frame.new)) }
     ensures err { OnErr result (frame.new ≡ frame.old) }
 {
-    let tasks = evaluations(alloc, children)?;
     let before = frame.tasks.replace_top(then);
-    if let Err(refused) = frame.tasks.push_all(tasks.as_slice()) {
+    if let Err(refused) = push_evaluations(&mut frame.tasks, children) {
         let _ = frame.tasks.replace_top(before);
         return Err(refused);
     }
@@ -97,31 +98,44 @@ fn first_then(
     Ok(Outcome::Moved)
 }
 
-// The items of a sequence: each value but the last is dropped.
-fn items(alloc: Global, children: &[u32]) -> Result<Vec<Task>, AllocError>
-    ensures { IfOk result (λ tasks. tasks.items ≡ spec.items children.now) }
+// These items of a sequence, before the other tasks: each value is dropped. A refusal changes nothing.
+fn push_items(tasks: &mut Stack<Task>, items: &[u32]) -> Result<(), AllocError>
+    ensures ok { OnOk result (tasks.new ≡ flat_map (λ c. Task.Eval c ∷ Task.Discard ∷ []) items.now ++ tasks.old) }
+    ensures err { OnErr result (tasks.new ≡ tasks.old) }
 {
-    let mut tasks = Vec::new(alloc);
-    let Some((first, others)) = children.split_first() else {
-        return Ok(tasks);
-    };
-    tasks.push(Task::Eval(*first))?;
-    for child in others {
-        tasks.push(Task::Discard)?;
-        tasks.push(Task::Eval(*child))?;
+    let before = tasks.len();
+    let mut left = items.len();
+    'items: while left > 0 {
+        left -= 1;
+        if tasks
+            .push_all(&[Task::Eval(items[left]), Task::Discard])
+            .is_err()
+        {
+            tasks.discard(tasks.len() - before);
+            return Err(AllocError);
+        }
     }
-    Ok(tasks)
+    Ok(())
 }
 
-// The items of a sequence, one after the other.
-fn items_first(alloc: Global, frame: &mut Frame, children: &[u32]) -> Result<Outcome, AllocError>
+// The items of a sequence, one after the other: each value but the last is dropped.
+fn items_first(frame: &mut Frame, children: &[u32]) -> Result<Outcome, AllocError>
     requires { 0 < length frame.old.tasks }
     ensures ok { IfOk result (λ o. within frame.old (Goes (doing (relieved frame.old) (spec.items children.now))) ≡ Some (o, frame.new)) }
     ensures err { OnErr result (frame.new ≡ frame.old) }
 {
-    let tasks = items(alloc, children)?;
-    go_on_with(frame, tasks.as_slice())?;
-    Ok(Outcome::Moved)
+    let Some((last, front)) = children.split_last() else {
+        let _ = frame.tasks.pop();
+        return Ok(Outcome::Moved);
+    };
+    let before = frame.tasks.replace_top(Task::Eval(*last));
+    match push_items(&mut frame.tasks, front) {
+        Ok(()) => Ok(Outcome::Moved),
+        Err(refused) => {
+            let _ = frame.tasks.replace_top(before);
+            Err(refused)
+        }
+    }
 }
 
 // The evaluation of a node of this kind, with these children.
@@ -147,21 +161,21 @@ fn evaluate(
         NodeKind::This => push_slot(alloc, frame, 0),
         NodeKind::Local(slot) => push_slot(alloc, frame, *slot),
         NodeKind::Consume(slot) => take_slot(frame, *slot),
-        NodeKind::Field(_) => children_first(alloc, frame, children, Task::Get(n)),
-        NodeKind::SetField(_) => children_first(alloc, frame, children, Task::Put(n)),
+        NodeKind::Field(_) => children_first(frame, children, Task::Get(n)),
+        NodeKind::SetField(_) => children_first(frame, children, Task::Put(n)),
         NodeKind::Define(_) | NodeKind::Assign(_) => {
-            children_first(alloc, frame, children, Task::Store(n))
+            children_first(frame, children, Task::Store(n))
         }
-        NodeKind::New(_) => children_first(alloc, frame, children, Task::Make(n)),
-        NodeKind::Spawn(_) => children_first(alloc, frame, children, Task::Spawn(n)),
-        NodeKind::Call(_) => children_first(alloc, frame, children, Task::Invoke(n)),
+        NodeKind::New(_) => children_first(frame, children, Task::Make(n)),
+        NodeKind::Spawn(_) => children_first(frame, children, Task::Spawn(n)),
+        NodeKind::Call(_) => children_first(frame, children, Task::Invoke(n)),
         NodeKind::Binary(_) | NodeKind::Not | NodeKind::Same(_) => {
-            children_first(alloc, frame, children, Task::Apply(n))
+            children_first(frame, children, Task::Apply(n))
         }
         NodeKind::And | NodeKind::Or => first_then(frame, children, Some(Task::Test(n))),
         NodeKind::If => first_then(frame, children, Some(Task::Branch(n))),
         NodeKind::While => first_then(frame, children, Some(Task::Loop(n))),
-        NodeKind::Seq => items_first(alloc, frame, children),
+        NodeKind::Seq => items_first(frame, children),
         NodeKind::Recover(_) => first_then(frame, children, None),
         NodeKind::Body => first_then(frame, children, Some(Task::Return)),
     }

@@ -2,7 +2,7 @@ use Rattle.std.proofs.Common.{◌≡◌, ◌∙◌, [], ap, sym, subst}
 use Rattle.std.specs.Prelude.{List, ◌∷◌, Option, IsSomeAnd}
 use Rattle.pc_semantics.specs.declared.frames.Frame.{Frame}
 use Rattle.pc_semantics.specs.declared.actors.Actor.{Actor}
-use Rattle.pc_caps.specs.Gets.{get_below}
+use Rattle.pc_lists.proofs.Gets.{get_below}
 use Rattle.pc_machine.specs.Changed.{unmailed}
 use Rattle.pc_machine.specs.States.{configuration_of}
 use Rattle.pc_machine.proofs.Changes.{still_there}
