@@ -4,7 +4,7 @@ use Rattle.std.specs.FinMap.{len}
 use Rattle.std.proofs.lemmas.List.{drop_more, take_more, take-append-drop}
 use Rattle.pc_core.specs.CoreData.{CoreData}
 use Rattle.pc_heap.specs.Heaps.{object_limit}
-use Rattle.pc_machine.specs.Growing.{Changes, Grown, step_changes, few_at_start}
+use Rattle.pc_machine.proofs.Growing.{Changes, Grown, step_changes, few_at_start}
 use Rattle.pc_machine.specs.Machines.{message_limit}
 use Rattle.pc_semantics.specs.declared.outcome.Lack.{Lack}
 use Rattle.pc_semantics.specs.declared.outcome.Outcome.{Outcome}
@@ -15,7 +15,8 @@ use Rattle.pc_semantics.specs.Safety.{LacksNothing}
 use Rattle.pc_semantics.specs.Step.{step}
 use Rattle.pc_semantics.specs.Text.{ended_at, end_of, waiting}
 use Rattle.pc_safe.specs.Ends.{list_limit}
-use Rattle.pc_safe.specs.Underway.{Underway}
+use Rattle.pc_safe.proofs.Underway.{Underway}
+use Rattle.pc_lists.proofs.Cuts.{take_whole}
 
 -- ---- before the first step
 
@@ -30,13 +31,9 @@ past : {X : Type 0} (xs : List X) → drop (length xs) xs ≡ []
 past [] = refl
 past (x ∷ xs) = past xs
 
-all : {X : Type 0} (xs : List X) → take (length xs) xs ≡ xs
-all [] = refl
-all (x ∷ xs) = ap (λ l. x ∷ l) (all xs)
-
 module _ (core : CoreData) (list : List ℕ) (c : Configuration) (u : Underway core list (length list) c) where
   pub is_behind : c ≡ after core list
-  is_behind = u.behind [] ∙ ap (after core) (append-nil (take (length list) list) ∙ all list)
+  is_behind = u.behind [] ∙ ap (after core) (append-nil (take (length list) list) ∙ take_whole list)
 
   pub is_ended : end_of (outcomes core list) ≡ None
   is_ended = sym u.end ∙ ap (λ (l : List ℕ). ended_at (length list + 1) (outcomes_from core c l)) (past list)

@@ -17,10 +17,10 @@ abbrev pub IsBehind : CoreData → List ℕ → MachineData → Type 0
 IsBehind core list machine = (machine.core ≡ core) × (machine.configuration ≡ after core list)
 
 -- A step of the list is too long, the first one at this place, and the machine is the one before it; or memory ran out.
-abbrev pub Stops : CoreData → List ℕ → SafeFault → Type 0
-Stops core list (TooLong step machine) = (end_of (outcomes core list) ≡ Some (step, outcome.TooLong)) × IsBehind core list machine
-Stops core list Memory = Unit {0}
+abbrev pub RunStops : CoreData → List ℕ → SafeFault → Type 0
+RunStops core list (TooLong step machine) = (end_of (outcomes core list) ≡ Some (step, outcome.TooLong)) × IsBehind core list machine
+RunStops core list Memory = Unit {0}
 
 -- No step of the list ended the run, and the machine is behind it; or it stopped.
 abbrev pub RunEnds : CoreData → List ℕ → Result MachineData SafeFault → Type 0
-RunEnds core list result = MatchResult result (λ machine. (end_of (outcomes core list) ≡ None) × IsBehind core list machine) (Stops core list)
+RunEnds core list result = MatchResult result (λ machine. (end_of (outcomes core list) ≡ None) × IsBehind core list machine) (RunStops core list)

@@ -1,4 +1,10 @@
 //! Runs of accepted programs: what has a valid annotation runs without races, and without lacking anything.
+//!
+//! Proved: `accepted_runs` runs a core that has a valid annotation: over every list of actors no step lacks anything,
+//! and for its own list the machine is the one behind it, or the list meets a text that is too long, at the place that
+//! is named. `accepted_is_safe` does the same, and promises that the core is safe: over every list of actors no two
+//! race, waiting messages are let alone, and no step lacks anything. `derivable_is_safe` says this of every core of
+//! which some annotation is valid.
 #![tactic(auto)]
 
 mod fault;

@@ -10,7 +10,7 @@ use crate::fault::SafeFault;
 use pc_ann::Ann;
 use pc_core::Core;
 use pc_machine::{Machine, Outcome, start};
-use pc_sound::accepted_never_lacks;
+use pc_types::accepted_never_lacks;
 use std::alloc::Global;
 
 /// Runs an accepted core: the steps of these actors, one after the other, from its start. The list has at most 4,000,000

@@ -10,7 +10,7 @@ use crate::runs::accepted_runs;
 use pc_ann::Ann;
 use pc_core::Core;
 use pc_machine::Machine;
-use pc_sound::valid_is_safe;
+use pc_regions::valid_is_safe;
 use std::alloc::Global;
 
 /// Runs an accepted core: the steps of these actors, one after the other, from its start. The list has at most 4,000,000

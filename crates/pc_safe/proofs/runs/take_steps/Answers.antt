@@ -4,7 +4,7 @@ use Rattle.pc_semantics.specs.declared.outcome.Outcome.{Outcome}
 use Rattle.pc_semantics.specs.declared.outcome.Outcome.TheVariants as outcome
 use Rattle.pc_semantics.specs.Configurations.{Configuration}
 use Rattle.pc_semantics.specs.Step.{step}
-use Rattle.pc_safe.specs.Underway.{Underway}
+use Rattle.pc_safe.proofs.Underway.{Underway}
 use Rattle.pc_safe.proofs.Stepping.{begins, is_behind, is_ended, moved, skipped, too_long_end, too_long_behind, never}
 use Rattle.pc_safe.proofs.runs.take_steps.Goals as goal
 use Rattle.pc_safe.proofs.runs.take_steps.Goals.{in-Moved, in-Skipped}

@@ -1,4 +1,4 @@
-use Rattle.pc_safe.specs.Underway.{Underway}
+use Rattle.pc_safe.proofs.Underway.{Underway}
 use Rattle.std.proofs.Common.{◌≡◌}
 use Rattle.pc_safe.proofs.runs.take_steps.Given as goal
 

@@ -1,0 +1,99 @@
+-- From what each task keeps to every schedule: a configuration that is well typed and has regions leads to one by every step.
+use Rattle.std.specs.Prelude.{◌≡◌, ℕ, true, List, [], ◌∷◌, Option, Some, None, slice_get, refl}
+use Rattle.std.proofs.Common.{inl, inr, sym, subst, ◌∙◌}
+use Rattle.pc_lists.proofs.Gets.{get_below}
+use Rattle.pc_core.specs.CoreData.{CoreData}
+use Rattle.pc_ann.specs.declared.annotation.Ann.{Ann}
+use Rattle.pc_semantics.specs.declared.actors.Actor.{Actor}
+use Rattle.pc_semantics.specs.declared.frames.Frame.{Frame}
+use Rattle.pc_semantics.specs.declared.frames.Task.{Task}
+use Rattle.pc_semantics.specs.declared.mailbox.Message.{Message}
+use Rattle.pc_semantics.specs.declared.outcome.Outcome.{Outcome}
+use Rattle.pc_semantics.specs.declared.outcome.Outcome.TheVariants.{Moved, Skipped, Lacks, TooLong}
+use Rattle.pc_semantics.specs.Configurations.{Configuration}
+use Rattle.pc_semantics.specs.Around.{Around}
+use Rattle.pc_semantics.specs.Tasks.{task_move}
+use Rattle.pc_semantics.specs.Step.{around, run_task, take, take_first, run_frames, step_of, step}
+use Rattle.pc_semantics.specs.Runs.{followed, run_from}
+use Rattle.pc_types.proofs.Tasks.{TasksOk}
+use Rattle.pc_types.proofs.Frames.{FramesOk}
+use Rattle.pc_types.proofs.Typed.{WellTyped, ActorOk}
+use Rattle.pc_types.proofs.Moves.{Runs}
+use Rattle.pc_regions.proofs.World.{World}
+use Rattle.pc_regions.proofs.StackForms.{TasksRise, uses_top}
+use Rattle.pc_regions.proofs.Fitting.{TopAlias, FramesFit, InRegions, HasRegions}
+use Rattle.pc_regions.proofs.MoveFits.{RegionMoveOk, Situated}
+use Rattle.pc_types.proofs.Needs.{Needs}
+use Rattle.pc_types.proofs.Steps.{step_ok, some_frames}
+use Rattle.pc_types.proofs.AllTasks.{keeps}
+use Rattle.pc_types.proofs.Takes.{takes}
+use Rattle.pc_regions.proofs.MoveMade.{made_regions}
+
+-- ---- what is to be shown of each task, and of the first message
+
+-- The task, as the first of a typed frame that runs in regions, keeps what it has to.
+abbrev pub KeepsRegions : Task → Type 0
+KeepsRegions t =
+    (core : CoreData) (ann : Ann) → Needs core ann → (around : Around) (f : Frame) (fs : List Frame) (r : Runs core ann around f fs)
+    → TasksOk core ann f.method (t ∷ f.tasks) r.held.live r.held.set r.held.wants → (w : World) → Situated core ann w around f (t ∷ f.tasks) fs
+    → RegionMoveOk core ann w around fs (task_move core around f t)
+
+-- An idle actor takes its first message.
+abbrev pub TakesRegions : Type 0
+TakesRegions =
+    (core : CoreData) (ann : Ann) → Needs core ann → (c : Configuration) → WellTyped core ann c → (w : World) → InRegions core ann w c
+    → (i : ℕ) (a : Actor) → slice_get c.actors i ≡ Some a → a.frames ≡ [] → (m : Message) (ms : List Message) → a.mailbox ≡ m ∷ ms
+    → HasRegions core ann (take core c i (record { mailbox = ms; frames = [] }) m).1
+
+-- ---- steps
+
+module _ (keep : (t : Task) → KeepsRegions t) (takes_first : TakesRegions) (core : CoreData) (ann : Ann) (needs : Needs core ann) where
+  module _ (c : Configuration) (typed : WellTyped core ann c) (w : World) (g : InRegions core ann w c) (i : ℕ) (a : Actor) (is : slice_get c.actors i ≡ Some a) where
+    task_step : (f : Frame) (fs : List Frame) (ts : List Task) → f.tasks ≡ ts → FramesOk core ann c.objects i (f ∷ fs) → FramesFit core ann w i (f ∷ fs) → HasRegions core ann (run_task core c i a f fs ts).1
+    task_step f fs [] at ok k = (w, g)
+    task_step f fs (t ∷ ts) at ok k =
+        let here = get_below c.actors i a is in
+        made_regions core ann c i a is w g fs _
+        (keep t core ann needs (around c i) (record { method = f.method; slots = f.slots; stack = f.stack; tasks = ts }) fs
+        (record { objects = typed.objects; here = here; held = ok.0.0; wait = ok.1 })
+        (subst (λ (us : List Task). TasksOk core ann f.method us ok.0.0.live ok.0.0.set ok.0.0.wants) at ok.0.1) w
+        (record {
+          world = g.world;
+          fields = g.fields;
+          here = here;
+          active = k.0;
+          tasks = subst (λ (us : List Task). TasksRise core ann f.method us k.0.depth k.0.holds.live k.0.holds.entries) at k.1;
+          fresh = subst (λ (us : List Task). uses_top us ≡ true → TopAlias w i k.0.holds.base k.0.holds.entries f.stack) at k.2;
+          wait = k.3;
+        }))
+
+    first_step : (ms : List Message) → a.mailbox ≡ ms → a.frames ≡ [] → HasRegions core ann (take_first core c i ms).1
+    first_step [] at none = (w, g)
+    first_step (m ∷ ms) at none = takes_first core ann needs c typed w g i a is none m ms at
+
+    frames_step : (fs : List Frame) → a.frames ≡ fs → ActorOk core ann c.objects i a → FramesFit core ann w i a.frames → HasRegions core ann (run_frames core c i a fs).1
+    frames_step [] at ok k = first_step a.mailbox refl at
+    frames_step (f ∷ fs) at (inl ok) k = absurd (some_frames f fs (sym at ∙ ok.0))
+    frames_step (f ∷ fs) at (inr ok) k = task_step f fs f.tasks refl (subst (FramesOk core ann c.objects i) at ok.0) (subst (FramesFit core ann w i) at k)
+
+  actor_step : (c : Configuration) → WellTyped core ann c → (w : World) → InRegions core ann w c → (i : ℕ) (o : Option Actor) → slice_get c.actors i ≡ o → HasRegions core ann (step_of core c i o).1
+  actor_step c typed w g i None e = (w, g)
+  actor_step c typed w g i (Some a) e = frames_step c typed w g i a e a.frames refl (typed.actors i a e) (g.actors i a e).1
+
+  pub region_step : (c : Configuration) → WellTyped core ann c → HasRegions core ann c → (i : ℕ) → HasRegions core ann (step core c i).1
+  region_step c typed h i = actor_step c typed h.0 h.1 i (slice_get c.actors i) refl
+
+  -- ---- runs
+
+  followed_in : (c : Configuration) → HasRegions core ann c → WellTyped core ann c → (rest : Configuration → Configuration) (r : Outcome × Configuration) → WellTyped core ann r.1 → HasRegions core ann r.1
+      → ((next : Configuration) → WellTyped core ann next → HasRegions core ann next → HasRegions core ann (rest next)) → HasRegions core ann (followed rest c c r)
+  followed_in c h t rest (Moved, next) s k more = more next s k
+  followed_in c h t rest (Skipped, next) s k more = more c t h
+  followed_in c h t rest (Lacks l, next) s k more = h
+  followed_in c h t rest (TooLong, next) s k more = h
+
+  -- Over every list.
+  pub run_in_regions : (list : List ℕ) (c : Configuration) → WellTyped core ann c → HasRegions core ann c → HasRegions core ann (run_from core c list)
+  run_in_regions [] c t h = h
+  run_in_regions (i ∷ is) c t h =
+      followed_in c h t (λ next. run_from core next is) (step core c i) (step_ok keeps takes core ann needs c t i).0 (region_step c t h i) (λ next u k. run_in_regions is next u k)

@@ -1,0 +1,173 @@
+-- Of the order of entities and of what an entity has for the methods of those above it.
+use Rattle.std.specs.Prelude.{◌≡◌, ℕ, ◌+◌, ◌-◌, ◌<◌, ◌≤◌, ◌++◌, true, false, length, map, Option, Some, None, slice_get, refl}
+use Rattle.std.proofs.Common.{inl, inr, ap, sym, subst, ◌∙◌, arith}
+use Rattle.std.proofs.lemmas.Option.{same_Some}
+use Rattle.pc_caps.specs.Order.{IsBelow, same, step}
+use Rattle.pc_lists.proofs.Gets.{get_below, get_within, get_append, get_map, get_range, range_get}
+use Rattle.pc_caps.specs.declared.capability.Form.{Form}
+use Rattle.pc_tree.specs.Kinds.{is_abstract}
+use Rattle.pc_core.specs.declared.declarations.EntityDef.{EntityDef}
+use Rattle.pc_core.specs.declared.declarations.Method.{Method}
+use Rattle.pc_core.specs.declared.declarations.ParamInfo.{ParamInfo}
+use Rattle.pc_core.specs.CoreData.{CoreData}
+use Rattle.pc_lists.specs.Places.{Has}
+use Rattle.pc_core.specs.Lookup.{own_methods, field_name, method_name, method_named, IsMethod}
+use Rattle.pc_lists.specs.Lookup.{place_of}
+use Rattle.pc_core.specs.Entities.{IsAbstract, Names, Leads, one, more}
+use Rattle.pc_core.specs.Members.{method_among, method_found, method_missed}
+use Rattle.pc_lists.proofs.Options.{bind_some}
+use Rattle.pc_lists.proofs.Lookup.{place_found}
+use Rattle.pc_core.specs.Formed.{Formed}
+use Rattle.pc_sub.specs.Sub.{Sub}
+use Rattle.pc_sub.specs.Declarations.{ParamFits, StandsFor, DeclOk}
+use Rattle.pc_types.proofs.Needs.{Declared}
+
+-- ---- the order
+
+lead_on : (core : CoreData) (a b c : ℕ) → Leads core a b → Leads core b c → Leads core a c
+lead_on core a b c (one n) l = more n l
+lead_on core a b c (more {b = d} n r) l = more n (lead_on core d b c r l)
+
+pub sub_trans : (core : CoreData) (a b c : ℕ) → Sub core a b → Sub core b c → Sub core a c
+sub_trans core a b c (inl e) q = subst (λ (n : ℕ). Sub core n c) (sym e) q
+sub_trans core a b c (inr l) (inl e) = inr (subst (Leads core a) e l)
+sub_trans core a b c (inr l) (inr r) = inr (lead_on core a b c l r)
+
+-- A chain leads to a trait or an interface.
+named_trait : (core : CoreData) (a b : ℕ) → Formed core → Names core a b → IsAbstract core b
+named_trait core a b formed n = (formed.entities a n.0 n.1).provides n.2.0 b n.2.1
+
+ends_in_trait : (core : CoreData) (a b : ℕ) → Formed core → Leads core a b → IsAbstract core b
+ends_in_trait core a b formed (one n) = named_trait core a b formed n
+ends_in_trait core a b formed (more {b = d} n r) = ends_in_trait core d b formed r
+
+pub below_no_trait : (core : CoreData) (d e : ℕ) (x : EntityDef) → Formed core → Sub core d e → slice_get core.entities e ≡ Some x → is_abstract x.kind ≡ false → d ≡ e
+below_no_trait core d e x formed (inl p) at n = p
+below_no_trait core d e x formed (inr l) at n =
+    let t = ends_in_trait core d e formed l in
+    let bad : false ≡ true = sym n ∙ ap (λ (z : EntityDef). is_abstract z.kind) (same_Some x t.0 (sym at ∙ t.1)) ∙ t.2 in absurd (cc)
+
+-- ---- a method that stands for another
+
+pub below_trans : (a b c : Form) → IsBelow a b → IsBelow b c → IsBelow a c
+below_trans a b c same q = q
+below_trans a b c (step {b = d} s r) q = step s (below_trans d b c r q)
+
+fits_itself : (core : CoreData) (p : ParamInfo) → ParamFits core p p
+fits_itself core p = (inl refl, same)
+
+stands_itself : (core : CoreData) (f : Method) → StandsFor core f f
+stands_itself core f = record {
+  count = refl;
+  receiver = same;
+  params = λ i p g q h. subst (ParamFits core p) (same_Some p q (sym g ∙ h)) (fits_itself core p);
+  entity = inl refl;
+  form = same;
+}
+
+fits_on : (core : CoreData) (p q r : ParamInfo) → ParamFits core p q → ParamFits core q r → ParamFits core p r
+fits_on core p q r a b = (sub_trans core p.entity q.entity r.entity a.0 b.0, below_trans _ _ _ a.1 b.1)
+
+stands_on : (core : CoreData) (t y z : Method) → StandsFor core t y → StandsFor core y z → StandsFor core t z
+stands_on core t y z a b = record {
+  count = b.count ∙ a.count;
+  receiver = below_trans _ _ _ a.receiver b.receiver;
+  params = λ i p g r h.
+      let q = get_within y.params i (subst (λ (n : ℕ). i < n) (sym a.count) (get_below t.params i p g)) in
+      fits_on core p q.0 r (a.params i p g q.0 q.1) (b.params i q.0 q.1 r h);
+  entity = sub_trans core z.result.0 y.result.0 t.result.0 b.entity a.entity;
+  form = below_trans _ _ _ b.form a.form;
+}
+
+-- ---- methods by their names
+
+-- The place of a method's name among the names of its entity.
+record NamePlace (core : CoreData) (d name m : ℕ) (x : EntityDef) : Type 0 where
+  low : x.first_method ≤ m
+  at : slice_get (map field_name x.fields ++ map method_name (own_methods core x)) (length (map field_name x.fields) + (m - x.first_method)) ≡ Some name
+
+name_place : (core : CoreData) (d name m : ℕ) (x : EntityDef) → Formed core → slice_get core.entities d ≡ Some x → IsMethod core d name m → NamePlace core d name m x
+name_place core d name m x formed at is =
+    let y = is.0 in
+    let among = method_among core m y formed is.1 (get_below core.methods m y is.1) in
+    let owner : among.0 ≡ x = same_Some among.0 x (sym among.1 ∙ ap (slice_get core.entities) is.2 ∙ at) in
+    let low : x.first_method ≤ m = subst (λ (z : EntityDef). z.first_method ≤ m) owner among.2 in
+    let high : m < x.first_method + x.methods = subst (λ (z : EntityDef). m < z.first_method + z.methods) owner among.3 in
+    let own = range_get core.methods x.first_method (x.first_method + x.methods) m y low high is.1 in
+    record {
+      low = low;
+      at = get_append (map field_name x.fields) (map method_name (own_methods core x)) (m - x.first_method) ∙ get_map method_name (own_methods core x) (m - x.first_method) y own ∙ ap Some is.3;
+    }
+
+same_number : (a l m n : ℕ) → a ≤ m → a ≤ n → l + (m - a) ≡ l + (n - a) → m ≡ n
+same_number a l m n p q e = omega (arith, p, q, e)
+
+one_method : (core : CoreData) (d name m n : ℕ) (x : EntityDef) → Formed core → slice_get core.entities d ≡ Some x → IsMethod core d name m → IsMethod core d name n → m ≡ n
+one_method core d name m n x formed at p q =
+    let a = name_place core d name m x formed at p in
+    let b = name_place core d name n x formed at q in
+    same_number x.first_method (length (map field_name x.fields)) m n a.low b.low ((formed.entities d x at).names _ _ name a.at b.at)
+
+-- The entity's method of the name is the one that is found.
+pub found_is : (core : CoreData) (d name m : ℕ) (x : EntityDef) → Formed core → slice_get core.entities d ≡ Some x → IsMethod core d name m → (o : Option ℕ) → method_named core d name ≡ o → o ≡ Some m
+found_is core d name m x formed at is None e = absurd (method_missed core d name formed e m (get_below core.methods m is.0 is.1) is)
+found_is core d name m x formed at is (Some n) e = ap Some (one_method core d name n m x formed at (method_found core d name n formed e) is)
+
+-- A method that is found stands among its entity's.
+among_own : (core : CoreData) (e name k : ℕ) (f : Method) → method_named core e name ≡ Some k → slice_get core.methods k ≡ Some f → (x : EntityDef) × (slice_get core.entities e ≡ Some x) × Has (own_methods core x) f × (f.name ≡ name)
+among_own core e name k f found at =
+    let a = bind_some (slice_get core.entities e) (λ (z : EntityDef). place_of method_name name (own_methods core z) z.first_method) k found in
+    let x = a.0 in
+    let p = place_found method_name name (own_methods core x) x.first_method k a.2 in
+    let g = (get_range core.methods x.first_method (x.first_method + x.methods) p.0 p.1 p.3).1 in
+    let is : p.1 ≡ f = same_Some p.1 f (sym g ∙ ap (slice_get core.methods) (sym p.2) ∙ at) in
+    (x, a.1, (p.0, p.3 ∙ ap Some is), ap method_name (sym is) ∙ p.4)
+
+-- ---- what an entity has
+
+module _ (core : CoreData) (formed : Formed core) (fit : DeclOk core) where
+  -- For a method of its own, itself.
+  own_declared : (e name k : ℕ) (f : Method) → method_named core e name ≡ Some k → slice_get core.methods k ≡ Some f → Declared core e name f
+  own_declared e name k f found at =
+      let is = method_found core e name k formed found in
+      let own : is.0 ≡ f = same_Some is.0 f (sym is.1 ∙ at) in
+      record { number = k; found = found; own = f; is_own = at; entity = ap (λ (g : Method). g.entity) (sym own) ∙ is.2; kind = refl; stands = stands_itself core f }
+
+  -- For one of a trait of its `is` list.
+  named_declared : (d e name k : ℕ) (f : Method) → Names core d e → method_named core e name ≡ Some k → slice_get core.methods k ≡ Some f → Declared core d name f
+  named_declared d e name k f n found at =
+      let a = among_own core e name k f found at in
+      let y = fit.conform d n.0 n.1 n.2.0 e n.2.1 a.0 a.1 a.2.0 f a.2.1 in
+      let is : IsMethod core d name y.0 = subst (λ (w : ℕ). IsMethod core d w y.0) a.3 y.2 in
+      let own : y.2.0 ≡ y.1 = same_Some y.2.0 y.1 (sym y.2.1 ∙ y.3) in
+      record {
+        number = y.0;
+        found = found_is core d name y.0 n.0 formed n.1 is (method_named core d name) refl;
+        own = y.1;
+        is_own = y.3;
+        entity = ap (λ (g : Method). g.entity) (sym own) ∙ y.2.2;
+        kind = y.4;
+        stands = y.5;
+      }
+
+  then_declared : (d b name : ℕ) (f : Method) (m : Declared core b name f) → Declared core d name m.own → Declared core d name f
+  then_declared d b name f m n = record {
+    number = n.number;
+    found = n.found;
+    own = n.own;
+    is_own = n.is_own;
+    entity = n.entity;
+    kind = n.kind ∙ m.kind;
+    stands = stands_on core f m.own n.own m.stands n.stands;
+  }
+
+  led_declared : (d e name k : ℕ) (f : Method) → Leads core d e → method_named core e name ≡ Some k → slice_get core.methods k ≡ Some f → Declared core d name f
+  led_declared d e name k f (one n) found at = named_declared d e name k f n found at
+  led_declared d e name k f (more {b = b} n r) found at =
+      let m = led_declared b e name k f r found at in
+      then_declared d b name f m (named_declared d b name m.number m.own n m.found m.is_own)
+
+  -- For one of an entity above it.
+  pub all_declared : (d e name k : ℕ) (f : Method) → Sub core d e → method_named core e name ≡ Some k → slice_get core.methods k ≡ Some f → Declared core d name f
+  all_declared d e name k f (inl s) found at = subst (λ (c : ℕ). Declared core c name f) (sym s) (own_declared e name k f found at)
+  all_declared d e name k f (inr l) found at = led_declared d e name k f l found at

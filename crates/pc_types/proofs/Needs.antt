@@ -1,0 +1,55 @@
+-- What the proof uses of a core that fits together and of a valid annotation, besides what stands in them word by word.
+use Rattle.std.specs.Prelude.{◌≡◌, ◌≢◌, ℕ, suc, ◌+◌, ◌≤◌, false, length, Some, slice_get}
+use Rattle.pc_caps.specs.declared.capability.Cap.{Cap}
+use Rattle.pc_tree.specs.Kinds.{is_abstract}
+use Rattle.pc_core.specs.declared.declarations.EntityDef.{EntityDef}
+use Rattle.pc_core.specs.declared.declarations.Method.{Method}
+use Rattle.pc_core.specs.declared.declarations.ParamInfo.{ParamInfo}
+use Rattle.pc_core.specs.declared.nodes.Slot.{Slot}
+use Rattle.pc_core.specs.declared.nodes.Node.{Node}
+use Rattle.pc_core.specs.declared.nodes.NodeKind.TheVariants as nodes
+use Rattle.pc_core.specs.CoreData.{CoreData}
+use Rattle.pc_lists.specs.Places.{Each}
+use Rattle.pc_core.specs.Lookup.{method_named}
+use Rattle.pc_core.specs.Nodes.{NamesSlot}
+use Rattle.pc_core.specs.Formed.{Formed}
+use Rattle.pc_ann.specs.declared.annotation.Ann.{Ann}
+use Rattle.pc_sub.specs.Sub.{Sub}
+use Rattle.pc_sub.specs.Declarations.{StandsFor}
+use Rattle.pc_rules.proofs.ByNumber.{slot_of}
+use Rattle.pc_rules.specs.Valid.{Valid}
+
+-- Node c is there, in method m.
+abbrev pub IsChild : CoreData → ℕ → ℕ → Type 0
+IsChild core m c = (y : Node) × (slice_get core.nodes c ≡ Some y) × (y.method ≡ m)
+
+-- Entity d has a method of this name, for the method f of an entity above it.
+pub record Declared (core : CoreData) (d name : ℕ) (f : Method) : Type 0 where
+  pub number : ℕ
+  pub found : method_named core d name ≡ Some number
+  pub own : Method
+  pub is_own : slice_get core.methods number ≡ Some own
+  pub entity : own.entity ≡ d
+  pub kind : own.kind ≡ f.kind
+  pub stands : StandsFor core f own
+
+pub record Needs (core : CoreData) (ann : Ann) : Type 0 where
+  pub formed : Formed core
+  pub valid : Valid core ann
+  -- nodes
+  pub children : (n : ℕ) (x : Node) → slice_get core.nodes n ≡ Some x → Each (λ i c. IsChild core x.method c) x.children
+  pub defined_slot : (n s : ℕ) (x : Node) → slice_get core.nodes n ≡ Some x → x.kind ≡ nodes.Define s → NamesSlot core x.method s
+  -- slots of a method that has nodes
+  pub this_slot : (n : ℕ) (x : Node) (f : Method) (i : Slot × (ℕ × Cap)) → slice_get core.nodes n ≡ Some x → slice_get core.methods x.method ≡ Some f → slot_of core ann x.method 0 ≡ Some i → i.1 ≡ (f.entity, f.receiver)
+  -- slots of a method that may begin
+  pub param_slots : (m : ℕ) (f : Method) → slice_get core.methods m ≡ Some f → m ≢ 0 → (i : ℕ) (p : ParamInfo) → slice_get f.params i ≡ Some p → slice_get ann.slots (f.first_slot + suc i) ≡ Some (p.entity, p.cap)
+  pub room : (m : ℕ) (f : Method) → slice_get core.methods m ≡ Some f → m ≢ 0 → suc (length f.params) ≤ f.slots
+  -- bodies
+  pub body : (m b : ℕ) (f : Method) → slice_get core.methods m ≡ Some f → f.body ≡ Some b → (y : Node) × (slice_get core.nodes b ≡ Some y) × (y.method ≡ m) × (y.kind ≡ nodes.Body)
+  pub has_body : (m : ℕ) (f : Method) (e : EntityDef) → slice_get core.methods m ≡ Some f → m ≢ 0 → slice_get core.entities f.entity ≡ Some e → is_abstract e.kind ≡ false → (b : ℕ) × (f.body ≡ Some b)
+  -- the stream has the first method alone
+  pub stream : (m : ℕ) (f : Method) → slice_get core.methods m ≡ Some f → f.entity ≡ 5 → m ≡ 0
+  -- entities
+  pub trans : (a b c : ℕ) → Sub core a b → Sub core b c → Sub core a c
+  pub only_traits : (d e : ℕ) (x : EntityDef) → Sub core d e → slice_get core.entities e ≡ Some x → is_abstract x.kind ≡ false → d ≡ e
+  pub declared : (d e name k : ℕ) (f : Method) → Sub core d e → method_named core e name ≡ Some k → slice_get core.methods k ≡ Some f → Declared core d name f

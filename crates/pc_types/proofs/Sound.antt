@@ -1,0 +1,15 @@
+-- From a valid annotation to every step of every schedule: nothing is lacking.
+use Rattle.pc_semantics.specs.Configurations.{start}
+use Rattle.pc_semantics.specs.Runs.{after}
+use Rattle.pc_types.specs.Laws.{AcceptedNeverLacks}
+use Rattle.pc_types.proofs.Needs.{Needs}
+use Rattle.pc_types.proofs.Needed.{needed}
+use Rattle.pc_types.proofs.Steps.{step_ok, run_ok}
+use Rattle.pc_types.proofs.AllTasks.{keeps}
+use Rattle.pc_types.proofs.Takes.{takes}
+use Rattle.pc_types.proofs.Starts.{start_typed}
+
+pub accepted_never_lacks : AcceptedNeverLacks
+accepted_never_lacks core ann formed valid list i l =
+    let needs : Needs core ann = needed core formed ann valid in
+    (step_ok keeps takes core ann needs (after core list) (run_ok keeps takes core ann needs list (start core) (start_typed core ann formed valid)) i).1 l
