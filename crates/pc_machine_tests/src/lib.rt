@@ -1,11 +1,17 @@
-//! Tests of the machine on whole programs, from their texts.
+//! Tests of the machine: arenas and heaps by hand, constructors that are run to their ends, and whole programs step by step.
 #![tactic(auto)]
 
 #[cfg(test)]
+mod arenas;
+#[cfg(test)]
+mod heaps;
+#[cfg(test)]
 mod memory;
 #[cfg(test)]
-mod reading;
+mod running;
 #[cfg(test)]
 mod runs;
+#[cfg(test)]
+mod tasks;
 #[cfg(test)]
 mod turns;

@@ -1,8 +1,8 @@
 //! A run in which memory is refused once, at any request.
-use crate::reading::core_of;
 use crate::turns::{counts, has_printed, step};
 use pc_core::Core;
 use pc_machine::{Machine, Outcome, start};
+use pc_test_sources::core_of;
 use std::alloc::Global;
 
 /// An actor that is made and sent to twice, each time with more arguments than stand in a message itself.

@@ -1,6 +1,6 @@
 //! Turns of a machine, and what is counted behind them.
-use crate::reading::core_of;
 use pc_machine::{Access, Machine, Outcome, start};
+use pc_test_sources::core_of;
 use std::alloc::{AllocError, Global};
 
 /// The actors, the objects, the waiting messages and the printed texts, counted.

@@ -1,9 +1,9 @@
 //! Machines of accepted programs, behind the steps of lists of actors.
-use crate::programs::core_of;
 use pc_check::check;
 use pc_machine::Machine;
 use pc_safe::{accepted_is_safe, accepted_runs};
 use pc_semantics::Access;
+use pc_test_sources::core_of;
 use std::alloc::Global;
 
 /// How many actors there are, how many texts were printed, and how many messages wait.

@@ -1,10 +1,12 @@
-//! Tests of whole runs: programs and schedules from their texts.
+//! Tests of accepted programs, from their texts: a derivation that is found, whole runs, and machines behind a list.
 #![tactic(auto)]
 
 #[cfg(test)]
 mod behind;
 #[cfg(test)]
 mod cases;
+#[cfg(test)]
+mod derived;
 #[cfg(test)]
 mod programs;
 #[cfg(test)]

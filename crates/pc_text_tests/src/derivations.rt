@@ -1,0 +1,224 @@
+//! Derivations as texts. The expected values are those of the format's description.
+use pc_caps::{Cap, Form, List};
+use pc_deriv::{Ann, DerivFault, Mask, Note, Rule, read, write};
+use std::alloc::{AllocError, Global};
+use std::test::Fail;
+
+/// The annotation of a class, and of an actor whose constructor defines a local of it.
+const EXAMPLE: [&[u8]; 12] = [
+    b"rcap-derivation 1 4 7\n",
+    b"s 6 ref\n",
+    b"s 7 ref\n",
+    b"s 4 val\n",
+    b"s 6 iso\n",
+    b"n prim 0 val 1 0 1 0\n",
+    b"n seq 0 val 1 0 1 0\n",
+    b"n body - 1 0 1 0\n",
+    b"n new 6 iso^ 3 0 3 0\n",
+    b"n define - 3 0 7 0\n",
+    b"n seq - 3 0 3 0\n",
+    b"n body - 3 0 3 0\n",
+];
+
+/// The example with other bytes for one line, counted from 1.
+fn variant(alloc: Global, number: usize, line: &[u8]) -> Result<List<u8>, AllocError> {
+    let mut text: Vec<u8> = Vec::new(alloc);
+    for at in 0..EXAMPLE.len() {
+        let is_changed = at + 1 == number;
+        text.extend_from_slice(if is_changed { line } else { EXAMPLE[at] })?;
+    }
+    Ok(List::from_vec(text))
+}
+
+/// Whether bytes are read, or have this fault.
+fn reads_as(alloc: Global, bytes: &[u8], wanted: Option<DerivFault>) -> bool {
+    match read(alloc, bytes) {
+        Ok(_) => wanted == None,
+        Err(fault) => wanted == Some(fault),
+    }
+}
+
+fn note(rule: Rule, ty: Option<(u32, Form)>, before: u64, after: u64) -> Note {
+    Note {
+        rule,
+        ty,
+        live_before: Mask(before),
+        set_before: Mask(0),
+        live_after: Mask(after),
+        set_after: Mask(0),
+    }
+}
+
+#[test]
+fn the_example_is_read_and_written(rt: HostRuntime) -> Result<(), Fail> {
+    let alloc = rt.alloc();
+    let text = variant(alloc, 0, b"")?;
+    let slots = [(6, Cap::Ref), (7, Cap::Ref), (4, Cap::Val), (6, Cap::Iso)];
+    let notes = [
+        note(Rule::Prim, Some((0, Form::Val)), 1, 1),
+        note(Rule::Seq, Some((0, Form::Val)), 1, 1),
+        note(Rule::Body, None, 1, 1),
+        note(Rule::New, Some((6, Form::IsoE)), 3, 3),
+        note(Rule::Define, None, 3, 7),
+        note(Rule::Seq, None, 3, 3),
+        note(Rule::Body, None, 3, 3),
+    ];
+    let wanted = Ann {
+        slots: List::from_slice(alloc, &slots)?,
+        notes: List::from_slice(alloc, &notes)?,
+    };
+    match read(alloc, text.as_slice()) {
+        Ok(ann) => assert!(rt; ann == wanted, "read"),
+        Err(fault) => assert!(rt; false, "refused"),
+    }
+    assert_eq!(rt; write(alloc, &wanted)?.as_slice(), text.as_slice());
+    Ok(())
+}
+
+const VARIANTS: [(usize, &[u8], Option<DerivFault>); 34] = [
+    (9, b"n new 6 ref 3 0 3 0\n", None),
+    (5, b"s 6 val\n", None),
+    (5, b"s 4294967295 iso\n", None),
+    (8, b"n body - ffffffffffffffff 0 1 0\n", None),
+    (12, b"n body - 3 0 3", Some(DerivFault::BadLine(12))),
+    (12, b"n body - 3 0 3 0", Some(DerivFault::BadLine(12))),
+    (12, b"n body - 3 0 3 0\n\n", Some(DerivFault::BadLine(13))),
+    (
+        12,
+        b"n body - 3 0 3 0\nn body - 3 0 3 0\n",
+        Some(DerivFault::BadLine(13)),
+    ),
+    (12, b"", Some(DerivFault::BadLine(12))),
+    (8, b"", Some(DerivFault::BadLine(12))),
+    (5, b"", Some(DerivFault::BadLine(5))),
+    (6, b"n prim 00 val 1 0 1 0\n", Some(DerivFault::BadLine(6))),
+    (6, b"n prim 0 val 01 0 1 0\n", Some(DerivFault::BadLine(6))),
+    (6, b"n  prim 0 val 1 0 1 0\n", Some(DerivFault::BadLine(6))),
+    (6, b"n prim 0 val 1 0 1 0 \n", Some(DerivFault::BadLine(6))),
+    (6, b"n prim 0 val 1 0 1\n", Some(DerivFault::BadLine(6))),
+    (6, b"n prim 0 val 1 0 1 0 0\n", Some(DerivFault::BadLine(6))),
+    (6, b"n prime 0 val 1 0 1 0\n", Some(DerivFault::BadLine(6))),
+    (6, b"n Prim 0 val 1 0 1 0\n", Some(DerivFault::BadLine(6))),
+    (7, b"n seq 0 val^ 1 0 1 0\n", Some(DerivFault::BadLine(7))),
+    (8, b"n body -- 1 0 1 0\n", Some(DerivFault::BadLine(8))),
+    (8, b"n body - A 0 1 0\n", Some(DerivFault::BadLine(8))),
+    (
+        8,
+        b"n body - 10000000000000000 0 1 0\n",
+        Some(DerivFault::BadLine(8)),
+    ),
+    (5, b"s  6 iso\n", Some(DerivFault::BadLine(5))),
+    (5, b"s 06 iso\n", Some(DerivFault::BadLine(5))),
+    (5, b"s 6 iso\r\n", Some(DerivFault::BadLine(5))),
+    (5, b"s 6 iso^\n", Some(DerivFault::BadLine(5))),
+    (5, b"s 4294967296 iso\n", Some(DerivFault::BadLine(5))),
+    (5, b" s 6 iso\n", Some(DerivFault::BadLine(5))),
+    (1, b"rcap-derivation 1 5 7\n", Some(DerivFault::BadLine(6))),
+    (1, b"rcap-derivation 1 4 8\n", Some(DerivFault::BadLine(13))),
+    (1, b"rcap-derivation 1 4 6\n", Some(DerivFault::BadLine(12))),
+    (1, b"rcap-derivation 1 04 7\n", Some(DerivFault::BadLine(1))),
+    (1, b"rcap-derivation 2 4 7\n", Some(DerivFault::BadLine(1))),
+];
+
+#[test]
+fn variants_of_the_example_are_told_apart(rt: HostRuntime) -> Result<(), Fail> {
+    let alloc = rt.alloc();
+    for (number, line, wanted) in VARIANTS {
+        let text = variant(alloc, number, line)?;
+        assert!(rt; reads_as(alloc, text.as_slice(), wanted), "line {number}");
+    }
+    Ok(())
+}
+
+#[test]
+fn crafted_texts_are_told_apart(rt: HostRuntime) -> Result<(), Fail> {
+    let alloc = rt.alloc();
+    let rows: [(&[u8], Option<DerivFault>); 9] = [
+        (b"", Some(DerivFault::BadLine(1))),
+        (b"\n", Some(DerivFault::BadLine(1))),
+        (
+            b"rcap-derivation 1 0 4294967296\n",
+            Some(DerivFault::BadLine(1)),
+        ),
+        (
+            b"rcap-derivation 2 640001 0\n",
+            Some(DerivFault::BadLine(1)),
+        ),
+        (b"rcap-derivation 1 640001 0", Some(DerivFault::BadLine(1))),
+        (b"rcap-derivation 1 640001 0\n", Some(DerivFault::TooMany)),
+        (b"rcap-derivation 1 0 200001\n", Some(DerivFault::TooMany)),
+        (
+            b"rcap-derivation 1 640000 200000\n",
+            Some(DerivFault::BadLine(2)),
+        ),
+        (b"rcap-derivation 1 0 0\n", None),
+    ];
+    for (text, wanted) in rows {
+        assert!(rt; reads_as(alloc, text, wanted));
+    }
+    Ok(())
+}
+
+const NAMES: [(Rule, &str); 31] = [
+    (Rule::Number, "number"),
+    (Rule::Truth, "truth"),
+    (Rule::Text, "text"),
+    (Rule::Prim, "prim"),
+    (Rule::This, "this"),
+    (Rule::Local, "local"),
+    (Rule::Consume, "consume"),
+    (Rule::Get, "get"),
+    (Rule::GetOwn, "getown"),
+    (Rule::Put, "put"),
+    (Rule::PutOwn, "putown"),
+    (Rule::Define, "define"),
+    (Rule::Assign, "assign"),
+    (Rule::New, "new"),
+    (Rule::Spawn, "spawn"),
+    (Rule::Call, "call"),
+    (Rule::CallRecover, "callrecover"),
+    (Rule::Send, "send"),
+    (Rule::Builtin, "builtin"),
+    (Rule::Arith, "arith"),
+    (Rule::Compare, "compare"),
+    (Rule::Equal, "equal"),
+    (Rule::Join, "join"),
+    (Rule::Logic, "logic"),
+    (Rule::Lazy, "lazy"),
+    (Rule::Identity, "identity"),
+    (Rule::Seq, "seq"),
+    (Rule::If, "if"),
+    (Rule::While, "while"),
+    (Rule::Recover, "recover"),
+    (Rule::Body, "body"),
+];
+
+#[test]
+fn each_rule_has_its_name(rt: HostRuntime) -> Result<(), Fail> {
+    let alloc = rt.alloc();
+    for (rule, name) in NAMES {
+        let text = format!(in alloc; "rcap-derivation 1 0 1\nn {name} - 0 1f a 0\n")?;
+        let own = Note {
+            rule,
+            ty: None,
+            live_before: Mask(0),
+            set_before: Mask(31),
+            live_after: Mask(10),
+            set_after: Mask(0),
+        };
+        let wanted = Ann {
+            slots: List::new(alloc),
+            notes: List::from_slice(alloc, &[own])?,
+        };
+        assert_eq!(rt;
+            write(alloc, &wanted)?.as_slice(),
+            text.as_bytes(),
+            "{name}"
+        );
+        match read(alloc, text.as_bytes()) {
+            Ok(ann) => assert!(rt; ann == wanted, "{name}"),
+            Err(fault) => assert!(rt; false, "{name} is refused"),
+        }
+    }
+    Ok(())
+}

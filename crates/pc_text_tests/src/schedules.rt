@@ -1,0 +1,106 @@
+//! Schedules and their turns or faults, by hand.
+use pc_caps::List;
+use pc_sched::{SchedFault, Turn, read};
+use std::alloc::{AllocError, Global};
+
+/// The answer for a text within the limit of bytes.
+fn answer(alloc: Global, text: &[u8]) -> Result<List<Turn>, SchedFault> {
+    if text.len() > 1_048_576 {
+        return Err(SchedFault::Memory);
+    }
+    read(alloc, text)
+}
+
+fn are_turns(turns: &[Turn], wanted: &[(u32, u32)]) -> bool {
+    turns.len() == wanted.len()
+        && turns
+            .iter()
+            .zip(wanted.iter())
+            .all(|(turn, row)| turn.actor == row.0 && turn.times == row.1)
+}
+
+fn spells(alloc: Global, text: &[u8], wanted: &[(u32, u32)]) -> bool {
+    match answer(alloc, text) {
+        Ok(turns) => are_turns(turns.as_slice(), wanted),
+        Err(_) => false,
+    }
+}
+
+const SCHEDULES: [(&[u8], &[(u32, u32)]); 8] = [
+    (b"", &[]),
+    (b" \t\r\n", &[]),
+    (b"1*10 0", &[(1, 10), (0, 1)]),
+    (b"7*5", &[(7, 5)]),
+    (b"\n2\t3*4\r\n5*0 ", &[(2, 1), (3, 4), (5, 0)]),
+    (b"0000000001*0000000002", &[(1, 2)]),
+    (
+        b"4294967295 4294967295*0",
+        &[(4294967295, 1), (4294967295, 0)],
+    ),
+    (b"1*999999 2*0 1", &[(1, 999_999), (2, 0), (1, 1)]),
+];
+
+#[test]
+fn schedules(rt: HostRuntime) {
+    for (text, turns) in &SCHEDULES {
+        assert!(rt; spells(rt.alloc(), text, turns), "{text:?}");
+    }
+}
+
+/// The fault of a text, if it has one.
+fn fault(alloc: Global, text: &[u8]) -> Option<SchedFault> {
+    match answer(alloc, text) {
+        Ok(_) => None,
+        Err(fault) => Some(fault),
+    }
+}
+
+const FAULTS: [(&[u8], SchedFault); 18] = [
+    (b"4294967296", SchedFault::BadWord(0)),
+    (b"00000000001", SchedFault::BadWord(0)),
+    (b"1**2", SchedFault::BadWord(0)),
+    (b"1*", SchedFault::BadWord(0)),
+    (b"*1", SchedFault::BadWord(0)),
+    (b"*", SchedFault::BadWord(0)),
+    (b"+1", SchedFault::BadWord(0)),
+    (b"1x", SchedFault::BadWord(0)),
+    (b"1*2*3", SchedFault::BadWord(0)),
+    (b"1*4294967296", SchedFault::BadWord(0)),
+    (b"1*00000000001", SchedFault::BadWord(0)),
+    (b"1 \x0b2", SchedFault::BadWord(2)),
+    (b"7 1*0 x", SchedFault::BadWord(6)),
+    (b"x 1*1000001", SchedFault::BadWord(0)),
+    (b"0*1000001", SchedFault::TooMany(0)),
+    (b"1*1000000 1", SchedFault::TooMany(10)),
+    (b"1*1000001 x", SchedFault::TooMany(0)),
+    (b"1*1000000\n2*4294967295", SchedFault::TooMany(10)),
+];
+
+#[test]
+fn faults(rt: HostRuntime) {
+    for (text, want) in &FAULTS {
+        assert!(rt; fault(rt.alloc(), text) == Some(*want), "{text:?}");
+    }
+}
+
+/// So many times one word and a blank.
+fn repeated(alloc: Global, word: u8, count: usize) -> Result<Vec<u8>, AllocError> {
+    let mut text = Vec::new(alloc);
+    for _ in 0..count {
+        text.push(word)?;
+        text.push(b' ')?;
+    }
+    Ok(text)
+}
+
+/// How many turns so many words of one digit are.
+fn counted(alloc: Global, count: usize) -> Option<usize> {
+    let text = repeated(alloc, b'3', count).ok()?;
+    let turns = answer(alloc, text.as_slice()).ok()?;
+    Some(turns.len())
+}
+
+#[test]
+fn long(rt: HostRuntime) {
+    assert!(rt; counted(rt.alloc(), 524_288) == Some(524_288));
+}

@@ -1,0 +1,192 @@
+//! Whole files: what stands in them, and where they stop being one.
+use crate::ends::file_with_end;
+use crate::showing::shown;
+use pc_parse::ParseFault;
+use pc_test_sources::tree_of;
+use std::alloc::{AllocError, Global};
+
+fn has_shape(alloc: Global, text: &[u8], shape: &[u8]) -> bool {
+    match tree_of(alloc, text) {
+        Ok(file) => match shown(alloc, &file) {
+            Ok(found) => found.as_slice() == shape,
+            Err(AllocError) => false,
+        },
+        Err(_) => false,
+    }
+}
+
+// Texts of files, and their entities, fields and methods; `=` and `=>` stand for a value and a body.
+const SHAPES: [(&[u8], &[u8]); 11] = [
+    (b"class C fun f() => 1 - 2 - 3", b"class C\n fun f() =>\n"),
+    (
+        b"class C primitive P actor A trait T",
+        b"class C\nprimitive P\nactor A\ntrait T\n",
+    ),
+    (
+        b"class iso C is A trait val T is (A & B & D) actor A is (B)",
+        b"class iso C is A\ntrait val T is A B D\nactor A is B\n",
+    ),
+    (
+        b"class C let x: A iso var y: B = 1 + 2 + 3 let z: D = (y = 1)",
+        b"class C\n let x: A iso\n var y: B =\n let z: D =\n",
+    ),
+    (b"actor A let x: A", b"actor A\n let x: A\n"),
+    (
+        b"class C fun iso f(a: A val, b: B): D trn^ => a fun g(): E => a new ref create(a: A) => a",
+        b"class C\n fun iso f(a: A val, b: B): D trn^ =>\n fun g(): E =>\n new ref create(a: A) =>\n",
+    ),
+    (
+        b"actor A new create() => 1 be b(a: A) => 1 fun tag f() => 1",
+        b"actor A\n new create() =>\n be b(a: A) =>\n fun tag f() =>\n",
+    ),
+    (
+        b"primitive P fun box f() => 1",
+        b"primitive P\n fun box f() =>\n",
+    ),
+    (
+        b"trait T fun ref f(): A^ be b(a: A)",
+        b"trait T\n fun ref f(): A^\n be b(a: A)\n",
+    ),
+    (
+        b"class C fun f() =>\n  let x: A = 1\n  x\nclass D",
+        b"class C\n fun f() =>\nclass D\n",
+    ),
+    (
+        b"\"\"\"of the file\"\"\"\nclass C \"\"\"of the class\"\"\"\n  let x: U64 = 1 \"\"\"of the field\"\"\"\n  var y: U64 \"\"\"of another\"\"\"\n  fun f(): U64 \"\"\"of the method\"\"\" => \"\"\"of the body\"\"\" 1\n  new create() \"\"\"of new\"\"\" => \"\"\"here\"\"\" x\ntrait T \"\"\"of the trait\"\"\"\n  fun f() \"\"\"of f\"\"\"\n  be b() \"\"\"of b\"\"\"",
+        b"class C\n let x: U64 =\n var y: U64\n fun f(): U64 =>\n new create() =>\ntrait T\n fun f()\n be b()\n",
+    ),
+];
+
+#[test]
+fn shapes(rt: HostRuntime) {
+    for (text, shape) in &SHAPES {
+        assert!(rt; has_shape(rt.alloc(), text, shape), "{text:?}");
+    }
+}
+
+const BANK: &[u8] =
+    b"\"\"\"A small bank.\"\"\"\ntrait Report\n  fun line(): String\n\nclass Account is Report\n  let _name: String\n  var _sum: U64 = 0\n\n  new iso create(name: String) =>\n    _name = name\n\n  fun ref add(n: U64): U64 =>\n    _sum = _sum + n\n    _sum\n\n  fun ref take(n: U64): Bool =>\n    \"\"\"Takes n where the sum holds it.\"\"\"\n    if n <= _sum then\n      _sum = _sum - n\n      true\n    else\n      false\n    end\n\n  fun line(): String => _name + \": \" + _sum.string()\n\nactor Teller\n  let _out: OutStream\n  var _account: Account iso\n\n  new create(out: OutStream, account: Account iso) =>\n    _out = out\n    _account = consume account\n\n  be deposit(n: U64) =>\n    _account.add(n) // the account is iso: receiver recovery\n\n  be withdraw(n: U64, to: Teller) =>\n    if _account.take(n) then\n      to.deposit(n)\n    else\n      _out.print(\"refused \" + n.string())\n    end\n\n  be report() =>\n    _out.print(_account.line())\n\nactor Main\n  new create(env: Env) =>\n    let ann: Teller = Teller(env.out, Account(\"ann\"))\n    let bob: Teller = Teller(env.out, Account(\"bob\"))\n    ann.deposit(100)\n    ann.withdraw(30, bob)\n    bob.withdraw(500, ann)\n    ann.report()\n    bob.report()\n";
+
+const BANK_SHAPE: &[u8] =
+    b"trait Report\n fun line(): String\nclass Account is Report\n let _name: String\n var _sum: U64 =\n new iso create(name: String) =>\n fun ref add(n: U64): U64 =>\n fun ref take(n: U64): Bool =>\n fun line(): String =>\nactor Teller\n let _out: OutStream\n var _account: Account iso\n new create(out: OutStream, account: Account iso) =>\n be deposit(n: U64) =>\n be withdraw(n: U64, to: Teller) =>\n be report() =>\nactor Main\n new create(env: Env) =>\n";
+
+#[test]
+fn the_bank(rt: HostRuntime) {
+    assert!(rt; has_shape(rt.alloc(), BANK, BANK_SHAPE));
+}
+
+fn fault_of(alloc: Global, text: &[u8]) -> Option<ParseFault> {
+    match tree_of(alloc, text) {
+        Ok(_) => None,
+        Err(fault) => Some(fault),
+    }
+}
+
+// Texts of no file, and the first byte of the first token with which none begins.
+const UNEXPECTED: [(&[u8], u32); 42] = [
+    // Nothing at all.
+    (b"", 0),
+    // A method alone.
+    (b"fun f() => 1", 0),
+    // Another word.
+    (b"interface I", 0),
+    // A name in the place of a type name.
+    (b"class c", 6),
+    // Two capabilities.
+    (b"class iso iso C", 10),
+    // A capability of an actor.
+    (b"actor iso A", 6),
+    // A capability of a primitive.
+    (b"primitive ref P", 10),
+    // No type name behind is.
+    (b"class C is", 10),
+    // Nothing in the brackets.
+    (b"class C is ()", 12),
+    // A comma.
+    (b"class C is (A, B)", 13),
+    // No end of the brackets.
+    (b"class C is (A & B", 17),
+    // Names without brackets.
+    (b"class C is A & B", 13),
+    // A field after a method.
+    (b"class C fun f() => 1 let x: U64", 21),
+    // A field of a primitive.
+    (b"primitive P let x: U64", 12),
+    // A field of a trait.
+    (b"trait T var x: U64", 8),
+    // A field without a type.
+    (b"class C let x = 1", 14),
+    // A field of a type with ^.
+    (b"class C let x: U64^ = 1", 18),
+    // A value with =.
+    (b"class C let x: U64 = y = 1", 23),
+    // Be in a class.
+    (b"class C be b() => 1", 8),
+    // Be in a primitive.
+    (b"primitive P be b() => 1", 12),
+    // New in a primitive.
+    (b"primitive P new create() => 1", 12),
+    // New in a trait.
+    (b"trait T new create()", 8),
+    // A capability after new in an actor.
+    (b"actor A new iso create() => 1", 12),
+    // A capability after be.
+    (b"actor A be tag b() => 1", 11),
+    // A result of be.
+    (b"actor A be b(): U64 => 1", 14),
+    // A result of new.
+    (b"class C new create(): C => 1", 20),
+    // A method without a body at the end.
+    (b"class C fun f()", 15),
+    // A method without a body before another.
+    (b"class C fun f() fun g() => 1", 16),
+    // An actor's method without a body.
+    (b"actor A be b() be c() => 1", 15),
+    // A body in a trait.
+    (b"trait T fun f() => 1", 16),
+    // A body of nothing.
+    (b"class C fun f() => fun g() => 1", 19),
+    // A comma before ).
+    (b"class C fun f(a: A,) => 1", 19),
+    // A parameter without a type.
+    (b"class C fun f(a) => 1", 15),
+    // A parameter of a type with ^.
+    (b"class C fun f(a: A^) => 1", 18),
+    // No parameters.
+    (b"class C fun f => 1", 14),
+    // ^ before the capability.
+    (b"class C fun f(): A^ iso => 1", 20),
+    // A - that is first on its line.
+    (b"class C fun f() => 1\n- 2 - 3", 21),
+    // A number behind a dot.
+    (b"class C fun f() => a.1", 21),
+    // Two docs of a file.
+    (b"\"\"\"a\"\"\" \"\"\"b\"\"\" class C", 8),
+    // Two docs of an entity.
+    (b"class C \"\"\"a\"\"\" \"\"\"b\"\"\"", 16),
+    // A doc behind a body.
+    (b"class C fun f() => 1 \"\"\"a\"\"\"", 21),
+    // Two entities, and a name.
+    (b"class C class D d", 16),
+];
+
+#[test]
+fn unexpected(rt: HostRuntime) {
+    for (text, place) in &UNEXPECTED {
+        let found = fault_of(rt.alloc(), text);
+        assert!(rt; found == Some(ParseFault::Unexpected(*place)), "{text:?}");
+    }
+}
+
+// A text that is a file, and a token behind its end.
+#[test]
+fn behind_the_end(rt: HostRuntime) {
+    match file_with_end(rt.alloc(), b"class C", 9) {
+        Ok(_) => assert!(rt; false),
+        Err(fault) => assert_eq!(rt; fault, ParseFault::Unexpected(9)),
+    }
+    match file_with_end(rt.alloc(), b"class", 9) {
+        Ok(_) => assert!(rt; false),
+        Err(fault) => assert_eq!(rt; fault, ParseFault::Unexpected(5)),
+    }
+}

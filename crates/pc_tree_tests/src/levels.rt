@@ -1,0 +1,51 @@
+//! How deep trees are, and how deep a text may go.
+use pc_parse::ParseFault;
+use pc_test_sources::tree_of;
+use pc_tree::{depth, size};
+use std::alloc::{AllocError, Global};
+use std::test::Fail;
+
+/// A text, so many `(`, a number, and as many `)`.
+fn nested(alloc: Global, begin: &[u8], count: usize) -> Result<Vec<u8>, AllocError> {
+    let mut text = Vec::from_slice(alloc, begin)?;
+    for _ in 0..count {
+        text.extend_from_slice(b"(")?;
+    }
+    text.extend_from_slice(b"1")?;
+    for _ in 0..count {
+        text.extend_from_slice(b")")?;
+    }
+    Ok(text)
+}
+
+/// The highest level of such a text.
+fn level_of(alloc: Global, begin: &[u8], count: usize) -> Result<u32, ParseFault> {
+    match nested(alloc, begin, count) {
+        Ok(text) => Ok(depth(&tree_of(alloc, text.as_slice())?)),
+        Err(AllocError) => Err(ParseFault::Memory),
+    }
+}
+
+// A body and a value stand at level 1, so that 199 more are opened.
+#[test]
+fn levels(rt: HostRuntime) -> Result<(), Fail> {
+    let alloc = rt.alloc();
+    let body = b"class C fun f() => ";
+    assert_eq!(rt; level_of(alloc, body, 199), Ok(200));
+    assert_eq!(rt; level_of(alloc, body, 200), Err(ParseFault::TooDeep(218)));
+    let value = b"class C let x: U64 = ";
+    assert_eq!(rt; level_of(alloc, value, 199), Ok(200));
+    assert_eq!(rt; level_of(alloc, value, 200), Err(ParseFault::TooDeep(220)));
+    Ok(())
+}
+
+#[test]
+fn empty_arguments_open_a_level(rt: HostRuntime) {
+    match tree_of(rt.alloc(), b"primitive P fun f() => g()") {
+        Ok(tree) => {
+            assert_eq!(rt; depth(&tree), 2);
+            assert_eq!(rt; size(&tree), 2);
+        }
+        Err(_) => assert!(rt; false),
+    }
+}

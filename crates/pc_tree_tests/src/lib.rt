@@ -1,0 +1,23 @@
+//! Tests of trees: what is read of a text, where reading stops, levels, what is printed, and made programs.
+#![tactic(auto)]
+
+#[cfg(test)]
+mod ends;
+#[cfg(test)]
+mod examples;
+#[cfg(test)]
+mod files;
+#[cfg(test)]
+mod levels;
+#[cfg(test)]
+mod made;
+#[cfg(test)]
+mod parts;
+#[cfg(test)]
+mod printed;
+#[cfg(test)]
+mod reading;
+#[cfg(test)]
+mod rows;
+#[cfg(test)]
+mod showing;

@@ -1,0 +1,298 @@
+//! Parts of bodies: their trees, where reading stops, levels and long chains.
+use crate::reading::{Found, Part, read};
+use crate::rows::Row;
+use pc_expr::{ParseFault, seq};
+use pc_test_sources::tokens_of;
+use std::alloc::{AllocError, Global};
+use std::test::Fail;
+
+fn has_rows(alloc: Global, text: &[u8], rows: &[Row]) -> bool {
+    match read(alloc, Part::Seq, text, 1) {
+        Ok(found) => found.rows.as_slice() == rows,
+        Err(_) => false,
+    }
+}
+
+// Whole sequences, each part with its first byte and the byte behind its last.
+const TREES: [(&[u8], &[Row]); 9] = [
+    (
+        b" a + b + 1 ",
+        &[
+            ("seq", 1, 10),
+            ("+", 1, 10),
+            ("name", 1, 2),
+            ("name", 5, 6),
+            ("number", 9, 10),
+        ],
+    ),
+    (
+        b"(a ; B)\n(\"\")",
+        &[
+            ("seq", 0, 12),
+            ("group", 0, 7),
+            ("seq", 1, 6),
+            ("name", 1, 2),
+            ("type name", 5, 6),
+            ("group", 8, 12),
+            ("seq", 9, 11),
+            ("text", 9, 11),
+        ],
+    ),
+    (
+        b"a.b( c , this ) . d ()",
+        &[
+            ("seq", 0, 22),
+            ("chain", 0, 22),
+            ("name", 0, 1),
+            ("dot", 2, 3),
+            ("arguments", 3, 15),
+            ("name", 5, 6),
+            ("this", 9, 13),
+            ("dot", 18, 19),
+            ("arguments", 20, 22),
+        ],
+    ),
+    (
+        b"let x: T iso = y = 1",
+        &[
+            ("seq", 0, 20),
+            ("let", 0, 20),
+            ("=", 15, 20),
+            ("name", 15, 16),
+            ("number", 19, 20),
+        ],
+    ),
+    (
+        b"var x = not not true and consume y",
+        &[
+            ("seq", 0, 34),
+            ("var", 0, 34),
+            ("and", 8, 34),
+            ("not", 8, 20),
+            ("not", 12, 20),
+            ("truth", 16, 20),
+            ("consume", 25, 34),
+        ],
+    ),
+    (
+        b"if a then b elseif c then d; e else f end",
+        &[
+            ("seq", 0, 41),
+            ("if", 0, 41),
+            ("arm", 0, 11),
+            ("seq", 3, 4),
+            ("name", 3, 4),
+            ("seq", 10, 11),
+            ("name", 10, 11),
+            ("arm", 12, 30),
+            ("seq", 19, 20),
+            ("name", 19, 20),
+            ("seq", 26, 30),
+            ("name", 26, 27),
+            ("name", 29, 30),
+            ("seq", 36, 37),
+            ("name", 36, 37),
+        ],
+    ),
+    (
+        b"while a do b end",
+        &[
+            ("seq", 0, 16),
+            ("while", 0, 16),
+            ("seq", 6, 7),
+            ("name", 6, 7),
+            ("seq", 11, 12),
+            ("name", 11, 12),
+        ],
+    ),
+    (
+        b"recover iso a end.b = c",
+        &[
+            ("seq", 0, 23),
+            ("=", 0, 23),
+            ("chain", 0, 19),
+            ("recover", 0, 17),
+            ("seq", 12, 13),
+            ("name", 12, 13),
+            ("dot", 18, 19),
+            ("name", 22, 23),
+        ],
+    ),
+    (
+        b"a\n(b) isnt c",
+        &[
+            ("seq", 0, 12),
+            ("name", 0, 1),
+            ("isnt", 2, 12),
+            ("group", 2, 5),
+            ("seq", 3, 4),
+            ("name", 3, 4),
+            ("name", 11, 12),
+        ],
+    ),
+];
+
+#[test]
+fn trees(rt: HostRuntime) {
+    for (text, rows) in &TREES {
+        assert!(rt; has_rows(rt.alloc(), text, rows), "{text:?}");
+    }
+}
+
+fn stops_as(
+    alloc: Global,
+    part: Part,
+    text: &[u8],
+    level: u16,
+    wanted: &Result<usize, ParseFault>,
+) -> bool {
+    match (read(alloc, part, text, level), wanted) {
+        (Ok(Found { to, .. }), Ok(place)) => to == *place,
+        (Err(fault), Err(named)) => fault == *named,
+        _ => false,
+    }
+}
+
+// How many tokens are read, or the byte of the token at which none are.
+const STOPS: [(Part, &[u8], u16, Result<usize, ParseFault>); 30] = [
+    (Part::Seq, b"a + b - c", 1, Ok(3)),
+    (Part::Seq, b"a\n- b", 1, Ok(1)),
+    (Part::Seq, b"a -\nb", 1, Ok(3)),
+    (Part::Seq, b"a b", 1, Ok(1)),
+    (Part::Seq, b"a\nb", 1, Ok(2)),
+    (Part::Seq, b"a\n;\nb", 1, Ok(3)),
+    (Part::Seq, b"f() = 1", 1, Ok(3)),
+    (Part::Seq, b"a + b = 1", 1, Ok(3)),
+    (Part::Seq, b"1 = 1", 1, Ok(1)),
+    (Part::Seq, b"a.b.c = d = e", 1, Ok(9)),
+    (Part::Seq, b"let a = 1 be", 1, Ok(4)),
+    (Part::Expr, b"a; b", 1, Ok(1)),
+    (Part::Expr, b"a = b", 1, Ok(3)),
+    (Part::Infix, b"a = b", 1, Ok(1)),
+    (Part::Infix, b"let a = b", 1, Err(ParseFault::Unexpected(0))),
+    (Part::Expr, b"let a = b", 1, Err(ParseFault::Unexpected(0))),
+    (Part::Seq, b"", 1, Err(ParseFault::Unexpected(0))),
+    (Part::Seq, b"(a", 1, Err(ParseFault::Unexpected(2))),
+    (Part::Seq, b"a;", 1, Err(ParseFault::Unexpected(2))),
+    (Part::Seq, b"f(a,)", 1, Err(ParseFault::Unexpected(4))),
+    (
+        Part::Seq,
+        b"if a then b",
+        1,
+        Err(ParseFault::Unexpected(11)),
+    ),
+    (Part::Seq, b"(a b)", 1, Err(ParseFault::Unexpected(3))),
+    (
+        Part::Seq,
+        b"recover tag\nend",
+        1,
+        Err(ParseFault::Unexpected(12)),
+    ),
+    (Part::Seq, b"not (", 200, Err(ParseFault::TooDeep(0))),
+    (Part::Seq, b"(;", 200, Err(ParseFault::TooDeep(0))),
+    (Part::Seq, b"+ (", 200, Err(ParseFault::Unexpected(0))),
+    (Part::Seq, b"f()", 200, Err(ParseFault::TooDeep(1))),
+    (Part::Seq, b"f()", 199, Ok(3)),
+    (Part::Seq, b"a = b = c", 199, Err(ParseFault::TooDeep(6))),
+    (
+        Part::Seq,
+        b"if a then b elseif c then d else e end",
+        199,
+        Ok(11),
+    ),
+];
+
+#[test]
+fn stops(rt: HostRuntime) {
+    for (part, text, level, wanted) in &STOPS {
+        assert!(rt;
+            stops_as(rt.alloc(), *part, text, *level, wanted),
+            "{text:?}"
+        );
+    }
+}
+
+/// A text of many equal parts, between a beginning and an end.
+fn repeated(
+    alloc: Global,
+    begin: &[u8],
+    part: &[u8],
+    count: usize,
+    end: &[u8],
+) -> Result<Vec<u8>, AllocError> {
+    let mut text = Vec::from_slice(alloc, begin)?;
+    for _ in 0..count {
+        text.extend_from_slice(part)?;
+    }
+    text.extend_from_slice(end)?;
+    Ok(text)
+}
+
+/// How many tokens of a text are read as a sequence; its tree is dropped.
+fn length_read(alloc: Global, text: &[u8], level: u16) -> Result<usize, ParseFault> {
+    let Ok(tokens) = tokens_of(alloc, text) else {
+        return Err(ParseFault::Memory);
+    };
+    let tokens = tokens.as_slice();
+    if level > 200 || tokens.is_empty() {
+        return Err(ParseFault::Memory);
+    }
+    let (_, to) = seq(alloc, tokens, 0, level)?;
+    Ok(to)
+}
+
+#[test]
+fn levels(rt: HostRuntime) -> Result<(), Fail> {
+    let alloc = rt.alloc();
+    let text = repeated(alloc, b"", b"(", 200, b"a")?;
+    let text = repeated(alloc, text.as_slice(), b")", 200, b"")?;
+    assert_eq!(rt; length_read(alloc, text.as_slice(), 0), Ok(401));
+    assert_eq!(rt;
+        length_read(alloc, text.as_slice(), 1),
+        Err(ParseFault::TooDeep(199))
+    );
+    let text = repeated(alloc, b"", b"(", 201, b"a")?;
+    assert_eq!(rt;
+        length_read(alloc, text.as_slice(), 0),
+        Err(ParseFault::TooDeep(200))
+    );
+    Ok(())
+}
+
+/// How many tokens of such a text are read.
+fn chain_read(
+    alloc: Global,
+    begin: &[u8],
+    part: &[u8],
+    count: usize,
+    end: &[u8],
+) -> Result<usize, ParseFault> {
+    match repeated(alloc, begin, part, count, end) {
+        Ok(text) => length_read(alloc, text.as_slice(), 1),
+        Err(AllocError) => Err(ParseFault::Memory),
+    }
+}
+
+#[test]
+fn a_long_chain_of_operators(rt: HostRuntime) {
+    let read = chain_read(rt.alloc(), b"a", b"+a", 99_999, b"");
+    assert_eq!(rt; read, Ok(199_999));
+}
+
+#[test]
+fn a_long_chain_of_suffixes(rt: HostRuntime) {
+    let read = chain_read(rt.alloc(), b"a", b".a", 99_999, b"");
+    assert_eq!(rt; read, Ok(199_999));
+}
+
+#[test]
+fn a_long_chain_of_arms(rt: HostRuntime) {
+    let read = chain_read(
+        rt.alloc(),
+        b"if a then a ",
+        b"elseif a then a ",
+        49_998,
+        b"end",
+    );
+    assert_eq!(rt; read, Ok(199_997));
+}

@@ -1,0 +1,46 @@
+//! Texts that are read, and what is printed of their trees.
+use pc_caps::List;
+use pc_print::print;
+use pc_test_sources::tree_of;
+use std::alloc::Global;
+
+/// What is printed of the tree of a source, where it has one.
+pub fn printed(alloc: Global, source: &[u8]) -> Option<List<u8>> {
+    match tree_of(alloc, source) {
+        Ok(file) => print(alloc, &file).ok(),
+        Err(_) => None,
+    }
+}
+
+/// Whether these lines are printed of the tree of a source.
+pub fn prints(alloc: Global, source: &[u8], lines: &[u8]) -> bool {
+    match printed(alloc, source) {
+        Some(text) => text.as_slice() == lines,
+        None => false,
+    }
+}
+
+const ONE_LINE: &[u8] = b"actor Main new create(env: Env) => env.out.print(\"a\\tb\") // x\n";
+
+const THREE_LINES: &[u8] = b"actor Main\n  new create(env: Env) =>\n    env.out.print(\"a\\tb\")\n";
+
+#[test]
+fn a_line(rt: HostRuntime) {
+    assert!(rt; prints(rt.alloc(), ONE_LINE, THREE_LINES));
+}
+
+const SOURCE: &[u8] =
+    b"\"\"\"A file.\"\"\" trait A trait B is (A) fun f(x: U64, y: B val): B iso^ be b()\nclass val C is (A & B) let x: U64 = 0x1F var y: C iso\nnew iso create() => y = consume z; if (a; b) then \"\\x7F\\x01\\\"\"\nelseif not c then 1_000 else while true do d.e\nrecover val this end end end";
+
+const LINES: &[u8] =
+    b"trait A\n\ntrait B is A\n  fun f(x: U64, y: B val): B iso^\n  be b()\n\nclass val C is (A & B)\n  let x: U64 = 31\n  var y: C iso\n  new iso create() =>\n    y = consume z\n    if (a; b) then \"\\x7f\\x01\\\"\" elseif not c then 1000 else while true do d.e; recover val this end end end\n";
+
+#[test]
+fn each_kind_of_line(rt: HostRuntime) {
+    assert!(rt; prints(rt.alloc(), SOURCE, LINES));
+}
+
+#[test]
+fn what_was_printed(rt: HostRuntime) {
+    assert!(rt; prints(rt.alloc(), LINES, LINES));
+}
