@@ -4,8 +4,8 @@ use Rattle.std.specs.Prelude.{IfSome, Result}
 use Rattle.std.specs.Io.KnownBytes.{Appends}
 use Rattle.pc_ann.specs.declared.annotation.Ann.{Ann}
 use Rattle.pc_rules.specs.Valid.{Valid}
-use Rattle.pc_sound.specs.Laws.{ValidIsSafe}
-use Rattle.pc_words.specs.Asked.{Text, Asked, check, judge, run, show, make, command_of}
+use Rattle.pc_regions.specs.Laws.{ValidIsSafe}
+use Rattle.pc_args.specs.Asked.{Text, Asked, check, judge, run, show, make, command_of}
 use Rattle.pc_top.specs.Accepting.{AcceptedStage}
 use Rattle.pc_top.specs.Answer.{Answer}
 use Rattle.pc_top.specs.Answer.Answer.{told as answer_told, file as answer_file, out_failed, err_failed, file_err_failed, no_memory}
@@ -19,7 +19,7 @@ use Rattle.pc_top.specs.Judge.{DerivationStage, Judged, Judging, IsJudge, deriva
 use Rattle.pc_top.specs.Judge.Judging.{holds, fails}
 use Rattle.pc_top.specs.Make.{IsMade, IsMake, MadeRun, made_name, made_text}
 use Rattle.pc_top.specs.Make.IsMake.{made, no_numbers}
-use Rattle.pc_top.specs.Named.{Files, Named, Reading, whole, Gives, named, text_as}
+use Rattle.pc_top.specs.Named.{Files, Named, Reading, whole, IsReadingOf, named, text_as}
 use Rattle.pc_top.specs.Run.{Scheduled}
 use Rattle.pc_top.specs.Source.{SourceStage, source_limit}
 use Rattle.pc_top.specs.Verdict.{Verdict, IsAccepting}
@@ -30,7 +30,7 @@ use Rattle.pc_top.proofs.Statuses.{accepted_refuses, derivation_other, source_ot
 
 -- what a file's stages gave, where none of their refusals accepts
 pub passed : {T : Type 0} (file : Named) (limit : ℕ) (Stages : Reading → Result T Verdict → Type 0) (Last : T → Verdict → Type 0) (v : Verdict)
-    → ((r : Reading) → Stages r (Err v) → ⊥) → FromFile file limit Stages Last v → (r : Reading) × (x : T) × Gives file limit r × Stages r (Ok x) × Last x v
+    → ((r : Reading) → Stages r (Err v) → ⊥) → FromFile file limit Stages Last v → (r : Reading) × (x : T) × IsReadingOf file limit r × Stages r (Ok x) × Last x v
 passed file limit Stages Last v never (refuses r g h) = absurd (never r h)
 passed file limit Stages Last v never (goes_on r x g h l) = (r, x, g, h, l)
 
@@ -40,10 +40,10 @@ of_told Holds None bytes h e = tt
 of_told Holds (Some b) bytes h e = subst Holds e h
 
 -- a source that was read was read whole
-pub source_whole : (file : Named) (r : Reading) (s : Source) → Gives file source_limit r → SourceStage file.name r (Ok s) → Gives file source_limit (whole s.bytes)
-source_whole file r s g h = subst (λ (q : Reading). Gives file source_limit q) (source_says h).0 g
+pub source_whole : (file : Named) (r : Reading) (s : Source) → IsReadingOf file source_limit r → SourceStage file.name r (Ok s) → IsReadingOf file source_limit (whole s.bytes)
+source_whole file r s g h = subst (λ (q : Reading). IsReadingOf file source_limit q) (source_says h).0 g
 
-derivable : (file : Named) (r : Reading) (s : Source) (ann : Ann) → Gives file source_limit r → SourceStage file.name r (Ok s) → Valid s.core ann → IfSome file.told IsDerivable
+derivable : (file : Named) (r : Reading) (s : Source) (ann : Ann) → IsReadingOf file source_limit r → SourceStage file.name r (Ok s) → Valid s.core ann → IfSome file.told IsDerivable
 derivable file r s ann g h v = of_told IsDerivable file.told s.bytes (s.core, (source_says h).1, (ann, v)) (source_whole file r s g h).1
 
 -- a command that goes on with an accepted source

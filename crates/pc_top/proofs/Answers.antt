@@ -6,10 +6,10 @@ use Rattle.std.specs.Io.KnownBytes.{Appends, Keeps}
 use Rattle.pc_top.specs.Answer.{Answer, Finishes, LineEnds, IsWordsRefusal}
 use Rattle.pc_top.specs.Answer.Answer.{told, file, out_failed, err_failed, file_err_failed, no_memory}
 use Rattle.pc_top.specs.Asked.{IsVerdict, IsVerdictOf, FailedIn, FailedOf}
-use Rattle.pc_words.specs.Asked.{Text, Asked, command_of}
+use Rattle.pc_args.specs.Asked.{Text, Asked, command_of}
 use Rattle.pc_top.specs.Complete.{Completes}
 use Rattle.pc_io.specs.Change.{Change, change}
-use Rattle.pc_top.specs.Ends.{Ends, Stops, Tells}
+use Rattle.pc_top.specs.Ends.{Ends, CommandStops, Tells}
 use Rattle.pc_top.specs.Lines.{usage_line}
 use Rattle.pc_top.specs.Named.{Files}
 use Rattle.pc_top.specs.Verdict.{Verdict, refused}
@@ -24,7 +24,7 @@ added_nothing (Some xs) None k = absurd k
 added_nothing (Some xs) (Some ys) k = k ∙ unchanged (Some xs)
 
 words_stop : (files : Files) (asked : Option Asked) (out : Option Text) (f g : ℕ) (s : Stop) → asked ≡ None → IsWordsRefusal s
-    → Stops (IsVerdictOf files asked) (FailedOf files asked) (change out out f g) s
+    → CommandStops (IsVerdictOf files asked) (FailedOf files asked) (change out out f g) s
 words_stop files asked out f g (Refused status line) e h =
     rw (e, h.0, h.1) (refused 2 usage_line, refl, refl, refl, unchanged out)
 words_stop files asked out f g (File name) e h = absurd h
@@ -32,7 +32,7 @@ words_stop files asked out f g Sink e h = absurd h
 words_stop files asked out f g Memory e h = inl (kept out)
 
 pub words_refused : (files : Files) (words : List Text) (out : Option Text) (f g : ℕ) (s : Stop) → command_of words ≡ None → IsWordsRefusal s
-    → Stops (IsVerdict files words) (FailedIn files words) (change out out f g) s
+    → CommandStops (IsVerdict files words) (FailedIn files words) (change out out f g) s
 words_refused files words out f g s e h = words_stop files (command_of words) out f g s e h
 
 -- a command ends as its words ask for

@@ -9,13 +9,13 @@ use Rattle.pc_rules.specs.Valid.{Valid}
 use Rattle.pc_deriv.specs.Limits.{slot_limit, node_limit}
 use Rattle.pc_core.specs.Formed.{Formed}
 use Rattle.pc_run.specs.Ends.{NeverLacks}
-use Rattle.pc_sound.specs.Laws.{AcceptedNeverLacks}
+use Rattle.pc_types.specs.Laws.{AcceptedNeverLacks}
 use Rattle.pc_order.specs.Laws.{TokensAscend}
 use Rattle.pc_elab.specs.Cores.{CoresAreFormed as FilesAreFormed}
 use Rattle.pc_top.specs.After.After.{goes}
 use Rattle.pc_top.specs.Accepting.{AcceptedStage, Typing}
 use Rattle.pc_top.specs.Accepting.Typing.{typed, declared, no_rule, unset}
-use Rattle.pc_words.specs.Asked.{Text}
+use Rattle.pc_args.specs.Asked.{Text}
 use Rattle.pc_top.specs.CoreFaults.{IsCoreRefusal, IsSmall, node_start}
 use Rattle.pc_top.specs.CoreOf.{CoreOf, CoresAreFormed}
 use Rattle.pc_top.specs.Named.{Reading, whole, longer}

@@ -6,7 +6,7 @@ use Rattle.pc_check.specs.Laws.{NoneWithoutRule, NoneWithUnset, NoneWithFault}
 use Rattle.pc_core.specs.CoreData.{CoreData}
 use Rattle.pc_gen.specs.Numbers.{IsSeed, IsSize}
 use Rattle.pc_rules.specs.Valid.{Derivable}
-use Rattle.pc_words.specs.Asked.{Text, Asked, check, judge, run, show, make}
+use Rattle.pc_args.specs.Asked.{Text, Asked, check, judge, run, show, make}
 use Rattle.pc_top.specs.Accepting.{AcceptedStage}
 use Rattle.pc_top.specs.After.After.{stops, goes}
 use Rattle.pc_top.specs.Asked.{IsVerdictOf}
@@ -18,7 +18,7 @@ use Rattle.pc_top.specs.FromFile.{FromFile}
 use Rattle.pc_top.specs.FromFile.FromFile.{refuses, goes_on}
 use Rattle.pc_top.specs.Make.{IsMade, IsMake, MadeRun, made_name, made_text}
 use Rattle.pc_top.specs.Make.IsMake.{made, no_numbers}
-use Rattle.pc_top.specs.Named.{Files, Named, Reading, whole, longer, Gives, IsReading, named, text_as}
+use Rattle.pc_top.specs.Named.{Files, Named, Reading, whole, longer, IsReadingOf, IsReading, named, text_as}
 use Rattle.pc_top.specs.Run.{Scheduled}
 use Rattle.pc_top.specs.Source.{SourceStage, source_limit}
 use Rattle.pc_top.specs.Verdict.{Verdict}
@@ -35,7 +35,7 @@ some_whole : (bytes : Text) (before now taken : ℕ) (r : Reading) → now ≡ b
 some_whole bytes before now taken (whole b) n l g = ap whole g.1
 some_whole bytes before now taken longer n l g = let long : source_limit < length bytes = g.1 n in absurd (omega (arith, l, long))
 
-reads_whole : (file : Named) (bytes : Text) (r : Reading) → file.told ≡ Some bytes → file.now ≡ file.before → length bytes ≤ source_limit → Gives file source_limit r → r ≡ whole bytes
+reads_whole : (file : Named) (bytes : Text) (r : Reading) → file.told ≡ Some bytes → file.now ≡ file.before → length bytes ≤ source_limit → IsReadingOf file source_limit r → r ≡ whole bytes
 reads_whole file bytes r e n l g = some_whole bytes file.before file.now file.taken r n l (subst (λ (o : Option Text). IsReading source_limit o file.before file.now file.taken r) e g)
 
 module _ (laws : SourceLaws) (formed : CoresAreFormed) (ruleless : NoneWithoutRule) (setless : NoneWithUnset) (failing : NoneWithFault) where
@@ -45,17 +45,17 @@ module _ (laws : SourceLaws) (formed : CoresAreFormed) (ruleless : NoneWithoutRu
       abbrev passed : Source
       passed = record { bytes = bytes; core = core }
 
-      passes : (r : Reading) → Gives file source_limit r → SourceStage file.name r (Ok passed)
+      passes : (r : Reading) → IsReadingOf file source_limit r → SourceStage file.name r (Ok passed)
       passes r g = subst (λ (q : Reading). SourceStage file.name q (Ok passed)) (sym (reads_whole file bytes r tells unfailed c.short g)) (core_passes file.name bytes core c)
 
-      not_refused : (r : Reading) (v : Verdict) → Gives file source_limit r → SourceStage file.name r (Err v) → ⊥
+      not_refused : (r : Reading) (v : Verdict) → IsReadingOf file source_limit r → SourceStage file.name r (Err v) → ⊥
       not_refused r v g h = differ passed v (Ok passed) (Err v) refl refl (one_source laws file.name r (Ok passed) (Err v) (passes r g) h)
 
-      same_core : (r : Reading) (s : Source) → Gives file source_limit r → SourceStage file.name r (Ok s) → s.core ≡ core
+      same_core : (r : Reading) (s : Source) → IsReadingOf file source_limit r → SourceStage file.name r (Ok s) → s.core ≡ core
       same_core r s g h = ap (λ (x : Source). x.core) (ok_same s passed (Ok s) (Ok passed) refl refl (one_source laws file.name r (Ok s) (Ok passed) h (passes r g)))
 
       -- with a derivation, so does the last stage
-      accepted : (r : Reading) (v : Verdict) → Derivable core → Gives file source_limit r → AcceptedStage file.name r (Err v) → ⊥
+      accepted : (r : Reading) (v : Verdict) → Derivable core → IsReadingOf file source_limit r → AcceptedStage file.name r (Err v) → ⊥
       accepted r v d g (stops h) = not_refused r v g h
       accepted r v d g (goes {x = s} h t) =
           typing_refuses formed ruleless setless failing (source_formed formed h).0 t (subst Derivable (sym (same_core r s g h)) d)

@@ -18,14 +18,14 @@ use Rattle.pc_names.specs.Names.{IsNameFault}
 use Rattle.pc_names.specs.declared.fault.NameFault.{NameFault}
 use Rattle.pc_names.specs.declared.fault.NameFault.TheVariants as names
 use Rattle.pc_elab.specs.Cores.{IsFirstFault, Spelled}
-use Rattle.pc_program.specs.Cores.{IsElabFault}
+use Rattle.pc_file_spec.specs.Cores.{IsElabFault}
 use Rattle.pc_grammar.specs.SpellsFile.{SpellsFile}
 use Rattle.pc_top.specs.After.After.{stops, goes}
-use Rattle.pc_words.specs.Asked.{Text}
+use Rattle.pc_args.specs.Asked.{Text}
 use Rattle.pc_top.specs.Refusal.{IsPlaceRefusal, offset_line}
 use Rattle.pc_top.specs.Faults.{IsFaultRefusal}
 use Rattle.pc_top.specs.Lines.{longer_line}
-use Rattle.pc_top.specs.Named.{Named, longer, whole, Gives, text_as}
+use Rattle.pc_top.specs.Named.{Named, longer, whole, IsReadingOf, text_as}
 use Rattle.pc_top.specs.Show.{SyntaxStage}
 use Rattle.pc_top.specs.Source.{Lexing, Parsing, Elaborating, CoreStage, SourceStage, source_limit}
 use Rattle.pc_top.specs.Source.Length.{fits, is_longer}
@@ -134,11 +134,11 @@ elaborating_ends name bytes ts f (Ok core) l p h = goes l (goes p h)
 elaborating_ends name bytes ts f (Err s) l p h = elaborating_stops name bytes ts f s l p h
 
 -- The stages behind the length of a source that was read whole.
-pub core_given : (file : Named) (bytes shown : Text) (core : CoreData) → Gives file source_limit (whole bytes) → shown ≡ bytes
+pub core_given : (file : Named) (bytes shown : Text) (core : CoreData) → IsReadingOf file source_limit (whole bytes) → shown ≡ bytes
     → CoreStage file.name shown (Ok core) → PartGives source_limit (SourceStage file.name) file (record { bytes = bytes; core = core })
 core_given file bytes shown core g same h = (whole bytes, g, goes (fits g.0) (has_core (subst (λ (b : Text). CoreStage file.name b (Ok core)) same h)))
 
-pub core_stopped : (file : Named) (bytes shown : Text) (s : Stop) → Gives file source_limit (whole bytes) → shown ≡ bytes
+pub core_stopped : (file : Named) (bytes shown : Text) (s : Stop) → IsReadingOf file source_limit (whole bytes) → shown ≡ bytes
     → StageStops (CoreStage file.name shown) s → PartStops source_limit (SourceStage file.name) file s
 core_stopped file bytes shown (Refused status line) g same h =
     (whole bytes, g, goes (fits g.0) (has_none (subst (λ (b : Text). CoreStage file.name b (Err (refused status line))) same h)))

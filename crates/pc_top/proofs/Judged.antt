@@ -4,9 +4,9 @@ use Rattle.pc_ann.specs.declared.annotation.Ann.{Ann}
 use Rattle.pc_deriv.specs.Faults.{IsFault, Refuses}
 use Rattle.pc_deriv.specs.declared.fault.DerivFault.{DerivFault}
 use Rattle.pc_deriv.specs.declared.fault.DerivFault.TheVariants as deriv
-use Rattle.pc_words.specs.Asked.{Text}
+use Rattle.pc_args.specs.Asked.{Text}
 use Rattle.pc_io.specs.Change.{change}
-use Rattle.pc_top.specs.Ends.{Stops}
+use Rattle.pc_top.specs.Ends.{CommandStops}
 use Rattle.pc_top.specs.Judge.{IsTextRefusal, Deriving, Judging, Judged}
 use Rattle.pc_top.specs.Judge.Deriving.{garbled}
 use Rattle.pc_top.specs.Stages.{StageStops}
@@ -30,7 +30,7 @@ text_stops name bytes f Memory r h = tt
 
 -- the judge stops behind them
 pub judging_stops : (source_name name : Text) (s : Source) (ann : Ann) (Failed : Text → Type 0) (told : Option Text) (f g : ℕ) (stop : Stop)
-    → StageStops (Judging source_name name s ann) stop → Stops (Judged source_name name s ann) Failed (change told told f g) stop
+    → StageStops (Judging source_name name s ann) stop → CommandStops (Judged source_name name s ann) Failed (change told told f g) stop
 judging_stops source_name name s ann Failed told f g (Refused status line) h = (refused status line, (Err (refused status line), h, refl), refl, refl, unchanged told)
 judging_stops source_name name s ann Failed told f g (File n) h = absurd h
 judging_stops source_name name s ann Failed told f g Sink h = absurd h

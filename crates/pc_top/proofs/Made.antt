@@ -1,18 +1,18 @@
 -- From what the parts of `make` answer to how it ends.
-use Rattle.std.proofs.Common.{◌≡◌, ◌≤◌, ◌<◌, ℕ, ◌+◌, ◌++◌, length, take, drop, Option, Ok, Err, inl, inr, refl, sym, ap, ◌∙◌, subst, arith, append_assoc}
+use Rattle.std.proofs.Common.{◌≡◌, ◌≤◌, ◌<◌, ℕ, length, Option, Ok, Err, inl, inr, refl, sym, subst, arith}
 use Rattle.std.specs.Prelude.{Result}
 use Rattle.std.specs.Io.KnownBytes.{Appends}
 use Rattle.std.proofs.KnownBytes.{Appends-kept, Appends-trans}
-use Rattle.std.proofs.lemmas.List.{take-append-drop}
-use Rattle.std.proofs.Math.Seq.{take-append-add, take-append_seam, take-length}
+use Rattle.std.proofs.Math.Seq.{take-length}
 use Rattle.pc_gen.specs.Schedule.{schedule}
 use Rattle.pc_io.specs.Change.{Change, change}
-use Rattle.pc_io.specs.Sink.{GrowsByPrefix, Rose}
+use Rattle.pc_io.specs.Sink.{GrowsByPrefix}
+use Rattle.pc_io.proofs.Prefixes.{grows_more, grows_on, rose_before}
 use Rattle.pc_run.specs.Ends.{NeverLacks}
 use Rattle.pc_run.specs.Spreading.{spread}
-use Rattle.pc_words.specs.Asked.{Text}
+use Rattle.pc_args.specs.Asked.{Text}
 use Rattle.pc_top.specs.Answer.{IsWordsRefusal}
-use Rattle.pc_top.specs.Ends.{Ends, Stops, TellsPart}
+use Rattle.pc_top.specs.Ends.{Ends, CommandStops, TellsPart}
 use Rattle.pc_top.specs.Lines.{usage_line}
 use Rattle.pc_top.specs.Make.{IsMake, MadeRun, SpellsNone, made_line, made_name}
 use Rattle.pc_top.specs.Make.IsMake.{no_numbers}
@@ -26,28 +26,11 @@ use Rattle.pc_top.specs.declared.stop.Stop.TheVariants.{Refused, File, Sink, Mem
 use Rattle.pc_top.proofs.Parts.{kept, unchanged}
 use Rattle.pc_top.proofs.RunEnds.{has_verdict}
 
--- ---- what grows by parts
-
--- the first bytes of a are the first of what begins with a
-grows_more : (w x : Option Text) (a b : Text) → GrowsByPrefix w x a → GrowsByPrefix w x (a ++ b)
-grows_more w x a b (n, h) =
-    let front = take n a in
-    let all : front ++ (drop n a ++ b) ≡ a ++ b = sym (append_assoc front (drop n a) b) ∙ ap (λ l. l ++ b) (take-append-drop n a) in
-    let same : front ≡ take (length front) (a ++ b) = sym (take-append_seam front (drop n a ++ b)) ∙ ap (take (length front)) all in
-    (length front, subst (λ (t : Text). Appends w x t) same h)
-
--- what was written whole, and the first bytes of what followed
-grows_on : (w x y : Option Text) (a b : Text) → Appends w x a → GrowsByPrefix x y b → GrowsByPrefix w y (a ++ b)
-grows_on w x y a b h (n, k) = (length a + n, subst (λ (t : Text). Appends w y t) (sym (take-append-add a b n)) (Appends-trans w x y a (take n b) h k))
-
-rose_before : (f g h : ℕ) → f ≤ g → Rose g h → Rose f h
-rose_before f g h l r = omega (arith, l, r)
-
 -- ---- no run
 
 -- words that spell no numbers
 pub words_stop : (seed size : Text) (out : Option Text) (f g : ℕ) (s : Stop) → SpellsNone seed size → IsWordsRefusal s
-    → Stops (IsMake seed size) (λ n. ⊥) (change out out f g) s
+    → CommandStops (IsMake seed size) (λ n. ⊥) (change out out f g) s
 words_stop seed size out f g (Refused status line) none h =
     rw (h.0, h.1) (refused 2 usage_line, no_numbers none refl, refl, refl, unchanged out)
 words_stop seed size out f g (File name) none h = absurd h
@@ -85,18 +68,18 @@ module _ (seed size : ℕ) (accepted : Accepted) (safe : NeverLacks accepted.sou
       (headed line v.0, (v.0, v.1, refl), grows_more out.before out.now line v.0.out (length line, subst (λ (t : Text). Appends out.before out.now t) (sym (take-length line)) w))
 
   -- the line was not written
-  unwritten : (out : Change) (s : Stop) → WriteStops line out s → Stops (MadeRun seed size accepted) (λ n. ⊥) out s
+  unwritten : (out : Change) (s : Stop) → WriteStops line out s → CommandStops (MadeRun seed size accepted) (λ n. ⊥) out s
   unwritten out (Refused status text) w = absurd w
   unwritten out (File n) w = absurd w
   unwritten out Sink w = (w.0, line_part out w.1)
   unwritten out Memory w = inl w
 
-  pub line_stops : (out : Change) (text : Text) (s : Stop) → text ≡ line → WriteStops text out s → Stops (MadeRun seed size accepted) (λ n. ⊥) out s
+  pub line_stops : (out : Change) (text : Text) (s : Stop) → text ≡ line → WriteStops text out s → CommandStops (MadeRun seed size accepted) (λ n. ⊥) out s
   line_stops out text s e w = unwritten out s (subst (λ (t : Text). WriteStops t out s) e w)
 
   -- the line was written, and then the run ended so
   module _ (out : Change) (mid : Option Text) (g : ℕ) (later : out.faults_before ≤ g) (written : Appends out.before mid line) where
-    run_stops : (s : Stop) → Stops Runs (λ n. ⊥) (change mid out.now g out.faults_now) s → Stops (MadeRun seed size accepted) (λ n. ⊥) out s
+    run_stops : (s : Stop) → CommandStops Runs (λ n. ⊥) (change mid out.now g out.faults_now) s → CommandStops (MadeRun seed size accepted) (λ n. ⊥) out s
     run_stops (Refused status text) t = (headed line t.0, (t.0, t.1, refl), t.2, t.3, Appends-trans out.before mid out.now line t.0.out written t.4)
     run_stops (File n) t = absurd t.0
     run_stops Sink t =

@@ -26,7 +26,7 @@ use Rattle.pc_semantics.specs.Runs.{outcomes}
 use Rattle.pc_semantics.specs.Text.{end_of, run_text}
 use Rattle.pc_semantics.specs.declared.outcome.Outcome.{Outcome}
 use Rattle.pc_semantics.specs.declared.outcome.Outcome.TheVariants.{TooLong}
-use Rattle.pc_words.specs.Asked.{Text, Asked, check, judge, run, show, make, command_of}
+use Rattle.pc_args.specs.Asked.{Text, Asked, check, judge, run, show, make, command_of}
 use Rattle.pc_top.specs.After.{IsOne}
 use Rattle.pc_top.specs.Accepting.{AcceptedStage, Typing}
 use Rattle.pc_top.specs.Accepting.Typing.{typed, declared, no_rule, unset}

@@ -8,9 +8,9 @@ use Rattle.pc_lex.specs.Laws.{OneList, NotBoth, OneFault}
 use Rattle.pc_lex.specs.declared.fault.LexFault.{LexFault}
 use Rattle.pc_names.specs.Laws.{NotBoth as NotBothNames, OneFault as OneNameFault}
 use Rattle.pc_names.specs.declared.fault.NameFault.{NameFault}
-use Rattle.pc_program.specs.Laws.{OneCore, NotBoth as NotBothMembers, OneFault as OneMemberFault}
+use Rattle.pc_file_spec.specs.Laws.{OneCore, NotBoth as NotBothMembers, OneFault as OneMemberFault}
 use Rattle.pc_tree.specs.Tree as t
-use Rattle.pc_words.specs.Asked.{Text}
+use Rattle.pc_args.specs.Asked.{Text}
 use Rattle.pc_top.specs.After.{After, IsOne}
 use Rattle.pc_top.specs.After.After.{stops, goes}
 use Rattle.pc_top.specs.Faults.{fault_status, fault_line}

@@ -2,19 +2,19 @@
 use Rattle.std.proofs.Common.{◌≡◌, ◌≤◌, ◌<◌, ℕ, [], Option, Some, None, refl, inl, inr, Ok, Err, append-nil, sym, subst, arith}
 use Rattle.std.specs.Prelude.{Result}
 use Rattle.std.specs.Io.KnownBytes.{Appends, Keeps}
-use Rattle.pc_words.specs.Asked.{Text}
+use Rattle.pc_args.specs.Asked.{Text}
 use Rattle.pc_top.specs.After.{After}
 use Rattle.pc_top.specs.After.After.{stops, goes}
 use Rattle.pc_top.specs.FromFile.{FromFile}
 use Rattle.pc_top.specs.FromFile.FromFile.{refuses, goes_on}
 use Rattle.pc_top.specs.Lines.{longer_line}
 use Rattle.pc_io.specs.Change.{Change, change}
-use Rattle.pc_top.specs.Ends.{Ends, Stops}
+use Rattle.pc_top.specs.Ends.{Ends, CommandStops}
 use Rattle.pc_top.specs.Reading.{NotRead}
 use Rattle.pc_top.specs.Source.{Length}
 use Rattle.pc_top.specs.Source.Length.{fits}
 use Rattle.pc_top.specs.Stages.{PartStops, PartGives, PartEnds, StageEnds, Wrote}
-use Rattle.pc_top.specs.Named.{Reading, whole, longer, Named, Gives, IsReading, FailedAt}
+use Rattle.pc_top.specs.Named.{Reading, whole, longer, Named, IsReadingOf, IsReading, FailedAt}
 use Rattle.pc_top.specs.Verdict.{Verdict, refused, done}
 use Rattle.pc_top.specs.declared.stop.Stop.{Stop}
 use Rattle.pc_top.specs.declared.stop.Stop.TheVariants.{Refused, File, Sink, Memory}
@@ -38,7 +38,7 @@ text_ends V Failed out text (Err Memory) v w = inl w
 
 -- What the last part of a command ends in, ends the command.
 module _ (V W : Verdict → Type 0) (Own Failed : Text → Type 0) (out : Change) (by : (v : Verdict) → V v → W v) (also : (n : Text) → Own n → Failed n) where
-  stops_by : (s : Stop) → Stops V Own out s → Stops W Failed out s
+  stops_by : (s : Stop) → CommandStops V Own out s → CommandStops W Failed out s
   stops_by (Refused status line) h = (h.0, by h.0 h.1, h.2, h.3, h.4)
   stops_by (File name) h = (also name h.0, h.1)
   stops_by Sink h = (h.0, (h.1.0, by h.1.0 h.1.1, h.1.2))
@@ -60,7 +60,7 @@ module _ {T : Type 0} (limit : ℕ) (Stage : Reading → Result T Verdict → Ty
 
   -- a part that gave no value ends the command, and out is as before
   pub part_stops : (Last : T → Verdict → Type 0) (Failed : Text → Type 0) (file : Named) (told : Option Text) (f g : ℕ) (s : Stop)
-      → ((n : Text) → FailedAt file n → Failed n) → PartStops limit Stage file s → Stops (FromFile file limit Stage Last) Failed (change told told f g) s
+      → ((n : Text) → FailedAt file n → Failed n) → PartStops limit Stage file s → CommandStops (FromFile file limit Stage Last) Failed (change told told f g) s
   part_stops Last Failed file told f g (Refused status line) n h =
       (refused status line, refuses h.0 h.1 h.2, refl, refl, unchanged told)
   part_stops Last Failed file told f g (File name) n h = (n name h, kept told)
@@ -115,7 +115,7 @@ module _ {T : Type 0} (limit : ℕ) (Stage : Reading → Result T Verdict → Ty
 
 -- the stage of a file that was read whole
 pub whole_ends : {U : Type 0} (limit : ℕ) (Next : Text → Result U Verdict → Type 0) (file : Named) (bytes shown : Text) (result : Result U Stop)
-    → Gives file limit (whole bytes) → shown ≡ bytes → StageEnds (Next shown) result → PartEnds limit (λ r. After (Length limit file.name r) Next) file result
+    → IsReadingOf file limit (whole bytes) → shown ≡ bytes → StageEnds (Next shown) result → PartEnds limit (λ r. After (Length limit file.name r) Next) file result
 whole_ends limit Next file bytes shown (Ok x) g same e = (whole bytes, g, goes (fits g.0) (subst (λ (b : Text). Next b (Ok x)) same e))
 whole_ends limit Next file bytes shown (Err (Refused status line)) g same e = (whole bytes, g, goes (fits g.0) (subst (λ (b : Text). Next b (Err (refused status line))) same e))
 whole_ends limit Next file bytes shown (Err (File n)) g same e = absurd e

@@ -6,13 +6,13 @@ use Rattle.pc_check.specs.Laws.{NoneWithoutRule, NoneWithUnset, NoneWithFault}
 use Rattle.pc_core.specs.CoreData.{CoreData}
 use Rattle.pc_core.specs.Formed.{Formed}
 use Rattle.pc_rules.specs.Valid.{Derivable}
-use Rattle.pc_words.specs.Asked.{Text, Asked, check, judge, run, show, make, command_of}
+use Rattle.pc_args.specs.Asked.{Text, Asked, check, judge, run, show, make, command_of}
 use Rattle.pc_top.specs.After.After.{stops, goes}
 use Rattle.pc_top.specs.Accepting.{AcceptedStage, Typing}
 use Rattle.pc_top.specs.Accepting.Typing.{declared, no_rule, unset}
 use Rattle.pc_top.specs.Answer.{Answer}
 use Rattle.pc_top.specs.Answer.Answer.{told as answer_told, file as answer_file, out_failed, err_failed, file_err_failed, no_memory}
-use Rattle.pc_top.specs.Asked.{IsVerdict, IsVerdictOf, FailedIn, LacksOf, Lacks, OfMade, RefusedIsUnderivable}
+use Rattle.pc_top.specs.Asked.{IsVerdict, IsVerdictOf, FailedIn, HasNoDerivationOf, HasNoDerivation, OfMade, RefusedIsUnderivable}
 use Rattle.pc_top.specs.Check.{Derived}
 use Rattle.pc_top.specs.CoreOf.{CoresAreFormed, IsUnderivable}
 use Rattle.pc_io.specs.Change.{Change}
@@ -22,7 +22,7 @@ use Rattle.pc_top.specs.Judge.{Judging, IsJudge, judged}
 use Rattle.pc_top.specs.Judge.Judging.{holds, fails}
 use Rattle.pc_top.specs.Make.{IsMake, MadeRun, made_name, made_text}
 use Rattle.pc_top.specs.Make.IsMake.{made, no_numbers}
-use Rattle.pc_top.specs.Named.{Files, Named, Reading, Gives, named, text_as}
+use Rattle.pc_top.specs.Named.{Files, Named, Reading, IsReadingOf, named, text_as}
 use Rattle.pc_top.specs.Run.{Ran, Scheduled}
 use Rattle.pc_top.specs.Run.Ran.{whole, cut}
 use Rattle.pc_top.specs.Show.{IsShow}
@@ -74,7 +74,7 @@ module _ (formed : CoresAreFormed) (ruleless : NoneWithoutRule) (setless : NoneW
   typing_refuses {s = s} is (no_rule ann n h) d = ruleless s.core ann n is h d
   typing_refuses {s = s} is (unset ann m left) d = setless s.core ann m is left d
 
-  refused_underived : (file : Named) (r : Reading) (v : Verdict) → Gives file source_limit r → AcceptedStage file.name r (Err v) → v.status ≡ 1 → IfSome file.told IsUnderivable
+  refused_underived : (file : Named) (r : Reading) (v : Verdict) → IsReadingOf file source_limit r → AcceptedStage file.name r (Err v) → v.status ≡ 1 → IfSome file.told IsUnderivable
   refused_underived file r v g (stops h) e = absurd (other_not_one v.status (source_other h) e)
   refused_underived file r v g (goes {x = s} h t) e =
       of_told IsUnderivable file.told s.bytes (s.core, (source_says h).1, typing_refuses (source_formed formed h).0 t) (source_whole file r s g h).1
@@ -91,7 +91,7 @@ module _ (formed : CoresAreFormed) (ruleless : NoneWithoutRule) (setless : NoneW
       (a, b, s, t, underivable (text_as made_name (made_text a b)) (MadeRun a b) v (λ x l. made_not_one a b x v l) is e)
   make_underivable seed size v (no_numbers n is) e = let two : v.status ≡ 2 = ap (λ (x : Verdict). x.status) is in absurd (omega (arith, two, e))
 
-  verdict_refuses : (files : Files) (asked : Option Asked) (v : Verdict) → IsVerdictOf files asked v → v.status ≡ 1 → LacksOf files.told asked
+  verdict_refuses : (files : Files) (asked : Option Asked) (v : Verdict) → IsVerdictOf files asked v → v.status ≡ 1 → HasNoDerivationOf files.told asked
   verdict_refuses files None v is e = let two : v.status ≡ 2 = ap (λ (x : Verdict). x.status) is in absurd (omega (arith, two, e))
   verdict_refuses files (Some (check source)) v is e = (refl, underivable (named files source) Derived v (λ a l. derived_not_one a v l) is e)
   verdict_refuses files (Some (judge source derivation)) v is e = absurd (judge_not_one (named files source) (named files derivation) v is e)
@@ -103,7 +103,7 @@ module _ (formed : CoresAreFormed) (ruleless : NoneWithoutRule) (setless : NoneW
   refused_underivable files words v is e = verdict_refuses files (command_of words) v is e
 
 pub answer_refuses : RefusedIsUnderivable → (files : Files) (words : List Text) (out err : Change) (status : ℕ)
-    → Answer (IsVerdict files words) (FailedIn files words) out err status → status ≡ 1 → Lacks files.told words
+    → Answer (IsVerdict files words) (FailedIn files words) out err status → status ≡ 1 → HasNoDerivation files.told words
 answer_refuses law files words out err status (answer_told v is s o l) e = law files words v is (sym s ∙ e)
 answer_refuses law files words out err status (answer_file n f s o l) e = absurd (omega arith)
 answer_refuses law files words out err status (out_failed s r t l) e = absurd (omega arith)

@@ -1,9 +1,9 @@
 -- Commands that read two files, one after the other.
 use Rattle.std.proofs.Common.{◌≡◌, ◌≤◌, ℕ, [], ◌∷◌, Option, Ok, Err, inl, inr}
 use Rattle.std.specs.Prelude.{Result}
-use Rattle.pc_words.specs.Asked.{Text}
+use Rattle.pc_args.specs.Asked.{Text}
 use Rattle.pc_io.specs.Change.{Change, change}
-use Rattle.pc_top.specs.Ends.{Ends, Stops}
+use Rattle.pc_top.specs.Ends.{Ends, CommandStops}
 use Rattle.pc_top.specs.FromFile.{FromFile}
 use Rattle.pc_top.specs.Named.{FailedAmong, FailedAt, Files, Reading, file_at, files_change, longer, named}
 use Rattle.pc_top.specs.Stages.{PartGives, PartStops}
@@ -29,7 +29,7 @@ module _ {T U : Type 0} (first second : ℕ) (One : Reading → Result T Verdict
 
   -- b was refused or not read
   pub second_stops : (out : Option Text) (f g : ℕ) (s : Stop) → PartStops second Two (file_at later mid now last_taken b) s
-      → Stops (FromFile (named files a) first One Next) (FailedAmong files (a ∷ b ∷ [])) (change out out f g) s
+      → CommandStops (FromFile (named files a) first One Next) (FailedAmong files (a ∷ b ∷ [])) (change out out f g) s
   second_stops out f g s h =
       goes (change out out f g) (Err s) (part_stops second Two (Last x) (FailedAt (named files b)) (named files b) out f g s (λ n h. h)
       (stops_from_start second Two (named files b) (later b) (mid b) s same risen rises h))

@@ -16,7 +16,7 @@ use Rattle.pc_sched.specs.Limits.{schedule_limit}
 use Rattle.pc_sched.specs.Schedules.{TurnList}
 use Rattle.pc_sched.specs.declared.turns.Turn.{Turn}
 use Rattle.pc_semantics.specs.Text.{run_text}
-use Rattle.pc_words.specs.Asked.{Text, Asked, check, judge, run, show, make, command_of}
+use Rattle.pc_args.specs.Asked.{Text, Asked, check, judge, run, show, make, command_of}
 use Rattle.pc_top.specs.Accepting.{AcceptedStage}
 use Rattle.pc_top.specs.After.After.{goes}
 use Rattle.pc_top.specs.Answer.{Answer}
@@ -31,7 +31,7 @@ use Rattle.pc_top.specs.Judge.Judging.{holds, fails}
 use Rattle.pc_top.specs.CoreOf.{CoreOf}
 use Rattle.pc_top.specs.Make.{IsMade, IsMake, MadeRun, made_line, made_name, made_text}
 use Rattle.pc_top.specs.Make.IsMake.{made, no_numbers}
-use Rattle.pc_top.specs.Named.{Files, Named, Reading, whole, Gives, named, text_as}
+use Rattle.pc_top.specs.Named.{Files, Named, Reading, whole, IsReadingOf, named, text_as}
 use Rattle.pc_top.specs.OnOut.{WritesDerivation, WritesMade, WritesRun, WritesTree, OnOutOf, OnOut, WrittenIsAccepted}
 use Rattle.pc_top.specs.Run.{Ran, Scheduled, IsRun}
 use Rattle.pc_top.specs.Run.Ran.{whole as ran_whole, cut}
@@ -95,7 +95,7 @@ run_on_out file schedule v out is e o =
     let t = schedule_says q.3 in
     let core = p.1.source.core in
     let grew : Appends out.before out.now (run_text core (spread q.1)) = subst (λ (x : Text). Appends out.before out.now x) (ran_says q.4) o in
-    let read : Gives schedule schedule_limit (whole t.0) = subst (λ (x : Reading). Gives schedule schedule_limit x) t.1 q.2 in
+    let read : IsReadingOf schedule schedule_limit (whole t.0) = subst (λ (x : Reading). IsReadingOf schedule schedule_limit x) t.1 q.2 in
     let told : IfSome schedule.told (WritesRun out p.1.source.bytes) =
     of_told (WritesRun out p.1.source.bytes) schedule.told t.0 (core, (source_says s.0).1, q.1, t.2, grew) read.1 in
     of_told (λ bytes. IfSome schedule.told (WritesRun out bytes)) file.told p.1.source.bytes told (source_whole file p.0 p.1.source p.2 s.0).1
@@ -112,7 +112,7 @@ show_on_out file v out is e o =
     let p = passed file source_limit (FileStage file.name) Shown v (λ r h. other_refuses v.status (file_other h) e) is in
     let s = tree_says p.3 in
     let grew : Appends out.before out.now (printed p.1) = subst (λ (w : Verdict). Appends out.before out.now w.out) p.4 o in
-    let read : Gives file source_limit (whole s.0) = subst (λ (x : Reading). Gives file source_limit x) s.1 p.2 in
+    let read : IsReadingOf file source_limit (whole s.0) = subst (λ (x : Reading). IsReadingOf file source_limit x) s.1 p.2 in
     of_told (WritesTree out) file.told s.0 (s.2, s.3, p.1, s.4, grew) read.1
 
 -- ---- make
@@ -163,7 +163,7 @@ source_accepted files later source derivation text same given is =
     let p = passed (named files source) source_limit (AcceptedStage source) Derived (done text) (λ r h. accepted_refuses h (inl refl)) is in
     let s = accepted_source p.3 in
     let read = source_whole (named files source) p.0 p.1.source p.2 s.0 in
-    let again : Gives (named later source) source_limit (whole p.1.source.bytes) = told_same source_limit (files.told source) (later.told source) p.1.source.bytes same read in
+    let again : IsReadingOf (named later source) source_limit (whole p.1.source.bytes) = told_same source_limit (files.told source) (later.told source) p.1.source.bytes same read in
     let passes : SourceStage source (whole p.1.source.bytes) (Ok p.1.source) = subst (λ (q : Reading). SourceStage source q (Ok p.1.source)) (source_says s.0).0 s.0 in
     let is_text = subst (λ (t : Text). IsText t p.1.ann) (sym (out_same text p.4.0 p.4.2)) p.4.1 in
     let short = text_within text p.1.ann is_text in

@@ -1,7 +1,7 @@
 -- The verdict on the words of a command line.
 use Rattle.std.specs.Prelude.{ℕ, ◌≡◌, Option, Some, None, List, IfSome, IsTrue}
 use Rattle.pc_gen.specs.Numbers.{IsSeed, IsSize}
-use Rattle.pc_words.specs.Asked.{Text, Asked, check, judge, run, show, make, command_of}
+use Rattle.pc_args.specs.Asked.{Text, Asked, check, judge, run, show, make, command_of}
 use Rattle.pc_top.specs.Check.{IsCheck}
 use Rattle.pc_top.specs.Commands.{files_of, infers}
 use Rattle.pc_top.specs.CoreOf.{IsDerivable, IsUnderivable, HasSafeCore}
@@ -59,13 +59,13 @@ abbrev pub IsMadeSafe : (Text → Option Text) → List Text → Type 0
 IsMadeSafe told words = OfSource HasSafeCore told (command_of words)
 
 -- The command looks for a derivation of it, and it has a core without one.
-abbrev pub LacksOf : (Text → Option Text) → Option Asked → Type 0
-LacksOf told None = ⊥
-LacksOf told (Some asked) = IsTrue (infers asked) × OfSource IsUnderivable told (Some asked)
+abbrev pub HasNoDerivationOf : (Text → Option Text) → Option Asked → Type 0
+HasNoDerivationOf told None = ⊥
+HasNoDerivationOf told (Some asked) = IsTrue (infers asked) × OfSource IsUnderivable told (Some asked)
 
-abbrev pub Lacks : (Text → Option Text) → List Text → Type 0
-Lacks told words = LacksOf told (command_of words)
+abbrev pub HasNoDerivation : (Text → Option Text) → List Text → Type 0
+HasNoDerivation told words = HasNoDerivationOf told (command_of words)
 
 -- So it is at status 1.
 abbrev pub RefusedIsUnderivable : Type 0
-RefusedIsUnderivable = (files : Files) (words : List Text) (v : Verdict) → IsVerdict files words v → v.status ≡ 1 → Lacks files.told words
+RefusedIsUnderivable = (files : Files) (words : List Text) (v : Verdict) → IsVerdict files words v → v.status ≡ 1 → HasNoDerivation files.told words

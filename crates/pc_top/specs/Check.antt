@@ -1,7 +1,7 @@
 -- `check SRC`.
 use Rattle.std.specs.Prelude.{◌≡◌}
 use Rattle.pc_deriv.specs.Faults.{IsText}
-use Rattle.pc_words.specs.Asked.{Text}
+use Rattle.pc_args.specs.Asked.{Text}
 use Rattle.pc_top.specs.Accepting.{AcceptedStage}
 use Rattle.pc_top.specs.FromFile.{FromFile}
 use Rattle.pc_top.specs.Named.{Named}

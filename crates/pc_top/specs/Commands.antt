@@ -1,6 +1,6 @@
 -- What each command reads.
 use Rattle.std.specs.Prelude.{Bool, true, false, List, [], ◌∷◌, Option, Some, None}
-use Rattle.pc_words.specs.Asked.{Text, Asked, check, judge, make, run, show}
+use Rattle.pc_args.specs.Asked.{Text, Asked, check, judge, make, run, show}
 
 -- The files that a command reads, in this order.
 abbrev pub files_of : Asked → List Text

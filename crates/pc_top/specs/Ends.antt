@@ -3,7 +3,7 @@ use Rattle.std.specs.Prelude.{ℕ, ◌≡◌, ◌⊎◌, [], Result, MatchResult
 use Rattle.std.specs.Io.KnownBytes.{Appends, Keeps}
 use Rattle.pc_io.specs.Change.{Change}
 use Rattle.pc_io.specs.Sink.{Rose, GrowsByPrefix}
-use Rattle.pc_words.specs.Asked.{Text}
+use Rattle.pc_args.specs.Asked.{Text}
 use Rattle.pc_top.specs.Verdict.{Verdict}
 use Rattle.pc_top.specs.declared.stop.Stop.{Stop}
 use Rattle.pc_top.specs.declared.stop.Stop.TheVariants.{Refused, File, Sink, Memory}
@@ -16,11 +16,11 @@ Tells V out status line = (v : Verdict) × V v × (v.status ≡ status) × (v.er
 abbrev pub TellsPart : (Verdict → Type 0) → Change → Type 0
 TellsPart V out = (v : Verdict) × V v × GrowsByPrefix out.before out.now v.out
 
-abbrev pub Stops : (Verdict → Type 0) → (Text → Type 0) → Change → Stop → Type 0
-Stops V Failed out (Refused status line) = Tells V out status line
-Stops V Failed out (File name) = Failed name × Keeps out.before out.now
-Stops V Failed out Sink = Rose out.faults_before out.faults_now × TellsPart V out
-Stops V Failed out Memory = Keeps out.before out.now ⊎ TellsPart V out
+abbrev pub CommandStops : (Verdict → Type 0) → (Text → Type 0) → Change → Stop → Type 0
+CommandStops V Failed out (Refused status line) = Tells V out status line
+CommandStops V Failed out (File name) = Failed name × Keeps out.before out.now
+CommandStops V Failed out Sink = Rose out.faults_before out.faults_now × TellsPart V out
+CommandStops V Failed out Memory = Keeps out.before out.now ⊎ TellsPart V out
 
 abbrev pub Ends : (Verdict → Type 0) → (Text → Type 0) → Change → Result (Unit {0}) Stop → Type 0
-Ends V Failed out result = MatchResult result (λ _. Tells V out 0 []) (Stops V Failed out)
+Ends V Failed out result = MatchResult result (λ _. Tells V out 0 []) (CommandStops V Failed out)

@@ -9,7 +9,7 @@ use Rattle.pc_judge.specs.Faults.{FirstFault}
 use Rattle.pc_judge.specs.declared.faults.JudgeFault.{JudgeFault}
 use Rattle.pc_judge.specs.declared.faults.JudgeFault.TheVariants as fault
 use Rattle.pc_top.specs.After.{After}
-use Rattle.pc_words.specs.Asked.{Text}
+use Rattle.pc_args.specs.Asked.{Text}
 use Rattle.pc_top.specs.CoreFaults.{decl_offset, decl_text}
 use Rattle.pc_top.specs.FromFile.{FromFile}
 use Rattle.pc_top.specs.Lines.{line_end, bad_line, many_line, shape_line, slot_line, node_line, unset_line}

@@ -1,6 +1,6 @@
 -- The lines on err, and the first line of `make`.
 use Rattle.std.specs.Prelude.{ℕ, [], ◌∷◌, ◌++◌, codes, decimal}
-use Rattle.pc_words.specs.Asked.{Text}
+use Rattle.pc_args.specs.Asked.{Text}
 
 abbrev pub line_end : Text
 line_end = 10 ∷ []
@@ -26,7 +26,7 @@ abbrev pub too_long_line : Text → ℕ → Text
 too_long_line name n = name ++ (codes ": text too long at step " ++ (decimal n ++ line_end))
 
 -- A made program: its seed, its size and how many nodes its core has.
-abbrev pub counts_line : ℕ → ℕ → ℕ → Text
+abbrev pub counts_line : (seed size nodes : ℕ) → Text
 counts_line seed size nodes = codes "seed " ++ (decimal seed ++ (codes " size " ++ (decimal size ++ (codes " nodes " ++ (decimal nodes ++ line_end)))))
 
 -- What is wrong with a derivation: a line that is not of its form, too many of them, other counts than the source's, a slot,

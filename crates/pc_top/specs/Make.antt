@@ -5,7 +5,7 @@ use Rattle.pc_gen.specs.Program.{program}
 use Rattle.pc_gen.specs.Schedule.{schedule}
 use Rattle.pc_print.specs.Printing.{printed}
 use Rattle.pc_run.specs.Spreading.{spread}
-use Rattle.pc_words.specs.Asked.{Text}
+use Rattle.pc_args.specs.Asked.{Text}
 use Rattle.pc_top.specs.Accepting.{AcceptedStage}
 use Rattle.pc_top.specs.FromFile.{FromFile}
 use Rattle.pc_top.specs.Lines.{counts_line, usage_line}

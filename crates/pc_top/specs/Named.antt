@@ -1,6 +1,6 @@
 -- The files of a command, and what reading one gives.
 use Rattle.std.specs.Prelude.{ℕ, ◌≡◌, ◌<◌, ◌≤◌, ◌⊎◌, List, [], ◌∷◌, length, Option, Some, IfSome, IsSome}
-use Rattle.pc_words.specs.Asked.{Text}
+use Rattle.pc_args.specs.Asked.{Text}
 
 -- A file by its name: the bytes that are told, and how often its reading had failed before and after a call.
 pub record Named : Type 0 where
@@ -26,13 +26,13 @@ pub data Reading : Type 0 where
   longer : Reading
 
 -- A reading of a file that tells these bytes gives this. Where its failures rose, `longer` may be wrong.
-abbrev pub IsReading : ℕ → Option (List ℕ) → ℕ → ℕ → ℕ → Reading → Type 0
+abbrev pub IsReading : (limit : ℕ) → Option (List ℕ) → (before now taken : ℕ) → Reading → Type 0
 IsReading limit told before now taken (whole bytes) = (length bytes ≤ limit) × IfSome told (λ b. bytes ≡ b)
 IsReading limit told before now taken longer = (limit < taken) × (now ≡ before → IfSome told (λ b. limit < length b))
 
 -- Reading the file up to a limit gives this.
-abbrev pub Gives : Named → ℕ → Reading → Type 0
-Gives file limit reading = IsReading limit file.told file.before file.now file.taken reading
+abbrev pub IsReadingOf : Named → ℕ → Reading → Type 0
+IsReadingOf file limit reading = IsReading limit file.told file.before file.now file.taken reading
 
 -- This is the file's name, and its failures rose.
 abbrev pub FailedAt : Named → Text → Type 0

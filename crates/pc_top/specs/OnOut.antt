@@ -16,7 +16,7 @@ use Rattle.pc_sched.specs.Schedules.{TurnList}
 use Rattle.pc_sched.specs.declared.turns.Turn.{Turn}
 use Rattle.pc_semantics.specs.Text.{run_text}
 use Rattle.pc_deriv.specs.Faults.{IsText}
-use Rattle.pc_words.specs.Asked.{Text, Asked, check, judge, run, show, make, command_of}
+use Rattle.pc_args.specs.Asked.{Text, Asked, check, judge, run, show, make, command_of}
 use Rattle.pc_top.specs.Asked.{IsVerdict}
 use Rattle.pc_top.specs.CoreOf.{CoreOf}
 use Rattle.pc_io.specs.Change.{Change}

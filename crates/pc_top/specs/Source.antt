@@ -10,9 +10,9 @@ use Rattle.pc_core.specs.CoreData.{CoreData}
 use Rattle.pc_names.specs.Laws.{OfFile}
 use Rattle.pc_names.specs.Names.{IsNameFault}
 use Rattle.pc_names.specs.declared.fault.NameFault.{NameFault}
-use Rattle.pc_program.specs.Cores.{Stands, IsElabFault}
+use Rattle.pc_file_spec.specs.Cores.{Stands, IsElabFault}
 use Rattle.pc_top.specs.After.{After}
-use Rattle.pc_words.specs.Asked.{Text}
+use Rattle.pc_args.specs.Asked.{Text}
 use Rattle.pc_top.specs.Refusal.{offset_line}
 use Rattle.pc_top.specs.Faults.{fault_status, fault_line}
 use Rattle.pc_top.specs.Lines.{longer_line}

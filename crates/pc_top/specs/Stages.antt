@@ -2,9 +2,9 @@
 use Rattle.std.specs.Prelude.{ℕ, Result, Ok, Err, MatchResult}
 use Rattle.std.specs.Io.KnownBytes.{Appends, Keeps}
 use Rattle.pc_io.specs.Sink.{Rose, GrowsByPrefix}
-use Rattle.pc_words.specs.Asked.{Text}
+use Rattle.pc_args.specs.Asked.{Text}
 use Rattle.pc_io.specs.Change.{Change}
-use Rattle.pc_top.specs.Named.{Reading, Named, Gives, FailedAt}
+use Rattle.pc_top.specs.Named.{Reading, Named, IsReadingOf, FailedAt}
 use Rattle.pc_top.specs.Verdict.{Verdict, refused}
 use Rattle.pc_top.specs.declared.stop.Stop.{Stop}
 use Rattle.pc_top.specs.declared.stop.Stop.TheVariants.{Refused, File, Sink, Memory}
@@ -12,14 +12,14 @@ use Rattle.pc_top.specs.declared.stop.Stop.TheVariants.{Refused, File, Sink, Mem
 -- Why a part that reads one file and goes through its stages gave no value: a stage refused, the file's faults
 -- rose, or want of memory.
 abbrev pub PartStops : {T : Type 0} → ℕ → (Reading → Result T Verdict → Type 0) → Named → Stop → Type 0
-PartStops limit Stage file (Refused status line) = (r : Reading) × Gives file limit r × Stage r (Err (refused status line))
+PartStops limit Stage file (Refused status line) = (r : Reading) × IsReadingOf file limit r × Stage r (Err (refused status line))
 PartStops limit Stage file (File name) = FailedAt file name
 PartStops limit Stage file Sink = ⊥
 PartStops limit Stage file Memory = Unit {0}
 
 -- The part gave this value.
 abbrev pub PartGives : {T : Type 0} → ℕ → (Reading → Result T Verdict → Type 0) → Named → T → Type 0
-PartGives limit Stage file x = (r : Reading) × Gives file limit r × Stage r (Ok x)
+PartGives limit Stage file x = (r : Reading) × IsReadingOf file limit r × Stage r (Ok x)
 
 -- How a part ended.
 abbrev pub PartEnds : {T : Type 0} → ℕ → (Reading → Result T Verdict → Type 0) → Named → Result T Stop → Type 0

@@ -11,15 +11,15 @@ use pc_check::{
 };
 use pc_deriv::annotations_are_one;
 use pc_elab::cores_are_formed;
+use pc_file_spec::cores_are_one;
 use pc_grammar::files_are_read;
 use pc_judge::{faulted_is_not_valid, one_fault_is_first};
 use pc_lex::{faults_are_told, tokens_are_one};
 use pc_names::names_are_one;
 use pc_order::tokens_are_in_order;
-use pc_program::cores_are_one;
+use pc_regions::valid_is_safe;
 use pc_rules::one_annotation_is_valid;
 use pc_sched::turns_are_one;
-use pc_sound::valid_is_safe;
 use pc_sub::no_fault_where_declarations_fit;
 
 /// The core of a source fits together, and is so small that its annotations have a text.

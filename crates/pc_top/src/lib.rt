@@ -1,4 +1,10 @@
 //! The top call: all that the program does, from its words, files and sinks to its exit status.
+//!
+//! Proved: The six clauses of `rcap`, and the laws beside it: there is one verdict (`verdict_is_one`), the statuses of
+//! a told source are exact (`statuses_are_exact`), what `check` writes `judge` accepts
+//! (`written_derivations_are_accepted`), a source that is refused with 1 has no derivation
+//! (`refused_sources_have_no_derivation`), one that has a derivation is safe (`derivable_sources_are_safe`), and the
+//! core of a source is formed (`cores_of_sources_are_formed`).
 #![tactic(auto)]
 
 mod accepting;

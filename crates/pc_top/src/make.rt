@@ -18,7 +18,7 @@ use crate::writing::put_text;
 use pc_gen::{make, schedule_of, seed_of, size_of};
 use pc_io::{Bytes, Sink};
 use pc_print::print;
-use pc_sound::accepted_never_lacks;
+use pc_types::accepted_never_lacks;
 use std::alloc::Global;
 
 /// How lines name the source and the schedule of a made program.

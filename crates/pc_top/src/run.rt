@@ -20,7 +20,7 @@ use pc_io::{Files, Sink};
 use pc_machine::start;
 use pc_run::{RunFault, run};
 use pc_sched::Turn;
-use pc_sound::accepted_never_lacks;
+use pc_types::accepted_never_lacks;
 use std::alloc::Global;
 
 /// Runs a source by a schedule: writes the texts that are printed, and the line of the run's numbers.

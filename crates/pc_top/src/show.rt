@@ -1,7 +1,7 @@
 //! `show SRC`.
 ghost use Rattle.std.specs.Prelude.{◌≡◌, ◌≤◌, ℕ, List as Sequence, [], ◌∷◌, length};
 ghost use Rattle.pc_io.specs.Change.{change};
-ghost use Rattle.pc_lex.specs.Limits.{text_limit};
+ghost use Rattle.pc_lex.specs.Limits.{bytes_limit};
 ghost use Rattle.pc_tree.specs.View.{file_view};
 ghost use Rattle.pc_top.specs.Ends.{Ends};
 ghost use Rattle.pc_top.specs.Named.{FailedAmong, files_change, named};
@@ -22,7 +22,7 @@ use std::alloc::Global;
 
 // The tree of the source of this name with these bytes.
 fn parse_source(alloc: Global, name: &str, bytes: &[u8]) -> Result<File, Stop>
-    requires { length bytes.now ≤ text_limit }
+    requires { length bytes.now ≤ bytes_limit }
     ensures { StageEndsAs file_view (SyntaxStage name.now bytes.now) result }
 {
     let tokens = read_tokens(alloc, name, bytes)?;

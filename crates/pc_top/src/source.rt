@@ -1,7 +1,7 @@
 //! The source's stages, which every command goes through first: its length, its tokens, its tree and its core.
 ghost use Rattle.std.specs.Prelude.{◌≡◌, ◌≤◌, ℕ, List as Sequence, length};
 ghost use Rattle.pc_elab.specs.Cores.{Spelled};
-ghost use Rattle.pc_lex.specs.Limits.{text_limit};
+ghost use Rattle.pc_lex.specs.Limits.{bytes_limit};
 ghost use Rattle.pc_tree.specs.View.{file_view};
 ghost use Rattle.pc_top.specs.Named.{file_at, text_as};
 ghost use Rattle.pc_top.specs.Source.{CoreStage, Elaborating, Lexing, SourceStage, source_limit};
@@ -62,7 +62,7 @@ pub fn take_source(alloc: Global, name: &str, bytes: Bytes) -> Result<Source, St
 
 // Goes through the stages behind its length.
 fn read_core(alloc: Global, name: &str, bytes: &[u8]) -> Result<Core, Stop>
-    requires { length bytes.now ≤ text_limit }
+    requires { length bytes.now ≤ bytes_limit }
     ensures { StageEnds (CoreStage name.now bytes.now) result }
 {
     let tokens = read_tokens(alloc, name, bytes)?;
@@ -88,7 +88,7 @@ fn elaborate_tree(alloc: Global, name: &str, bytes: &[u8], file: &File) -> Resul
 
 /// The tokens of the source of this name with these bytes.
 pub fn read_tokens(alloc: Global, name: &str, bytes: &[u8]) -> Result<List<Token>, Stop>
-    requires { length bytes.now ≤ text_limit }
+    requires { length bytes.now ≤ bytes_limit }
     ensures { StageEnds (Lexing name.now bytes.now) result }
 {
     match lex(alloc, bytes) {

@@ -1,8 +1,8 @@
 //! The top call.
 ghost use Rattle.std.specs.Prelude.{◌≡◌, ◌≤◌};
 ghost use Rattle.pc_top.specs.Answer.{Answer};
-ghost use Rattle.pc_top.specs.Asked.{Accepts, FailedIn, IsMadeSafe, IsVerdict, Lacks};
-ghost use Rattle.pc_words.specs.Asked.{texts};
+ghost use Rattle.pc_top.specs.Asked.{Accepts, FailedIn, IsMadeSafe, IsVerdict, HasNoDerivation};
+ghost use Rattle.pc_args.specs.Asked.{texts};
 ghost use Rattle.pc_top.specs.Complete.{Completes};
 ghost use Rattle.pc_io.specs.Change.{change};
 ghost use Rattle.pc_top.specs.Ends.{Ends};
@@ -19,8 +19,8 @@ use crate::run::run_program;
 use crate::show::run_show;
 use crate::stop::Stop;
 use crate::words::refuse_words;
+use pc_args::{Command, WordsFault, read_words};
 use pc_io::{Files, Sink};
-use pc_words::{Command, WordsFault, read_words};
 use std::alloc::Global;
 
 /// Does what the words after the program's name ask for, and answers the exit status.
@@ -54,7 +54,7 @@ pub fn rcap<F: Files, O: Sink, E: Sink>(
     ensures safe { IsAccepting result → IsMadeSafe (F.bytes files.old) (texts words.now) }
 
     // The source or the made program that is refused with status 1 has a core, and the core has no derivation.
-    ensures refused { result ≡ 1 → Lacks (F.bytes files.old) (texts words.now) }
+    ensures refused { result ≡ 1 → HasNoDerivation (F.bytes files.old) (texts words.now) }
 
     // The derivation of the source, `accepted`, the text of the run, the printed tree, or the made program's numbers and the
     // text of its run are on out.

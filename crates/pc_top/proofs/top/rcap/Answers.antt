@@ -1,5 +1,5 @@
 use Rattle.pc_top.specs.Asked.{IsVerdict, FailedIn}
-use Rattle.pc_words.specs.Asked.{texts}
+use Rattle.pc_args.specs.Asked.{texts}
 use Rattle.pc_io.specs.Change.{change}
 use Rattle.pc_top.specs.Named.{files_change}
 use Rattle.pc_top.proofs.Accepted.{accepted_safe, answer_accepts}

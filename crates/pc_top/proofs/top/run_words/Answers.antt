@@ -1,6 +1,6 @@
 use Rattle.std.proofs.Common.{inl}
-use Rattle.pc_words.specs.Asked.{check, judge, make, run, show, texts}
-use Rattle.pc_words.proofs.Refusals.{asks_nothing}
+use Rattle.pc_args.specs.Asked.{check, judge, make, run, show, texts}
+use Rattle.pc_args.proofs.Refusals.{asks_nothing}
 use Rattle.pc_top.specs.Named.{files_change}
 use Rattle.pc_top.proofs.Answers.{words_refused, words_end}
 use Rattle.pc_top.proofs.Parts.{kept}

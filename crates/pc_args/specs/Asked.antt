@@ -1,0 +1,57 @@
+-- What the words of a command line ask for.
+use Rattle.std.specs.Prelude.{ℕ, List, [], ◌∷◌, Bool, true, false, not, ◌&&◌, Option, Some, None, map, codes, if◌then◌else◌, option_and_then, unwrap_or}
+use Rattle.std.specs.Str.{bytes_eq}
+use Rattle.std.specs.Borrow.{Bor}
+use Rattle.clap.specs.Kinds.{Kinds}
+use Rattle.clap.specs.Words.{Row, fault_of, first_of, subcommand_of, takes}
+use Rattle.pc_args.specs.Line.{rcap}
+use Rattle.pc_args.specs.declared.words.Command.{Command}
+use Rattle.pc_args.specs.declared.words.Command.TheVariants.{Check, Judge, Run, Show, Make}
+
+abbrev pub Text : Type 0
+Text = List ℕ
+
+-- the words, each as its bytes
+abbrev pub texts : List (Bor Text) → List Text
+texts words = map (λ w. w.now) words
+
+-- What words ask for, with the names and numbers as given.
+pub data Asked : Type 0 where
+  check : Text → Asked
+  judge : Text → Text → Asked
+  run : Text → Text → Asked
+  show : Text → Asked
+  make : Text → Text → Asked
+
+abbrev pub asked_by : Command → Asked
+asked_by (Check source) = check source.now
+asked_by (Judge source derivation) = judge source.now derivation.now
+asked_by (Run source schedule) = run source.now schedule.now
+asked_by (Show source) = show source.now
+asked_by (Make seed size) = make seed.now size.now
+
+-- the value of the argument of this name
+abbrev pub value : Text → List Row → Text
+value id rows = unwrap_or (first_of id rows) []
+
+-- What a subcommand asks for with the values of its arguments. There are no others.
+abbrev pub named : Text × List Row → Option Asked
+named p = if bytes_eq p.0 (codes "check") then Some (check (value (codes "SRC") p.1))
+    else if bytes_eq p.0 (codes "judge") then Some (judge (value (codes "SRC") p.1) (value (codes "DERIV") p.1))
+    else if bytes_eq p.0 (codes "run") then Some (run (value (codes "SRC") p.1) (value (codes "SCHED") p.1))
+    else if bytes_eq p.0 (codes "show") then Some (show (value (codes "SRC") p.1))
+    else if bytes_eq p.0 (codes "make") then Some (make (value (codes "SEED") p.1) (value (codes "SIZE") p.1))
+    else None
+
+-- whether there is a fault among these
+abbrev pub has_fault : Kinds → Bool
+has_fault [] = false
+has_fault (k ∷ ks) = true
+
+-- Words are refused that the command line does not take, and with which it finds a fault.
+unfoldable pub is_refused : List Text → Bool
+is_refused words = not (takes rcap words) && has_fault (fault_of rcap words)
+
+-- The command that words ask for: what the subcommand in them asks for, unless they are refused.
+unfoldable pub command_of : List Text → Option Asked
+command_of words = if is_refused words then None else option_and_then named (subcommand_of rcap words)

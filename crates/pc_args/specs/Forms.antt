@@ -1,0 +1,39 @@
+-- The written forms of commands.
+use Rattle.std.specs.Prelude.{◌≡◌, ◌==◌, Bool, true, false, not, List, [], ◌∷◌, Some, codes}
+use Rattle.clap.specs.Words.{takes}
+use Rattle.pc_args.specs.Asked.{Asked, Text, check, command_of, judge, make, run, show}
+use Rattle.pc_args.specs.Line.{rcap}
+
+-- A name or number that is not empty and does not begin with `-`.
+abbrev pub is_plain : Text → Bool
+is_plain [] = false
+is_plain (first ∷ rest) = not (first == 45)
+
+abbrev pub check_words : Text → List Text
+check_words source = codes "check" ∷ source ∷ []
+
+abbrev pub judge_words : Text → Text → List Text
+judge_words source derivation = codes "judge" ∷ source ∷ derivation ∷ []
+
+abbrev pub run_words : Text → Text → List Text
+run_words source schedule = codes "run" ∷ source ∷ schedule ∷ []
+
+abbrev pub show_words : Text → List Text
+show_words source = codes "show" ∷ source ∷ []
+
+abbrev pub make_words : Text → Text → List Text
+make_words seed size = codes "make" ∷ seed ∷ size ∷ []
+
+-- The command line takes the words, and this is what they ask for.
+abbrev pub AskFor : List Text → Asked → Type 0
+AskFor words asked = (takes rcap words ≡ true) × (command_of words ≡ Some asked)
+
+-- Each form with plain names and numbers asks for its command.
+pub record WrittenFormsAreTaken : Type 0 where
+  pub checks : (source : Text) → is_plain source ≡ true → AskFor (check_words source) (check source)
+  pub judges : (source derivation : Text) → is_plain source ≡ true → is_plain derivation ≡ true
+      → AskFor (judge_words source derivation) (judge source derivation)
+  pub runs : (source schedule : Text) → is_plain source ≡ true → is_plain schedule ≡ true
+      → AskFor (run_words source schedule) (run source schedule)
+  pub shows : (source : Text) → is_plain source ≡ true → AskFor (show_words source) (show source)
+  pub makes : (seed size : Text) → is_plain seed ≡ true → is_plain size ≡ true → AskFor (make_words seed size) (make seed size)

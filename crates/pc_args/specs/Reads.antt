@@ -1,0 +1,14 @@
+-- How the reading of words ends.
+use Rattle.std.specs.Prelude.{◌≡◌, true, List, Some, Result, MatchResult}
+use Rattle.pc_args.specs.Asked.{Text, asked_by, command_of, is_refused}
+use Rattle.pc_args.specs.declared.words.Command.{Command}
+use Rattle.pc_args.specs.declared.words.WordsFault.{WordsFault}
+use Rattle.pc_args.specs.declared.words.WordsFault.TheVariants.{Refused, Memory}
+
+abbrev pub StopsAt : List Text → WordsFault → Type 0
+StopsAt words Refused = is_refused words ≡ true
+StopsAt words Memory = Unit {0}
+
+-- With the command that they ask for, or since they are refused, or for want of memory.
+abbrev pub Reads : List Text → Result Command WordsFault → Type 0
+Reads words result = MatchResult result (λ command. command_of words ≡ Some (asked_by command)) (StopsAt words)

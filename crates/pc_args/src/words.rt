@@ -1,0 +1,100 @@
+//! What the words of a command line ask for.
+ghost use Rattle.std.specs.Prelude.{◌≡◌, option_and_then, option_map};
+ghost use Rattle.clap.specs.Words.{found_of, rows_of, subcommand_rows_of};
+ghost use Rattle.pc_args.specs.Asked.{asked_by, named, texts, value};
+ghost use Rattle.pc_args.specs.Reads.{Reads};
+
+use crate::line::read_matches;
+use clap::ArgMatches;
+use clap::error::ErrorKind;
+use std::alloc::Global;
+
+/// What words ask for, with the names and numbers as given.
+#[derive(Clone, Copy, Debug)]
+pub enum Command<'a> {
+    /// To check a source.
+    Check {
+        source: &'a str,
+    },
+    /// To judge a derivation of a source.
+    Judge {
+        source: &'a str,
+        derivation: &'a str,
+    },
+    /// To run a source by a schedule.
+    Run {
+        source: &'a str,
+        schedule: &'a str,
+    },
+    /// To print a source.
+    Show {
+        source: &'a str,
+    },
+    /// To make a program from a number, and to run it.
+    Make {
+        seed: &'a str,
+        size: &'a str,
+    },
+}
+
+/// Why words ask for nothing.
+#[derive(Clone, Copy, Debug)]
+pub enum WordsFault {
+    /// The command line does not take them.
+    Refused,
+    /// Want of memory.
+    Memory,
+}
+
+/// Reads the words after the program's name. Whatever they ask for by their definition is the answer, or they are refused,
+/// or memory ran out.
+pub fn read_words<'a>(alloc: Global, words: &'a [&'a str]) -> Result<Command<'a>, WordsFault>
+    ensures { Reads (texts words.entry.now) result }
+{
+    match read_matches(alloc, words) {
+        Ok(matches) => match command_in(&matches) {
+            Some(command) => Ok(command),
+            None => Err(WordsFault::Refused),
+        },
+        Err(error) if error.kind() == ErrorKind::OutOfMemory => Err(WordsFault::Memory),
+        Err(_) => Err(WordsFault::Refused),
+    }
+}
+
+// The command that matches name.
+fn command_in<'a>(matches: &ArgMatches<'a>) -> Option<Command<'a>>
+    ensures { option_map asked_by result ≡ option_and_then named (subcommand_rows_of matches.now) }
+{
+    let (name, own) = matches.subcommand()?;
+    match name {
+        "check" => Some(Command::Check {
+            source: value_of(own, "SRC"),
+        }),
+        "judge" => Some(Command::Judge {
+            source: value_of(own, "SRC"),
+            derivation: value_of(own, "DERIV"),
+        }),
+        "run" => Some(Command::Run {
+            source: value_of(own, "SRC"),
+            schedule: value_of(own, "SCHED"),
+        }),
+        "show" => Some(Command::Show {
+            source: value_of(own, "SRC"),
+        }),
+        "make" => Some(Command::Make {
+            seed: value_of(own, "SEED"),
+            size: value_of(own, "SIZE"),
+        }),
+        _ => None,
+    }
+}
+
+// The value of an argument, or the empty text.
+fn value_of<'a>(matches: &ArgMatches<'a>, id: &str) -> &'a str
+    ensures { result.now ≡ value id.now (rows_of (found_of matches.now)) }
+{
+    match matches.get_str(id) {
+        Some(text) => text,
+        None => "",
+    }
+}

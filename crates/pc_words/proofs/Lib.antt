@@ -1,5 +1,0 @@
-mod Forms
-mod Known
-mod Missing
-pub mod Refusals
-mod Rows
