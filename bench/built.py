@@ -1,0 +1,34 @@
+"""Which program the scripts of this folder try."""
+
+import pathlib
+import subprocess
+import sys
+
+TOP = pathlib.Path(__file__).resolve().parent.parent
+
+# The program that `rcap` at the top builds and then becomes. It is called itself, so that only its own time and memory are seen.
+BUILT = TOP / "crates" / "pc_cli" / "out" / "pc_cli"
+
+# The status of a call without words.
+NO_WORDS = 2
+
+
+def add_program(parser):
+    """Adds the option that names another program."""
+    parser.add_argument("--program", metavar="PATH", help="the built program; without it rcap at the top builds one")
+
+
+def program_of(options):
+    """The path of the program to try, which is there. Builds it where no other is named."""
+    program = BUILT
+    if options.program is not None:
+        program = pathlib.Path(options.program).resolve()
+    else:
+        # What it writes belongs to the build; a failed one shows below.
+        subprocess.run([TOP / "rcap"], stdin=subprocess.DEVNULL, check=False)
+    if not program.is_file():
+        sys.exit(f"no program {program}")
+    ended = subprocess.run([program], stdin=subprocess.DEVNULL, capture_output=True, check=False)
+    if ended.returncode != NO_WORDS:
+        sys.exit(f"{program} without words ends with {ended.returncode}, and not with {NO_WORDS}")
+    return str(program)

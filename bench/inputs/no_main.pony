@@ -1,0 +1,2 @@
+class C
+  fun value(): U64 => 1

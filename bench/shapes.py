@@ -1,0 +1,451 @@
+"""The sources that cost most for their size, each at a part of its limit. A source is written piece by piece.
+
+The counts keep within the limits of docs/commands.md at the whole, and come as close to one of them as their form lets them.
+"""
+
+import dataclasses
+import itertools
+import typing
+
+ACCEPTED = 0
+NO_RULE = 1
+NO_TOKENS = 3
+WRONG_NAMES = 4
+LIMIT = 8
+
+SHAPES = []
+
+
+@dataclasses.dataclass
+class Shape:
+    """A form of source: what it is called, the pieces of its text at a part, and the statuses of `check` and of `show`."""
+
+    title: str
+    pieces: typing.Callable
+    checked: int
+    shown: int
+
+
+def shape(title, checked=ACCEPTED, shown=ACCEPTED):
+    """Puts a function from a part, as 0.25, to the pieces of a text among the shapes."""
+
+    def put(pieces):
+        SHAPES.append(Shape(title, pieces, checked, shown))
+        return pieces
+
+    return put
+
+
+def numbered(part, whole):
+    """The numbers below this part of the whole."""
+    return range(int(part * whole))
+
+
+def lines(count, text):
+    """So many lines of one text."""
+    for _ in range(count):
+        yield text + "\n"
+
+
+def joined(count, sign, text):
+    """So many times one text, with a sign between two."""
+    yield text
+    for _ in range(count - 1):
+        yield sign + text
+
+
+def main_with(items, members=()):
+    """An actor Main with these members before its constructor, and with these items in it."""
+    yield "actor Main\n"
+    yield from members
+    yield "  new create(env: Env) =>\n"
+    yield from items
+
+
+def nested(count, levels, opening, inside, closing):
+    """So many items, each of so many levels."""
+    return lines(count, opening * levels + inside + closing * levels)
+
+
+def levels_at(part):
+    """The levels below that of a body."""
+    return int(part * 199)
+
+
+# Tokens and nodes.
+
+
+@shape("tokens: 199,990 numbers, one a line")
+def numbers(part):
+    yield from main_with(lines(int(part * 199_990), "0"))
+
+
+@shape("nodes: 99,997 reads of a field")
+def reads(part):
+    yield from main_with(lines(int(part * 99_997), "_f"), ["  var _f: U64 = 0\n"])
+
+
+@shape("a chain of 99,990 operands")
+def sums(part):
+    yield from main_with(joined(int(part * 99_990), " + ", "0"))
+
+
+@shape("a chain of 99,990 truth values")
+def truths(part):
+    yield from main_with(joined(int(part * 99_990), " and ", "true"))
+
+
+@shape("a chain of 49,900 calls")
+def calls(part):
+    yield "class C\n  fun m(): C box => this\n"
+    yield from main_with(["let c: C box = C\nc"])
+    yield from (".m()" for _ in numbered(part, 49_900))
+
+
+@shape("a chain of 95,000 fields")
+def fields_of_fields(part):
+    yield "class C\n  let f: C box\n  new create(c: C box) => f = c\n  fun last(): C box => f"
+    yield from (".f" for _ in numbered(part, 95_000))
+    yield "\n"
+    yield from main_with(["0"])
+
+
+@shape("33,300 arms of one if")
+def arms(part):
+    yield from main_with(["if true then 0\n"])
+    yield from ("elseif true then 0\n" for _ in numbered(part, 33_300))
+    yield "else 0 end\n"
+
+
+@shape("1,500 calls with 62 arguments")
+def arguments(part):
+    parameters = ", ".join(f"a{n}: U64" for n in range(62))
+    zeros = ", ".join("0" for _ in range(62))
+    yield from main_with(lines(int(part * 1_500), f"m({zeros})"), [f"  fun m({parameters}) => 0\n"])
+
+
+# Levels of nesting, at a fixed number of items.
+
+
+@shape("200 levels of groups")
+def groups(part):
+    yield from main_with(nested(501, levels_at(part), "(", "0", ")"))
+
+
+@shape("200 levels of if")
+def ifs(part):
+    yield from main_with(nested(167, levels_at(part), "if true then ", "0", " end"))
+
+
+@shape("200 levels of while")
+def whiles(part):
+    yield from main_with(nested(250, levels_at(part), "while false do ", "0", " end"))
+
+
+@shape("200 levels of recover")
+def recovers(part):
+    yield from main_with(nested(430, levels_at(part), "recover ", "0", " end"))
+
+
+@shape("200 levels of not")
+def nots(part):
+    yield from main_with(nested(999, levels_at(part), "not ", "true", ""))
+
+
+@shape("200 levels of assignments")
+def assignments(part):
+    yield from main_with(itertools.chain(["var a: U64 = 0\n"], nested(500, levels_at(part), "a = ", "0", "")))
+
+
+@shape("200 levels of arguments")
+def arguments_of_arguments(part):
+    yield from main_with(nested(330, levels_at(part), "m(", "0", ")"), ["  fun m(n: U64): U64 => n\n"])
+
+
+# Entities.
+
+
+@shape("entities: 999 classes, the last one named 190,000 times")
+def classes(part):
+    yield from (f"class E{n}\n" for n in numbered(part, 999))
+    yield from main_with(lines(int(part * 190_000), f"E{int(part * 999) - 1}"))
+
+
+@shape("48,000 parameters of the last of 999 classes")
+def types_of_parameters(part):
+    count = int(part * 999)
+    parameters = ", ".join(f"a{n}: E{count - 1}" for n in range(62))
+    yield from (f"class E{n}\n" for n in range(count))
+    yield from main_with(["0\n"])
+    yield from (f"  fun m{n}({parameters}) => 0\n" for n in numbered(part, 775))
+
+
+@shape("entities: 999 classes of nine methods")
+def classes_of_methods(part):
+    methods = "".join(f"  fun m{n}() => 0\n" for n in range(9))
+    yield from (f"class E{n}\n{methods}" for n in numbered(part, 999))
+    yield from main_with(["0"])
+
+
+@shape("520 names of 1,000 bytes with one beginning, each used")
+def long_type_names(part):
+    names = [f"A{'a' * 994}{n:04}" for n in numbered(part, 520)]
+    yield from (f"class {name}\n" for name in names)
+    yield from main_with(f"{name}\n" for name in names)
+
+
+# Fields.
+
+
+@shape("fields: 64 in each of 517 classes")
+def fields(part):
+    members = "".join(f"  var _f{n}: U64 = 0\n" for n in numbered(part, 64))
+    yield from (f"class E{n}\n{members}" for n in range(517))
+    yield from main_with(["0"])
+
+
+@shape("fields: 95,000 reads of the last of 64")
+def reads_of_the_last(part):
+    members = [f"  var _f{n}: U64 = 0\n" for n in numbered(part, 64)]
+    yield from main_with(lines(int(part * 95_000), f"_f{len(members) - 1}"), members)
+
+
+@shape("fields: 60 with values, in 1,000 constructors")
+def values_in_constructors(part):
+    yield "class C\n"
+    yield from (f"  var _f{n}: U64 = 0\n" for n in range(60))
+    yield from (f"  new c{n}() => 0\n" for n in numbered(part, 1_000))
+    yield from main_with(["0"])
+
+
+@shape("a value of 30,000 operands, in 9,000 constructors", LIMIT)
+def long_value_in_constructors(part):
+    yield "class C\n  var _f: U64 = "
+    yield from joined(int(part * 30_000), " + ", "0")
+    yield from (f"\n  new c{n}() => 0" for n in numbered(part, 9_000))
+    yield "\n"
+    yield from main_with(["0"])
+
+
+# Methods.
+
+
+@shape("methods: 9,998 of one class")
+def methods(part):
+    yield "class C\n"
+    yield from (f"  fun m{n}() => 0\n" for n in numbered(part, 9_998))
+    yield from main_with(["0"])
+
+
+@shape("30,000 calls of the last of 9,000 methods")
+def calls_of_the_last(part):
+    members = [f"  fun m{n}() => 0\n" for n in numbered(part, 9_000)]
+    yield from main_with(lines(int(part * 30_000), f"m{len(members) - 1}()"), members)
+
+
+@shape("25,000 calls of the last of 9,000 constructors")
+def calls_of_the_last_constructor(part):
+    count = int(part * 9_000)
+    yield "class C\n"
+    yield from (f"  new c{n}() => 0\n" for n in range(count))
+    yield from main_with(lines(int(part * 25_000), f"C.c{count - 1}()"))
+
+
+@shape("4,900 methods with names of 95 bytes, each called")
+def long_method_names(part):
+    names = ["a" * 91 + f"{n:04}" for n in numbered(part, 4_900)]
+    yield from main_with((f"{name}()\n" for name in names), (f"fun {name}()=>0\n" for name in names))
+
+
+@shape("49,000 methods of one trait", LIMIT)
+def too_many_methods(part):
+    yield "trait T\n"
+    yield from (f"  fun m{n}()\n" for n in numbered(part, 49_000))
+    yield from main_with(["0"])
+
+
+@shape("65,000 names behind a dot", NO_RULE)
+def names_behind_dots(part):
+    yield from main_with(f"this.a{n}\n" for n in numbered(part, 65_000))
+
+
+# Traits.
+
+
+@shape("a class with the 4,999 methods of its trait")
+def methods_of_a_trait(part):
+    yield "trait T\n"
+    yield from (f"  fun m{n}()\n" for n in numbered(part, 4_999))
+    yield "class C is T\n"
+    yield from (f"  fun m{n}() => 0\n" for n in numbered(part, 4_999))
+    yield from main_with(["0"])
+
+
+@shape("990 classes with the nine methods of a trait")
+def classes_of_a_trait(part):
+    yield "trait T\n"
+    yield from (f"  fun m{n}()\n" for n in range(9))
+    methods_of_one = "".join(f"  fun m{n}() => 0\n" for n in range(9))
+    yield from (f"class E{n} is T\n{methods_of_one}" for n in numbered(part, 990))
+    yield from main_with(["0"])
+
+
+@shape("999 traits in a chain, ten methods inherited")
+def chain(part):
+    yield "trait T0\n"
+    yield from (f"  fun m{n}()\n" for n in range(10))
+    yield from (f"trait T{n + 1} is T{n}\n" for n in numbered(part, 998))
+    yield from main_with(["0"])
+
+
+@shape("999 traits in a chain, ten methods written in each")
+def chain_with_methods(part):
+    methods_of_one = "".join(f"  fun m{n}()\n" for n in range(10))
+    yield "trait T0\n" + methods_of_one
+    yield from (f"trait T{n + 1} is T{n}\n{methods_of_one}" for n in numbered(part, 998))
+    yield from main_with(["0"])
+
+
+@shape("999 traits in a chain, 640,000 slots inherited")
+def chain_of_slots(part):
+    parameters = ", ".join(f"a{n}: U64" for n in range(63))
+    yield "trait T0\n"
+    yield from (f"  fun m{n}({parameters})\n" for n in range(10))
+    yield from (f"trait T{n + 1} is T{n}\n" for n in numbered(part, 998))
+    yield from main_with(["0"])
+
+
+@shape("60,000 values of the last of 998 traits, kept as the first")
+def values_of_the_last_trait(part):
+    count = int(part * 998)
+    yield "trait T0\n"
+    yield from (f"trait T{n} is T{n - 1}\n" for n in range(1, count))
+    yield f"class C\n  fun m(last: T{count - 1} tag) =>\n    var a: T0 tag = last\n"
+    yield from lines(int(part * 60_000), "a = last")
+    yield from main_with(["0"])
+
+
+@shape("999 traits, each below the two before it")
+def two_before(part):
+    yield "trait T0\n"
+    yield from (f"  fun m{n}()\n" for n in range(10))
+    yield "trait T1 is T0\n"
+    yield from (f"trait T{n + 2} is (T{n + 1} & T{n})\n" for n in numbered(part, 997))
+    yield from main_with(["0"])
+
+
+@shape("440 traits, each below all before it")
+def all_before(part):
+    yield "trait T0\n"
+    yield from (f"  fun m{n}()\n" for n in range(20))
+    yield from (f"trait T{n} is ({' & '.join(f'T{k}' for k in range(n))})\n" for n in numbered(part, 440) if n > 0)
+    yield from main_with(["0"])
+
+
+@shape("999 traits in a cycle", WRONG_NAMES)
+def cycle(part):
+    count = int(part * 999)
+    yield from (f"trait T{n} is T{(n + 1) % count}\n" for n in range(count))
+    yield from main_with(["0"])
+
+
+@shape("999 traits in a chain, ten new methods in each", LIMIT)
+def chain_of_new_methods(part):
+    yield "trait T0\n"
+    for n in numbered(part, 998):
+        yield f"trait T{n + 1} is T{n}\n"
+        yield from (f"  fun m{n}x{k}()\n" for k in range(10))
+    yield from main_with(["0"])
+
+
+# Slots.
+
+
+@shape("slots: 63 locals in each of 517 methods")
+def slots(part):
+    items = "".join(f"    var a{n}: U64 = 0\n" for n in numbered(part, 63))
+    yield from main_with(["0\n"])
+    yield from (f"  fun m{n}() =>\n{items}" for n in range(517))
+
+
+@shape("slots: 190,000 reads of the last of 62 locals")
+def reads_of_a_local(part):
+    items = [f"var a{n}: U64 = 0\n" for n in numbered(part, 62)]
+    reads_of_it = lines(int(part * 190_000), f"a{len(items) - 1}")
+    yield from main_with(itertools.chain(items, reads_of_it))
+
+
+@shape("28,000 locals in one body", LIMIT)
+def too_many_locals(part):
+    yield from main_with(f"let a{n}: U64 = 0\n" for n in numbered(part, 28_000))
+
+
+@shape("49,000 parameters of one method", LIMIT)
+def too_many_parameters(part):
+    parameters = ", ".join(f"a{n}: U64" for n in numbered(part, 49_000))
+    yield from main_with(["0"], [f"  fun m({parameters}) => 0\n"])
+
+
+# Texts, and the bytes of a source.
+
+
+@shape("text bytes: 250 texts of 4,096 bytes")
+def long_texts(part):
+    yield from main_with(lines(250, f'"{"a" * int(part * 4_096)}"'))
+
+
+@shape("text bytes: 63 texts of 4,096 escapes")
+def texts_of_escapes(part):
+    escapes = "\\x41" * int(part * 4_096)
+    yield from main_with(lines(63, f'"{escapes}"'))
+
+
+@shape("199,990 texts of one byte")
+def short_texts(part):
+    yield from main_with(lines(int(part * 199_990), '"a"'))
+
+
+@shape("source bytes: a comment of 262,000 levels")
+def comment(part):
+    count = int(part * 262_000)
+    yield "/*" * count + "*/" * count + "\n"
+    yield from main_with(["0"])
+
+
+@shape("source bytes: 1,048,000 line ends")
+def line_ends(part):
+    yield "\n" * int(part * 1_048_000)
+    yield from main_with(["0"])
+
+
+@shape("source bytes: one name of 1,048,000 bytes")
+def one_name(part):
+    yield f"class A{'a' * int(part * 1_048_000)}\n"
+    yield from main_with(["0"])
+
+
+# Faults at the end.
+
+
+@shape("a byte that is no token, behind 199,990 numbers", NO_TOKENS, NO_TOKENS)
+def bad_byte(part):
+    yield from numbers(part)
+    yield "?"
+
+
+@shape("a token that fits nowhere, behind 199,980 numbers", NO_TOKENS, NO_TOKENS)
+def bad_token(part):
+    yield from main_with(lines(int(part * 199_980), "0"))
+    yield "end"
+
+
+@shape("a name that is not there, behind 199,980 numbers", WRONG_NAMES)
+def bad_name(part):
+    yield from main_with(lines(int(part * 199_980), "0"))
+    yield "a"
+
+
+@shape("a call that has no rule, behind 199,900 numbers", NO_RULE)
+def bad_call(part):
+    yield from main_with(lines(int(part * 199_900), "0"))
+    yield "0.a()"
