@@ -1,0 +1,3 @@
+// Refused: a `#` begins no token.
+actor Main
+  new create(env: Env) => # None

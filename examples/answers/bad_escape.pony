@@ -1,0 +1,3 @@
+// Refused: `\q` stands for no byte.
+actor Main
+  new create(env: Env) => env.out.print("\q")

@@ -1,0 +1,2 @@
+// Refused: nowhere to begin.
+class Cat
