@@ -1,8 +1,6 @@
 pub mod Arenas
 pub mod Chunked
-pub mod Chunks
-pub mod Filled
-pub mod Memory
-pub mod Sharing
+pub mod Fills
+pub mod Lent
+pub mod Opened
 pub mod Steps
-pub mod Values

@@ -1,47 +1,42 @@
--- What a row of places owns and lends, for values of the type of the row R.
-use denote.RattleType.{RattleType}
-use denote.Memory.{lone, part_at, shared_of}
-use denote.RawPtr.{Ptr, block_ptr, null_ptr}
-use denote.Sharing.{nothing, said, beside}
-use mir.Syntax.{Ty, ty_array}
-use mir.Raw.{raw}
-use base.Fml.{Lft, Fml, ftrue, ffalse, fsep, flt, froom}
+-- What a row of memory owns and lends, for values of the type of R.
+use base.Fml.{Fml, Lft, ffalse, flt, froom, fsep}
 use base.Fraction.{full_share}
+use denote.Index.{row}
+use denote.Memory.{lone, shared_of}
+use denote.RattleType.{RattleType}
+use denote.RawPtr.{Ptr, null_ptr, block_ptr}
+use denote.Sharing.{beside, nothing, said}
+use mir.Raw.{raw}
+use mir.Syntax.{Ty, ty_array}
 use Rattle.std.specs.Mem.{type_size}
-use Rattle.std.specs.Prelude.{ℕ, ◌+◌, ◌*◌, ◌^◌, List, [], ◌∷◌, length, Option, Some, None}
+use Rattle.std.specs.Prelude.{ℕ, ◌+◌, ◌-◌, ◌*◌, ◌^◌, List, [], ◌∷◌, length}
+
+-- how many values a row has memory for
+abbrev pub row_size : ℕ
+row_size = 256
 
 module _ (R : RattleType) where
-  -- one place, which lies o bytes into the block b: the memory for a value, or the value
-  abbrev pub place_at : ℕ → ℕ → Option R.Denot → Fml
-  place_at b o None = froom (raw (lone R.mir)) b o
-  place_at b o (Some x) = part_at R full_share x b o
+  -- a row takes fewer bytes than this
+  abbrev pub short : Fml
+  short = flt (row_size * type_size R) (2 ^ 63)
 
-  -- the places from there on, one behind the other
-  abbrev pub places_from : ℕ → ℕ → List (Option R.Denot) → Fml
-  places_from b o [] = ftrue
-  places_from b o (c ∷ held) = fsep (place_at b o c) (places_from b (o + type_size R) held)
+  -- memory for as many values more as the row has not, behind those that it has
+  abbrev pub unwritten : ℕ → ℕ → List R.Denot → Fml
+  unwritten b o xs = froom (raw (ty_array (lone R.mir) (row_size - length xs))) b (o + length xs * type_size R)
 
-  -- the same, lent
-  abbrev pub place_lent : ℕ → ℕ → Option R.Denot → Lft → Fml
-  place_lent b o None = nothing
-  place_lent b o (Some x) = shared_of R x b o
+  -- The row's values, one behind the other, then what is unwritten, and what the allocator asks for when the block
+  -- comes back.
+  abbrev pub row_owned : (Ty → Ptr → Fml) → Ptr → List R.Denot → Fml
+  row_owned token null_ptr xs = ffalse
+  row_owned token (block_ptr b o) xs =
+      fsep short (fsep (row R full_share xs b o) (fsep (unwritten b o xs) (token (raw (ty_array (lone R.mir) row_size)) (block_ptr b o))))
 
-  abbrev pub places_lent : ℕ → ℕ → List (Option R.Denot) → Lft → Fml
-  places_lent b o [] = nothing
-  places_lent b o (c ∷ held) = beside (place_lent b o c) (places_lent b (o + type_size R) held)
+  -- values that are lent, one behind the other
+  abbrev pub lent_from : ℕ → ℕ → List R.Denot → Lft → Fml
+  lent_from b o [] = nothing
+  lent_from b o (x ∷ xs) = beside (shared_of R x b o) (lent_from b (o + type_size R) xs)
 
-  -- no offset in the row passes what a block may have
-  abbrev pub short : List (Option R.Denot) → Fml
-  short held = flt (length held * type_size R) (2 ^ 63)
-
-  abbrev pub row_owned : Ptr → List (Option R.Denot) → Fml
-  row_owned null_ptr held = ffalse
-  row_owned (block_ptr b o) held = fsep (short held) (places_from b o held)
-
-  abbrev pub row_lent : Ptr → List (Option R.Denot) → Lft → Fml
-  row_lent null_ptr held = said ffalse
-  row_lent (block_ptr b o) held = beside (said (short held)) (places_lent b o held)
-
-  -- what an allocator asks for when a row of n places comes back
-  abbrev pub block_owed : (Ty → Ptr → Fml) → Ptr → ℕ → Fml
-  block_owed token at n = token (raw (ty_array (lone R.mir) n)) at
+  -- A row that is lent shows its values, and lends no memory to write to.
+  abbrev pub row_lent : Ptr → List R.Denot → Lft → Fml
+  row_lent null_ptr xs = said ffalse
+  row_lent (block_ptr b o) xs = beside (said short) (lent_from b o xs)

@@ -2,20 +2,17 @@
 ghost use Rattle.std.specs.Prelude.{◌≡◌, ◌<◌, [], ◌∷◌, ◌++◌, length, Some, slice_get, slice_set, IfOk};
 ghost use Rattle.pc_arena.specs.Chunks.{chunk_size};
 
-use crate::cells::{Places, Start, Title, allocate, deallocate};
+use crate::row::{ROW_SIZE, Row};
 use std::alloc::{AllocError, Global};
 use std::marker::Model;
 use std_alloc::room::may_hold;
 
 /// How many places a chunk has.
-pub(crate) const CHUNK_SIZE: usize = 256;
+pub(crate) const CHUNK_SIZE: usize = ROW_SIZE;
 
-/// A row of 256 places that never moves. The first ones hold values. Contracts see it as their list.
+/// 256 places that never move, of which the first ones hold values. Contracts see it as their list.
 pub struct Chunk<T> {
-    start: Start<T>,
-    count: usize,
-    places: Places<T>,
-    title: Title<T, Global>,
+    row: Row<T, Global>,
     alloc: Global,
 }
 
@@ -24,12 +21,11 @@ impl<T> Model for Chunk<T> {
 
     ghost Value = { List T };
 
-    ghost use Rattle.pc_arena.specs.Places.{values};
     ghost use Rattle.pc_arena.specs.Chunks.{Sound};
 
-    ghost view = { λ chunk. values chunk.places.held };
+    ghost view = { λ chunk. chunk.row.values };
 
-    ghost invariant = { λ chunk. Sound chunk.start.at chunk.count chunk.places chunk.title chunk.alloc };
+    ghost invariant = { λ chunk. Sound chunk.row chunk.alloc };
 }
 
 impl<T> Chunk<T> {
@@ -37,24 +33,18 @@ impl<T> Chunk<T> {
     pub(crate) fn new(alloc: Global) -> Result<Chunk<T>, AllocError>
         ensures { IfOk result (λ chunk. chunk ≡ []) }
     {
-        if !may_hold::<T>(CHUNK_SIZE) {
+        if !may_hold::<T>(ROW_SIZE) {
             return Err(AllocError);
         }
-        let (start, places, title) = allocate(&alloc, CHUNK_SIZE)?;
-        Ok(Chunk {
-            start,
-            count: 0,
-            places,
-            title,
-            alloc,
-        })
+        let row = Row::new(&alloc)?;
+        Ok(Chunk { row, alloc })
     }
 
     /// How many values it holds.
     fn len(&self) -> usize
         ensures { result ≡ length self.now }
     {
-        self.count
+        self.row.len()
     }
 
     /// Writes a value to the first empty place. It takes no memory.
@@ -62,8 +52,7 @@ impl<T> Chunk<T> {
         requires { length self.old < chunk_size }
         ensures { self.new ≡ self.old ++ value ∷ [] }
     {
-        self.places.write(self.start, self.count, value);
-        self.count += 1;
+        self.row.push(value);
     }
 
     /// The value at a place. It takes no memory.
@@ -71,7 +60,7 @@ impl<T> Chunk<T> {
         requires { place < length self.now }
         ensures { slice_get self.now place ≡ Some result.now }
     {
-        self.places.get(self.start, place)
+        self.row.get(place)
     }
 
     /// Puts a value in the place of another, and answers the one before. It takes no memory.
@@ -80,7 +69,7 @@ impl<T> Chunk<T> {
         ensures before { slice_get self.old place ≡ Some result }
         ensures after { self.new ≡ slice_set self.old place value }
     {
-        self.places.exchange(self.start, place, value)
+        self.row.exchange(place, value)
     }
 
     /// Moves the last value out.
@@ -88,22 +77,15 @@ impl<T> Chunk<T> {
         requires { 0 < length self.old }
         ensures { self.old ≡ self.new ++ result ∷ [] }
     {
-        self.count -= 1;
-        self.places.take(self.start, self.count)
+        self.row.pop()
     }
 
     /// Frees a chunk without values.
     fn free(self)
         requires { self ≡ [] }
     {
-        let Chunk {
-            start,
-            count: _,
-            places,
-            title,
-            alloc,
-        } = self;
-        deallocate(&alloc, start, CHUNK_SIZE, places, title);
+        let Chunk { row, alloc } = self;
+        row.free(&alloc);
     }
 }
 

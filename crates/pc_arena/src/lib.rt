@@ -2,20 +2,21 @@
 //!
 //! Proved: An arena is the list of the values that were pushed, with the exchanges applied, and the number of pushes
 //! that it has memory for: `reserve` takes all memory, and a refusal takes nothing away; `push`, `get` and `exchange`
-//! say exactly what they put, find and answer. Its places lie in memory that is reached by pointers, in six functions
-//! proved by hand: a place is written before it is read, no value is written over, and none leaves twice.
+//! say exactly what they put, find and answer. Its places lie in rows of memory, each with one owner (`Row`): the values,
+//! then what is unwritten, and the right to give the block back. Six functions use its pointer and are proved by hand: a
+//! place is written before it is read, no value is written over, and none leaves twice.
 //!
 //! Only tested: that an arena that is dropped drops each value that it still has.
 #![tactic(auto)]
 
 mod arena;
-mod cells;
 mod chunk;
+mod row;
 
 pub use arena::Arena;
 
 // The types of the fields, which a contract on an arena has to name.
 #[doc(hidden)]
-pub use cells::{Places, Start, Title};
-#[doc(hidden)]
 pub use chunk::Chunk;
+#[doc(hidden)]
+pub use row::Row;
