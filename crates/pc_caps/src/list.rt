@@ -1,80 +1,55 @@
-//! Lists, as every layer keeps them.
-ghost use Rattle.std.specs.Prelude.{◌≡◌, [], ◌∷◌, ◌++◌, ◌<◌, Some, length, take, slice_get, slice_set, ◌↔◌, IsTrue, IfOk, MatchOption, OnOk, OnErr, OnSome};
+//! The list in which every layer keeps its values.
 ghost use Rattle.std.specs.Option.{option_copied};
+ghost use Rattle.std.specs.Prelude.{◌≡◌, [], ◌∷◌, ◌++◌, ◌<◌, Some, length, take, slice_get, slice_set, ◌↔◌, IsTrue, IfOk, MatchOption, OnOk, OnErr, OnSome};
 
 use std::alloc::{AllocError, Global};
 use std::marker::Model;
 use std::mem;
 
-/// A list of values in order, which contracts see as a list. It may stand inside a recursive type.
+/// Values in a row, of which a contract sees no more than the row.
+///
+/// A tree's node may keep its children in one, since a recursive type may stand inside its own `List`.
 #[derive(Debug, Drop)]
 pub struct List<T> {
-    values: Vec<T>,
+    row: Vec<T>,
 }
 
 impl<T> Model for List<T> {
-    ghost use Rattle.std.specs.Prelude.{List as Sequence};
     ghost use Rattle.std.specs.Coded.{coded_list};
+    ghost use Rattle.std.specs.Prelude.{List as Sequence};
 
     ghost Value = { Sequence T };
 
-    ghost coded = { coded_list T.code };
+    ghost view = { λ list. list.row.items };
 
-    ghost view = { λ list. list.values.items };
+    ghost coded = { coded_list T.code };
+}
+
+// A value that no memory was found for is dropped, and so are those that are cut off.
+impl<T: Drop> List<T> {
+    /// Puts a value behind the last one. A refusal leaves the list as it was.
+    pub fn push(&mut self, value: T) -> Result<(), AllocError>
+        ensures ok { OnOk result (self.new ≡ self.old ++ value ∷ []) }
+        ensures err { OnErr result (self.new ≡ self.old) }
+    {
+        self.row.push(value)?;
+        Ok(())
+    }
+
+    /// Keeps the first `len` values.
+    pub fn truncate(&mut self, len: usize)
+        ensures { self.new ≡ take len self.old }
+    {
+        self.row.truncate(len);
+    }
 }
 
 impl<T> List<T> {
-    /// The empty list. It takes no memory.
-    pub fn new(alloc: Global) -> List<T>
-        ensures { result ≡ [] }
+    /// Takes the last value out. `None` exactly where the list is empty.
+    pub fn pop(&mut self) -> Option<T>
+        ensures { MatchOption result ((self.old ≡ []) × (self.new ≡ [])) (λ last. self.old ≡ self.new ++ last ∷ []) }
     {
-        List {
-            values: Vec::new(alloc),
-        }
-    }
-
-    /// The list of a vector's values.
-    pub fn from_vec(values: Vec<T>) -> List<T>
-        ensures { result ≡ values.items }
-    {
-        List { values }
-    }
-
-    /// The vector of the list's values.
-    pub fn into_vec(self) -> Vec<T>
-        ensures { result.items ≡ self }
-    {
-        let List { values } = self;
-        values
-    }
-
-    /// The values, in order.
-    pub fn as_slice(&self) -> &[T]
-        ensures { result.now ≡ self.now }
-    {
-        self.values.as_slice()
-    }
-
-    /// How many values there are.
-    pub fn len(&self) -> usize
-        ensures { result ≡ length self.now }
-    {
-        self.values.len()
-    }
-
-    /// Whether there is no value.
-    pub fn is_empty(&self) -> bool
-        ensures { IsTrue result ↔ (self.now ≡ []) }
-    {
-        self.values.is_empty()
-    }
-
-    /// The value at a place, counted from 0. `None` exactly where there is none.
-    pub fn get(&self, at: usize) -> Option<&T>
-        ensures value { option_copied result ≡ slice_get self.now at }
-        ensures within { OnSome result (at < length self.now) }
-    {
-        self.values.get(at)
+        self.row.pop()
     }
 
     /// Puts another value in a place, and answers the one before.
@@ -83,14 +58,58 @@ impl<T> List<T> {
         ensures new { self.new ≡ slice_set self.old place value }
         ensures old { slice_get self.old place ≡ Some result }
     {
-        replace_at(&mut self.values, place, value)
+        exchange(&mut self.row, place, value)
     }
 
-    /// Takes the last value out. `None` exactly where the list is empty.
-    pub fn pop(&mut self) -> Option<T>
-        ensures { MatchOption result ((self.old ≡ []) × (self.new ≡ [])) (λ last. self.old ≡ self.new ++ last ∷ []) }
+    /// The value at a place, counted from 0. `None` exactly where there is none.
+    pub fn get(&self, at: usize) -> Option<&T>
+        ensures value { option_copied result ≡ slice_get self.now at }
+        ensures within { OnSome result (at < length self.now) }
     {
-        self.values.pop()
+        self.row.get(at)
+    }
+
+    /// Whether there is no value.
+    pub fn is_empty(&self) -> bool
+        ensures { IsTrue result ↔ (self.now ≡ []) }
+    {
+        self.row.is_empty()
+    }
+
+    /// How many values there are.
+    pub fn len(&self) -> usize
+        ensures { result ≡ length self.now }
+    {
+        self.row.len()
+    }
+
+    /// The values, in order.
+    pub fn as_slice(&self) -> &[T]
+        ensures { result.now ≡ self.now }
+    {
+        self.row.as_slice()
+    }
+
+    /// The vector of the list's values.
+    pub fn into_vec(self) -> Vec<T>
+        ensures { result.items ≡ self }
+    {
+        let List { row } = self;
+        row
+    }
+
+    /// The list of a vector's values.
+    pub fn from_vec(values: Vec<T>) -> List<T>
+        ensures { result ≡ values.items }
+    {
+        List { row: values }
+    }
+
+    /// The empty list. It takes no memory.
+    pub fn new(alloc: Global) -> List<T>
+        ensures { result ≡ [] }
+    {
+        List::from_vec(Vec::new(alloc))
     }
 }
 
@@ -99,29 +118,11 @@ impl<T: Copy> List<T> {
     pub fn from_slice(alloc: Global, values: &[T]) -> Result<List<T>, AllocError>
         ensures { IfOk result (λ list. list ≡ values.now) }
     {
-        let values = Vec::from_slice(alloc, values)?;
-        Ok(List { values })
+        Ok(List::from_vec(Vec::from_slice(alloc, values)?))
     }
 }
 
-impl<T: Drop> List<T> {
-    /// Puts a value behind the last one. A refusal leaves the list as it was.
-    pub fn push(&mut self, value: T) -> Result<(), AllocError>
-        ensures ok { OnOk result (self.new ≡ self.old ++ value ∷ []) }
-        ensures err { OnErr result (self.new ≡ self.old) }
-    {
-        self.values.push(value)?;
-        Ok(())
-    }
-
-    /// Keeps the first `len` values.
-    pub fn truncate(&mut self, len: usize)
-        ensures { self.new ≡ take len self.old }
-    {
-        self.values.truncate(len);
-    }
-}
-
+// Two lists are equal where their values are, one by one.
 impl<T: PartialEq> PartialEq for List<T> {
     ghost use Rattle.std.specs.Cmp.Lexicographic.{pointwise, lists_per};
 
@@ -130,22 +131,15 @@ impl<T: PartialEq> PartialEq for List<T> {
     ghost laws = { lists_per T.laws };
 
     fn eq(&self, other: &Self) -> bool {
-        self.values.as_slice() == other.values.as_slice()
+        self.as_slice() == other.as_slice()
     }
 }
 
-impl<T: Clone> Clone for List<T> {
-    fn clone(&self) -> Result<Self, AllocError> {
-        let values = self.values.clone()?;
-        Ok(List { values })
-    }
-}
-
-// `replace` on the vector itself.
-fn replace_at<T>(values: &mut Vec<T>, place: usize, value: T) -> T
-    requires { place < length values.old.items }
-    ensures new { values.new.items ≡ slice_set values.old.items place value }
-    ensures old { slice_get values.old.items place ≡ Some result }
+// `List::replace`, on the vector that has the values.
+fn exchange<T>(row: &mut Vec<T>, place: usize, value: T) -> T
+    requires { place < length row.old.items }
+    ensures new { row.new.items ≡ slice_set row.old.items place value }
+    ensures old { slice_get row.old.items place ≡ Some result }
 {
-    mem::replace(&mut values[place], value)
+    mem::replace(&mut row[place], value)
 }

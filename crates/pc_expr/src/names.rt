@@ -5,13 +5,12 @@ ghost use Rattle.pc_grammar.specs.Reading as reading;
 ghost use Rattle.pc_expr.specs.Gives.{At, Moves, Gives};
 ghost use Rattle.pc_expr.specs.Onto as onto;
 
-use crate::spans::join;
 use crate::stop::ParseStop;
 use crate::tokens::{look, take_sign, take_word};
 use pc_caps::{Cap, List};
 use pc_grammar::cap_of;
 use pc_token::{Sign, Token, TokenKind, Word, is_sign};
-use pc_tree::{Expr, Name, TypeRef};
+use pc_tree::{Expr, Name, TypeRef, join};
 use std::alloc::Global;
 
 /// A name.

@@ -1,7 +1,6 @@
 //! One function for each rule of the grammar. `left` is the number of levels that may still be opened.
 ghost use Rattle.std.specs.Prelude.{◌≡◌, ◌≤◌, drop, map, IfOk, IfErr};
 ghost use Rattle.pc_tree.specs.View.{expr_view, item_view, suffix_view, arm_view, seq_view, exprs_view, other_view};
-ghost use Rattle.pc_grammar.specs.Asking as grammar;
 ghost use Rattle.pc_grammar.specs.Reading as reading;
 ghost use Rattle.pc_expr.specs.Gives.{At, Moves, Gives};
 ghost use Rattle.pc_expr.specs.Onto as onto;
@@ -9,7 +8,7 @@ ghost use Rattle.pc_expr.specs.declared.stop.ParseStop.TheVariants.{Memory};
 
 use crate::asking::{assigns, local_word};
 use crate::names::{consume, maybe_cap, maybe_type, name, named, text, type_named};
-use crate::spans::{chain_span, first_arm, items_span, join, span_of, terms_span};
+use crate::spans::{chain_span, first_arm, items_span, terms_span};
 use crate::stop::ParseStop;
 use crate::tokens::{
     after_comma, after_op, at_elseif, at_suffix, look, next_item, take_sign, take_word,
@@ -17,7 +16,7 @@ use crate::tokens::{
 use pc_caps::List;
 use pc_grammar::op_of;
 use pc_token::{Sign, Token, TokenKind, Word, is_sign, is_word};
-use pc_tree::{Arm, Expr, Item, Op, Seq, Suffix};
+use pc_tree::{Arm, Expr, Item, Op, Seq, Suffix, join, span_of};
 use std::alloc::Global;
 
 /// Item {Next Item}, where so many levels may still be opened.

@@ -7,40 +7,9 @@ ghost use Rattle.pc_grammar.specs.Reading as reading;
 ghost use Rattle.pc_expr.specs.Onto as onto;
 
 use pc_caps::Span;
-use pc_tree::{Arm, Expr, Item, Suffix};
+use pc_tree::{Arm, Expr, Item, Suffix, join, span_of};
 
 const NOWHERE: Span = Span { start: 0, end: 0 };
-
-/// From the beginning of one to the end of another.
-pub fn join(a: Span, b: Span) -> Span
-    ensures { result ≡ spells.join a b }
-{
-    Span {
-        start: a.start,
-        end: b.end,
-    }
-}
-
-pub fn span_of(e: &Expr) -> Span
-    ensures { result ≡ t.span_of (expr_view e.now) }
-{
-    match e {
-        Expr::Name(name) | Expr::TypeName(name) => name.span,
-        Expr::This(span) => *span,
-        Expr::Number { span, .. }
-        | Expr::Truth { span, .. }
-        | Expr::Text { span, .. }
-        | Expr::Consume { span, .. }
-        | Expr::Not { span, .. }
-        | Expr::Infix { span, .. }
-        | Expr::Chain { span, .. }
-        | Expr::Group { span, .. }
-        | Expr::If { span, .. }
-        | Expr::While { span, .. }
-        | Expr::Recover { span, .. }
-        | Expr::Assign { span, .. } => *span,
-    }
-}
 
 fn item_span(item: &Item) -> Span
     ensures { result ≡ t.item_span (item_view item.now) }

@@ -1,5 +1,5 @@
 //! Parts of a made tree, each named as it is written.
-ghost use Rattle.std.specs.Prelude.{◌≡◌, [], ◌∷◌, Some, map, IfOk};
+ghost use Rattle.std.specs.Prelude.{◌≡◌, [], ◌∷◌, map, IfOk};
 ghost use Rattle.pc_tree.specs.View.{expr_view, suffix_view, item_view, arm_view, seq_view, method_view, entity_view};
 ghost use Rattle.pc_tree.specs.Tree as t;
 ghost use Rattle.pc_gen.specs.Parts as spec;

@@ -1,7 +1,6 @@
 //! The made program.
-ghost use Rattle.std.specs.Prelude.{◌≡◌, [], ◌∷◌, ◌++◌, ◌<◌, ◌≤◌, ◌+◌, map, IfOk, OnOk};
-ghost use Rattle.std.specs.List.{range_with_len};
-ghost use Rattle.pc_tree.specs.View.{expr_view, item_view, maybe_expr, field_view, method_view, entity_view, file_view};
+ghost use Rattle.std.specs.Prelude.{◌≡◌, ◌++◌, ◌<◌, ◌≤◌, ◌+◌, map, IfOk, OnOk};
+ghost use Rattle.pc_tree.specs.View.{expr_view, item_view, field_view, method_view, entity_view, file_view};
 ghost use Rattle.pc_gen.specs.Draws.{next, high};
 ghost use Rattle.pc_gen.specs.Program as spec;
 

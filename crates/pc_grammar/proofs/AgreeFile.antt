@@ -57,7 +57,7 @@ module _ (n m : ℕ) (le : n ≤ m) where
   unfolding entity
   entity_agrees =
       let of = entity_of_agrees in
-      bind_agrees _ _ _ _ (same peek) (λ x. cond_agrees (is_word w.ClassWord x) _ _ _ _ (of kind.Class) (cond_agrees (is_word w.ActorWord x) _ _ _ _ (of kind.Actor) (cond_agrees (is_word w.PrimitiveWord x) _ _ _ _ (of kind.Primitive) (cond_agrees (is_word w.TraitWord x) _ _ _ _ (of kind.Trait) (same _)))))
+      bind_agrees _ _ _ _ (same peek) (λ x. cond_agrees (is_word w.ClassWord x) _ _ _ _ (of kind.Class) (cond_agrees (is_word w.ActorWord x) _ _ _ _ (of kind.Actor) (cond_agrees (is_word w.PrimitiveWord x) _ _ _ _ (of kind.Primitive) (cond_agrees (is_word w.TraitWord x) _ _ _ _ (of kind.Trait) (cond_agrees (is_word w.InterfaceWord x) _ _ _ _ (of kind.Interface) (same _))))))
 
   pub file_agrees : Agrees (file n) (file m)
   unfolding file

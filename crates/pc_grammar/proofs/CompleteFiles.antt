@@ -1,5 +1,5 @@
 -- Entities and files that are spelled are read.
-use Rattle.std.proofs.Common.{◌≡◌, ℕ, zero, suc, ◌≤◌, max, Bool, true, false, List, [], ◌∷◌, ◌++◌, length, Option, Some, None, Ok, refl, sym, ap, ◌∙◌, subst, arith, cond, append_assoc, length-append, ◌⊎◌, inl, inr}
+use Rattle.std.proofs.Common.{◌≡◌, ℕ, zero, suc, ◌≤◌, max, Bool, true, false, List, [], ◌∷◌, ◌++◌, length, Some, None, Ok, refl, sym, ap, ◌∙◌, subst, arith, cond, append_assoc, length-append, ◌⊎◌, inl, inr}
 use Rattle.pc_tree.specs.Tree as t
 use Rattle.pc_tree.specs.Measures.{fields_depth, methods_depth, entities_depth, file_depth}
 use Rattle.pc_tree.specs.declared.names.Name.{Name}
@@ -13,7 +13,7 @@ use Rattle.pc_token.specs.declared.words.Word.TheVariants as w
 use Rattle.pc_token.specs.declared.signs.Sign.TheVariants as s
 use Rattle.pc_token.specs.Asking.{is_sign, is_word, same_sign, same_word}
 use Rattle.pc_grammar.specs.Asking.{op_of, cap_of}
-use Rattle.pc_grammar.specs.SpellsFile.{SpellsMoreNames, SpellsNames, SpellsAlone, SpellsBracketed, SpellsProvides, entity_word, is_spelled, SpellsFields, SpellsEntity, SpellsMoreEntities, SpellsFile}
+use Rattle.pc_grammar.specs.SpellsFile.{SpellsMoreNames, SpellsNames, SpellsAlone, SpellsBracketed, SpellsProvides, entity_word, SpellsFields, SpellsEntity, SpellsMoreEntities, SpellsFile}
 use Rattle.pc_grammar.specs.Reading.{pure, ◌>>◌, peek, take_if, and_then, many, all, after, at, type_name, begins_suffix, begins_item}
 use Rattle.pc_grammar.specs.ReadingFile.{is_doc, is_end, type_names, provided, provides, entity_of, entity, begins_entity, begins_field, some_field, file}
 use Rattle.pc_grammar.proofs.Follow.{kind_of_sign, kind_of_word, after_sign, after_no_sign, at_one, at_none}
@@ -131,6 +131,10 @@ module _ (y : Token) where
   unfolding begins_suffix op_of cap_of is_sign same_sign is_doc begins_item begins_field is_word same_word
   trait_next e = record { outer = record { calm = record { quiet = record { suffix = rw e; op = rw e; cap = rw e; colon = rw e; hat = rw e; assign = rw e }; doc = rw e }; stops = record { suffix = rw e; op = rw e; assign = rw e; semicolon = rw e; item = rw e }; field = rw e; names = rw e }; functions = rw e; behaviours = rw e; constructors = rw e }
 
+  interface_next : y.kind ≡ k.Word w.InterfaceWord → Next y
+  unfolding begins_suffix op_of cap_of is_sign same_sign is_doc begins_item begins_field is_word same_word
+  interface_next e = record { outer = record { calm = record { quiet = record { suffix = rw e; op = rw e; cap = rw e; colon = rw e; hat = rw e; assign = rw e }; doc = rw e }; stops = record { suffix = rw e; op = rw e; assign = rw e; semicolon = rw e; item = rw e }; field = rw e; names = rw e }; functions = rw e; behaviours = rw e; constructors = rw e }
+
   end_next : y.kind ≡ k.End → Next y
   unfolding begins_suffix op_of cap_of is_sign same_sign is_doc begins_item begins_field is_word same_word
   end_next e = record { outer = record { calm = record { quiet = record { suffix = rw e; op = rw e; cap = rw e; colon = rw e; hat = rw e; assign = rw e }; doc = rw e }; stops = record { suffix = rw e; op = rw e; assign = rw e; semicolon = rw e; item = rw e }; field = rw e; names = rw e }; functions = rw e; behaviours = rw e; constructors = rw e }
@@ -143,20 +147,20 @@ module _ (y : Token) where
   unfolding is_end
   end_is e = rw e
 
-entity_next : (e : EntityKind) (x : Token) → is_spelled e ≡ true → is_word (entity_word e) x ≡ true → Next x
-entity_next kind.Class x s h = class_next x (kind_of_word w.ClassWord x h)
-entity_next kind.Actor x s h = actor_next x (kind_of_word w.ActorWord x h)
-entity_next kind.Primitive x s h = primitive_next x (kind_of_word w.PrimitiveWord x h)
-entity_next kind.Trait x s h = trait_next x (kind_of_word w.TraitWord x h)
-entity_next kind.Interface x s h = absurd (cc)
+entity_next : (e : EntityKind) (x : Token) → is_word (entity_word e) x ≡ true → Next x
+entity_next kind.Class x h = class_next x (kind_of_word w.ClassWord x h)
+entity_next kind.Actor x h = actor_next x (kind_of_word w.ActorWord x h)
+entity_next kind.Primitive x h = primitive_next x (kind_of_word w.PrimitiveWord x h)
+entity_next kind.Trait x h = trait_next x (kind_of_word w.TraitWord x h)
+entity_next kind.Interface x h = interface_next x (kind_of_word w.InterfaceWord x h)
 
-begins_by : (e : EntityKind) (x : Token) → is_spelled e ≡ true → is_word (entity_word e) x ≡ true → begins_entity x ≡ true
+begins_by : (e : EntityKind) (x : Token) → is_word (entity_word e) x ≡ true → begins_entity x ≡ true
 unfolding begins_entity is_word same_word
-begins_by kind.Class x s h = rw (kind_of_word w.ClassWord x h)
-begins_by kind.Actor x s h = rw (kind_of_word w.ActorWord x h)
-begins_by kind.Primitive x s h = rw (kind_of_word w.PrimitiveWord x h)
-begins_by kind.Trait x s h = rw (kind_of_word w.TraitWord x h)
-begins_by kind.Interface x s h = absurd (cc)
+begins_by kind.Class x h = rw (kind_of_word w.ClassWord x h)
+begins_by kind.Actor x h = rw (kind_of_word w.ActorWord x h)
+begins_by kind.Primitive x h = rw (kind_of_word w.PrimitiveWord x h)
+begins_by kind.Trait x h = rw (kind_of_word w.TraitWord x h)
+begins_by kind.Interface x h = rw (kind_of_word w.InterfaceWord x h)
 
 -- ---- entities
 
@@ -198,18 +202,18 @@ module _ (n : ℕ) where
       rw (h.8, cap, type_name_read h.1 e.name l2 h.10, provides_reads e.provides h.3 l3 h.11 (to_no_is l3 quiet), doc_reads h.4 l4 h.12 (to_doc l4 calm), fields_reads (may_have_fields e.kind) e.fields h.5 l5 h.13 h.16 (omega (arith, d)) (to_calm l5 behind) apart, methods_read n e.kind e.methods h.6 rest h.14 (omega (arith, d)) outer last) in
       ap (entity_of n e.kind) (entity_parts e a rest h) ∙ step
 
-  chosen : (e : EntityKind) (x : Token) (ts : List Token) → is_spelled e ≡ true → is_word (entity_word e) x ≡ true → entity n (x ∷ ts) ≡ entity_of n e (x ∷ ts)
+  chosen : (e : EntityKind) (x : Token) (ts : List Token) → is_word (entity_word e) x ≡ true → entity n (x ∷ ts) ≡ entity_of n e (x ∷ ts)
   unfolding entity peek is_word same_word
-  chosen kind.Class x ts s h = rw (kind_of_word w.ClassWord x h)
-  chosen kind.Actor x ts s h = rw (kind_of_word w.ActorWord x h)
-  chosen kind.Primitive x ts s h = rw (kind_of_word w.PrimitiveWord x h)
-  chosen kind.Trait x ts s h = rw (kind_of_word w.TraitWord x h)
-  chosen kind.Interface x ts s h = absurd (cc)
+  chosen kind.Class x ts h = rw (kind_of_word w.ClassWord x h)
+  chosen kind.Actor x ts h = rw (kind_of_word w.ActorWord x h)
+  chosen kind.Primitive x ts h = rw (kind_of_word w.PrimitiveWord x h)
+  chosen kind.Trait x ts h = rw (kind_of_word w.TraitWord x h)
+  chosen kind.Interface x ts h = rw (kind_of_word w.InterfaceWord x h)
 
   entity_reads : (e : t.Entity) (a rest : List Token) → SpellsEntity e a → depth_of e ≤ suc n → First Next rest → entity n (a ++ rest) ≡ Ok (e, rest)
   entity_reads e a rest h d f =
       let here = entity_parts e a rest h in
-      ap (entity n) here ∙ chosen e.kind h.0 _ h.17 h.8 ∙ ap (entity_of n e.kind) (sym here) ∙ entity_of_reads e a rest h d f
+      ap (entity n) here ∙ chosen e.kind h.0 _ h.8 ∙ ap (entity_of n e.kind) (sym here) ∙ entity_of_reads e a rest h d f
 
   -- ---- files
 
@@ -217,7 +221,7 @@ module _ (n : ℕ) where
   entities_first [] ts x more h last = (x, more, ap (λ l. l ++ x ∷ more) h, end_next x last)
   entities_first (e ∷ es) ts x more h last =
       let y = h.3.0 in
-      (y, _, two_parts h.0 h.1 ts (x ∷ more) h.2 ∙ entity_parts e h.0 (h.1 ++ x ∷ more) h.3, entity_next e.kind y h.3.17 h.3.8)
+      (y, _, two_parts h.0 h.1 ts (x ∷ more) h.2 ∙ entity_parts e h.0 (h.1 ++ x ∷ more) h.3, entity_next e.kind y h.3.8)
 
   more_entities : (es : List t.Entity) (ts : List Token) (x : Token) (more : List Token) (i : ℕ) → SpellsMoreEntities es ts → entities_depth es ≤ suc n → length ts ≤ i → x.kind ≡ k.End → many (at begins_entity) (entity n) i (ts ++ x ∷ more) ≡ Ok (es, x ∷ more)
   more_entities [] ts x more i h d fits last = ap (λ l. many (at begins_entity) (entity n) i (l ++ x ∷ more)) h ∙ many_none (at begins_entity) (entity n) i (x ∷ more) (at_none begins_entity x more (end_no_entity x last))
@@ -227,7 +231,7 @@ module _ (n : ℕ) where
       let here = entity_parts e h.0 b h.3 in
       let one = entity_reads e h.0 b h.3 (omega (arith, d)) (entities_first es h.1 x more h.4 last) in
       let two = more_entities es h.1 x more i h.4 (omega (arith, d)) (omega (arith, ap length h.2, ap length h.3.7, length-append h.0 h.1)) last in
-      let goes : at begins_entity (h.0 ++ b) ≡ Some (h.0 ++ b) = ap (at begins_entity) here ∙ at_one begins_entity h.3.0 _ (begins_by e.kind h.3.0 h.3.17 h.3.8) ∙ ap Some (sym here) in
+      let goes : at begins_entity (h.0 ++ b) ≡ Some (h.0 ++ b) = ap (at begins_entity) here ∙ at_one begins_entity h.3.0 _ (begins_by e.kind h.3.0 h.3.8) ∙ ap Some (sym here) in
       ap (many (at begins_entity) (entity n) (suc i)) (two_parts h.0 h.1 ts (x ∷ more) h.2) ∙ one_more (at begins_entity) (entity n) i (h.0 ++ b) (h.0 ++ b) b (x ∷ more) e es goes one two
 
   file_by : (es : List t.Entity) (ts more : List Token) → SpellsFile (record { entities = es }) ts → entities_depth es ≤ suc n → file n (ts ++ more) ≡ Ok (record { entities = es }, more)
@@ -239,7 +243,7 @@ module _ (n : ℕ) where
       let l2 = g.1 ++ last in
       let l1 = g.0 ++ l2 in
       let here : ts ++ more ≡ h.0 ++ l1 = ap (λ l. l ++ more) h.3 ∙ append_assoc h.0 (h.1 ++ h.2 ∷ []) more ∙ ap (λ l. h.0 ++ l) (append_assoc h.1 (h.2 ∷ []) more ∙ two_parts g.0 g.1 h.1 last g.2) in
-      let first : First NoDoc l1 = (g.3.0, _, entity_parts e g.0 l2 g.3, (entity_next e.kind g.3.0 g.3.17 g.3.8).outer.calm.doc) in
+      let first : First NoDoc l1 = (g.3.0, _, entity_parts e g.0 l2 g.3, (entity_next e.kind g.3.0 g.3.8).outer.calm.doc) in
       let one = entity_reads e g.0 l2 g.3 (omega (arith, d)) (entities_first es g.1 h.2 more g.4 h.6) in
       let two = all_enough (at begins_entity) (entity n) l2 _ (more_entities es g.1 h.2 more (length l2) g.4 (omega (arith, d)) (omega (arith, length-append g.1 last)) h.6) in
       let step : file n (h.0 ++ l1) ≡ Ok (record { entities = e ∷ es }, more) = rw (doc_reads h.0 l1 h.4 first, one, two, end_is h.2 h.6) in

@@ -1,5 +1,5 @@
 -- Entities and files are explained.
-use Rattle.std.proofs.Common.{◌≡◌, ℕ, suc, max, Bool, true, false, List, [], ◌∷◌, ◌++◌, Option, Some, None, refl, sym, ap, ap₂, ◌∙◌, subst, cond, append_assoc, ◌⊎◌, inl, inr}
+use Rattle.std.proofs.Common.{◌≡◌, ℕ, suc, max, Bool, true, false, List, [], ◌∷◌, ◌++◌, Option, Some, refl, sym, ap, ap₂, ◌∙◌, subst, cond, append_assoc, ◌⊎◌, inl, inr}
 use Rattle.pc_caps.specs.declared.capability.Cap.{Cap}
 use Rattle.pc_tree.specs.Tree as t
 use Rattle.pc_tree.specs.Measures.{fields_depth, methods_depth, entities_depth, file_depth}
@@ -13,7 +13,7 @@ use Rattle.pc_token.specs.declared.kinds.TokenKind.TheVariants as k
 use Rattle.pc_token.specs.declared.words.Word.TheVariants as w
 use Rattle.pc_token.specs.declared.signs.Sign.TheVariants as s
 use Rattle.pc_token.specs.Asking.{is_sign, is_word}
-use Rattle.pc_grammar.specs.SpellsFile.{SpellsMoreNames, SpellsNames, SpellsBracketed, SpellsAlone, SpellsProvides, entity_word, is_spelled, SpellsEntity, SpellsMoreEntities, SpellsFile}
+use Rattle.pc_grammar.specs.SpellsFile.{SpellsMoreNames, SpellsNames, SpellsBracketed, SpellsAlone, SpellsProvides, entity_word, SpellsEntity, SpellsMoreEntities, SpellsFile}
 use Rattle.pc_grammar.specs.Reading.{pure, refuse, ◌>>=◌, ◌>>◌, peek, take_if, at, after, type_name}
 use Rattle.pc_grammar.specs.ReadingFile.{kind_is_end, is_end, maybe_doc, type_names, provided, provides, entity_cap, fields, entity_of, entity, begins_entity, file}
 use Rattle.pc_grammar.proofs.Explained.{Fits, fits_zero, fits_max, Explained, Then, Tok, Only, Listed, Inhabited, some_only, some_then, explained_bind, explained_weaker, explained_only, explained_refuse, explained_take, explained_all}
@@ -134,7 +134,7 @@ module _ (u : Bool) where
     abbrev EntityIn : t.Entity → List Token → Type 0
     EntityIn e ts = SpellsEntity e ts × Fits u (suc n) (depth_of e)
 
-    module _ (e : EntityKind) (spelled : is_spelled e ≡ true) where
+    module _ (e : EntityKind) where
       abbrev an_entity : Option Cap → Name → List Name → List t.Field → List t.Method → t.Entity
       an_entity c m ps fs ms = record { kind = e; cap = c; name = m; provides = ps; fields = fs; methods = ms }
 
@@ -196,7 +196,7 @@ module _ (u : Bool) where
           let behind : h.2 ≡ y ∷ (p.1 ++ (d.1 ++ (d.2 ++ m.1))) = begins_one y h.2 g.1 g.2 (p.1 ++ (d.1 ++ (d.2 ++ m.1))) g.3 g.4.1 providing in
           let front : h.1 ≡ x ∷ q.2 = begins_one x h.1 q.1 q.2 q.2 q.3 q.4.0 refl in
           let cut : a ≡ x ∷ (q.2 ++ y ∷ (p.1 ++ (d.1 ++ (d.2 ++ m.1)))) = joined a h.1 h.2 (y ∷ (p.1 ++ (d.1 ++ (d.2 ++ m.1)))) h.3 behind ∙ ap (λ l. l ++ y ∷ (p.1 ++ (d.1 ++ (d.2 ++ m.1)))) front in
-          subst (λ v. EntityIn v a) (sym m.5.1) ((x, y, q.2, p.1, d.1, d.2, m.1, cut, q.4.1, q.5.0, g.4.2, p.4, d.4, d.5.0, m.4.0, q.5.1, d.5.2, spelled), fits_max u (suc n) (fields_depth f.0) (methods_depth m.0) d.5.1 m.4.1)
+          subst (λ v. EntityIn v a) (sym m.5.1) ((x, y, q.2, p.1, d.1, d.2, m.1, cut, q.4.1, q.5.0, g.4.2, p.4, d.4, d.5.0, m.4.0, q.5.1, d.5.2), fits_max u (suc n) (fields_depth f.0) (methods_depth m.0) d.5.1 m.4.1)
 
       explained_entity_of : (ts : List Token) → Explained u EntityIn ts (entity_of n e ts)
       unfolding entity_of
@@ -212,17 +212,18 @@ module _ (u : Bool) where
       an_entity_in : Inhabited EntityIn
       an_entity_in = let r = some_then Head Named some_head some_named in (r.0, r.1, entity_whole r.1 r.0 r.2)
 
-    entity_by : (x : Token) (ts : List Token) (a b c d : Bool) → Explained u EntityIn (x ∷ ts) (cond a (entity_of n kind.Class) (cond b (entity_of n kind.Actor) (cond c (entity_of n kind.Primitive) (cond d (entity_of n kind.Trait) refuse))) (x ∷ ts))
-    entity_by x ts true b c d = explained_entity_of kind.Class refl (x ∷ ts)
-    entity_by x ts false true c d = explained_entity_of kind.Actor refl (x ∷ ts)
-    entity_by x ts false false true d = explained_entity_of kind.Primitive refl (x ∷ ts)
-    entity_by x ts false false false true = explained_entity_of kind.Trait refl (x ∷ ts)
-    entity_by x ts false false false false = explained_refuse u EntityIn (x ∷ ts) (an_entity_in kind.Class refl)
+    entity_by : (x : Token) (ts : List Token) (a b c d i : Bool) → Explained u EntityIn (x ∷ ts) (cond a (entity_of n kind.Class) (cond b (entity_of n kind.Actor) (cond c (entity_of n kind.Primitive) (cond d (entity_of n kind.Trait) (cond i (entity_of n kind.Interface) refuse)))) (x ∷ ts))
+    entity_by x ts true b c d i = explained_entity_of kind.Class (x ∷ ts)
+    entity_by x ts false true c d i = explained_entity_of kind.Actor (x ∷ ts)
+    entity_by x ts false false true d i = explained_entity_of kind.Primitive (x ∷ ts)
+    entity_by x ts false false false true i = explained_entity_of kind.Trait (x ∷ ts)
+    entity_by x ts false false false false true = explained_entity_of kind.Interface (x ∷ ts)
+    entity_by x ts false false false false false = explained_refuse u EntityIn (x ∷ ts) (an_entity_in kind.Class)
 
     explained_entity : (ts : List Token) → Explained u EntityIn ts (entity n ts)
     unfolding entity peek
-    explained_entity [] = explained_refuse u EntityIn [] (an_entity_in kind.Class refl)
-    explained_entity (x ∷ ts) = entity_by x ts (is_word w.ClassWord x) (is_word w.ActorWord x) (is_word w.PrimitiveWord x) (is_word w.TraitWord x)
+    explained_entity [] = explained_refuse u EntityIn [] (an_entity_in kind.Class)
+    explained_entity (x ∷ ts) = entity_by x ts (is_word w.ClassWord x) (is_word w.ActorWord x) (is_word w.PrimitiveWord x) (is_word w.TraitWord x) (is_word w.InterfaceWord x)
 
     each_entity : (ts begin : List Token) → at begins_entity ts ≡ Some begin → Explained u EntityIn ts (entity n begin)
     each_entity [] begin h = absurd (at_nil begins_entity begin h)
@@ -252,10 +253,10 @@ module _ (u : Bool) where
     Others e = Then (Listed EntityIn) (Ended e)
 
     some_doc_entity : Inhabited DocEntity
-    some_doc_entity = some_then DocAt (λ _. EntityIn) some_doc (λ _. an_entity_in kind.Class refl)
+    some_doc_entity = some_then DocAt (λ _. EntityIn) some_doc (λ _. an_entity_in kind.Class)
 
     explained_doc_entity : (ts : List Token) → Explained u DocEntity ts ((maybe_doc >> entity n) ts)
-    explained_doc_entity ts = explained_bind DocAt (λ _. EntityIn) u ts (λ _. entity n) (maybe_doc ts) (explained_doc u ts) (λ x r f. explained_entity r) (λ _. an_entity_in kind.Class refl)
+    explained_doc_entity ts = explained_bind DocAt (λ _. EntityIn) u ts (λ _. entity n) (maybe_doc ts) (explained_doc u ts) (λ x r f. explained_entity r) (λ _. an_entity_in kind.Class)
 
     some_ended : (e : t.Entity) (es : List t.Entity) → Inhabited (Ended e es)
     some_ended e es = some_close u is_end (λ _. a_file e es) (of_kind k.End) an_end

@@ -105,7 +105,7 @@ good_entity : (n : ℕ) → Good (entity n)
 unfolding entity
 good_entity n =
     let of = good_entity_of n in
-    good_then _ _ local_peek (λ x. good_cond (is_word w.ClassWord x) _ _ (of kind.Class) (good_cond (is_word w.ActorWord x) _ _ (of kind.Actor) (good_cond (is_word w.PrimitiveWord x) _ _ (of kind.Primitive) (good_cond (is_word w.TraitWord x) _ _ (of kind.Trait) good_refuse))))
+    good_then _ _ local_peek (λ x. good_cond (is_word w.ClassWord x) _ _ (of kind.Class) (good_cond (is_word w.ActorWord x) _ _ (of kind.Actor) (good_cond (is_word w.PrimitiveWord x) _ _ (of kind.Primitive) (good_cond (is_word w.TraitWord x) _ _ (of kind.Trait) (good_cond (is_word w.InterfaceWord x) _ _ (of kind.Interface) good_refuse)))))
 
 pub local_file : (n : ℕ) → Local (file n)
 unfolding file

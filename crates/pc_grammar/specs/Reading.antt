@@ -16,78 +16,90 @@ use Rattle.pc_token.specs.Asking.{is_sign, is_word}
 use Rattle.pc_grammar.specs.Asking.{op_of, cap_of, same_op, local_word}
 use Rattle.pc_grammar.specs.Spells.{no_span, join, is_place}
 
+-- Why a text is not read further: no rule goes on with the next token, or it would stand below the last level.
 pub data Fault : Type 0 where
   unexpected : Fault
   too_deep : Fault
 
--- a value and the tokens after it, or a fault and the tokens from it on
+-- How a rule ends: with what it has read and the tokens behind that, or with a fault and the tokens from it on,
 abbrev pub Outcome : Type 0 → Type 0
 Outcome A = Result (A × List Token) (Fault × List Token)
 
+-- and so a rule is that end for any tokens.
 abbrev pub Parser : Type 0 → Type 0
 Parser A = List Token → Outcome A
 
-abbrev pub and_then : {A B : Type 0} → Outcome A → (A → Parser B) → Outcome B
-and_then (Err fault) next = Err fault
-and_then (Ok read) next = next read.0 read.1
+-- ---- one token. The end of a text is a token too, so that in the tokens of a text there is always one.
 
-infixl 10 ◌>>=◌
-abbrev pub ◌>>=◌ : {A B : Type 0} → Parser A → (A → Parser B) → Parser B
-p >>= f = λ ts. and_then (p ts) f
-
-infixl 10 ◌>>◌
-abbrev pub ◌>>◌ : {A B : Type 0} → Parser A → Parser B → Parser B
-p >> q = p >>= λ _. q
-
-abbrev pub pure : {A : Type 0} → A → Parser A
-pure x ts = Ok (x, ts)
-
-abbrev pub refuse : {A : Type 0} → Parser A
-refuse ts = Err (unexpected, ts)
-
--- the next token, which stays
+-- The next token is looked at, and is still there for the rule behind.
 unfoldable pub peek : Parser Token
 peek [] = Err (unexpected, [])
 peek (x ∷ ts) = Ok (x, x ∷ ts)
 
--- the next token, if it is so
+-- It is read if it passes a test; if not, the fault is there.
 unfoldable pub take_if : (Token → Bool) → Parser Token
 take_if test [] = Err (unexpected, [])
 take_if test (x ∷ ts) = if test x then Ok (x, ts) else Err (unexpected, x ∷ ts)
 
--- the next token, whatever it is
+-- It is read, whichever it is.
 abbrev pub take_any : Parser Token
 take_any = take_if (λ _. true)
 
--- one level more, for what stands inside
+-- No rule begins with it.
+abbrev pub refuse : {A : Type 0} → Parser A
+refuse ts = Err (unexpected, ts)
+
+-- ---- one rule behind another
+
+-- This value, and no token is read.
+abbrev pub pure : {A : Type 0} → A → Parser A
+pure x ts = Ok (x, ts)
+
+-- What was read says which rule is next, and that one reads the tokens behind. A fault of the first ends both,
+abbrev pub and_then : {A B : Type 0} → Outcome A → (A → Parser B) → Outcome B
+and_then (Err fault) next = Err fault
+and_then (Ok read) next = next read.0 read.1
+
+-- as an operator on the two rules,
+infixl 10 ◌>>=◌
+abbrev pub ◌>>=◌ : {A B : Type 0} → Parser A → (A → Parser B) → Parser B
+p >>= f = λ ts. and_then (p ts) f
+
+-- and as one where the second does not ask what the first has read.
+infixl 10 ◌>>◌
+abbrev pub ◌>>◌ : {A B : Type 0} → Parser A → Parser B → Parser B
+p >> q = p >>= λ _. q
+
+-- A rule that is read one level further inside, of which a number are left.
 unfoldable pub deeper : {A : Type 0} → ℕ → Parser A → Parser A
 deeper zero p ts = Err (too_deep, ts)
 deeper (suc n) p ts = p ts
 
-abbrev pub many_step : {A : Type 0} → Parser A → Parser (List A) → List Token → Option (List Token) → Outcome (List A)
-many_step p more ts None = Ok ([], ts)
-many_step p more ts (Some begin) = and_then (p begin) (λ x. more >>= λ xs. pure (x ∷ xs))
+-- ---- one rule again and again. The next token alone says whether there is one more, and where it begins:
 
--- As long as `next` says where one more begins, p reads it. The number bounds the turns: the count of the tokens is
--- always enough.
-unfoldable pub many : {A : Type 0} → (List Token → Option (List Token)) → Parser A → ℕ → Parser (List A)
-many next p zero ts = Ok ([], ts)
-many next p (suc n) ts = many_step p (many next p n) ts (next ts)
+-- at that token,
+unfoldable pub at : (Token → Bool) → List Token → Option (List Token)
+at test [] = None
+at test (x ∷ ts) = if test x then Some (x ∷ ts) else None
 
-unfoldable pub all : {A : Type 0} → (List Token → Option (List Token)) → Parser A → Parser (List A)
-all next p ts = many next p (length ts) ts
-
--- ---- where a list goes on
-
--- behind a token that is so
+-- or behind it, where it stands between the two.
 unfoldable pub after : (Token → Bool) → List Token → Option (List Token)
 after test [] = None
 after test (x ∷ ts) = if test x then Some ts else None
 
--- at a token that is so
-unfoldable pub at : (Token → Bool) → List Token → Option (List Token)
-at test [] = None
-at test (x ∷ ts) = if test x then Some (x ∷ ts) else None
+-- One turn: there is no more, or one is read from where it begins, and the rest after it.
+abbrev pub many_step : {A : Type 0} → Parser A → Parser (List A) → List Token → Option (List Token) → Outcome (List A)
+many_step p more ts None = Ok ([], ts)
+many_step p more ts (Some begin) = and_then (p begin) (λ x. more >>= λ xs. pure (x ∷ xs))
+
+-- All turns, but no more of them than a number,
+unfoldable pub many : {A : Type 0} → (List Token → Option (List Token)) → Parser A → ℕ → Parser (List A)
+many next p zero ts = Ok ([], ts)
+many next p (suc n) ts = many_step p (many next p n) ts (next ts)
+
+-- and the number of the tokens is always enough: each turn reads at least one.
+unfoldable pub all : {A : Type 0} → (List Token → Option (List Token)) → Parser A → Parser (List A)
+all next p ts = many next p (length ts) ts
 
 abbrev pub kind_begins : TokenKind → Bool
 kind_begins (k.Name n) = true

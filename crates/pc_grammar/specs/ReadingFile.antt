@@ -135,13 +135,13 @@ entity_of n e =
 abbrev pub entity_at : ℕ → Token → Parser t.Entity
 entity_at n x =
     if is_word w.ClassWord x then entity_of n kind.Class else (if is_word w.ActorWord x then entity_of n kind.Actor else (
-    if is_word w.PrimitiveWord x then entity_of n kind.Primitive else (if is_word w.TraitWord x then entity_of n kind.Trait else refuse)))
+    if is_word w.PrimitiveWord x then entity_of n kind.Primitive else (if is_word w.TraitWord x then entity_of n kind.Trait else (if is_word w.InterfaceWord x then entity_of n kind.Interface else refuse))))
 
 unfoldable pub entity : ℕ → Parser t.Entity
 entity n = peek >>= entity_at n
 
 unfoldable pub begins_entity : Token → Bool
-begins_entity x = is_word w.ClassWord x || (is_word w.ActorWord x || (is_word w.PrimitiveWord x || is_word w.TraitWord x))
+begins_entity x = is_word w.ClassWord x || (is_word w.ActorWord x || (is_word w.PrimitiveWord x || (is_word w.TraitWord x || is_word w.InterfaceWord x)))
 
 -- [doc] Entity {Entity} End, whose bodies and values may open n levels
 unfoldable pub file : ℕ → Parser t.File

@@ -1,7 +1,7 @@
 -- Which tokens spell which file: by cases on the tree, one for each line of the grammar.
 --
 --   File    = [doc] Entity {Entity} End
---   Entity  = ("class" [Cap] | "trait" [Cap] | "actor" | "primitive") TypeName
+--   Entity  = ("class" [Cap] | "trait" [Cap] | "interface" [Cap] | "actor" | "primitive") TypeName
 --             ["is" (TypeName | "(" TypeName {"&" TypeName} ")")] [doc] {Field} {Method}
 --   Field   = ("var" | "let") Name ":" Type ["=" Infix] [doc]
 --   Method  = "fun" [Cap] Name Params [":" Result] [doc] [Body]
@@ -11,9 +11,9 @@
 --   Params  = "(" [Name ":" Type {"," Name ":" Type}] ")"
 --   Result  = TypeName [Cap] ["^"]
 --
--- Fields stand in classes and actors, `be` in actors and traits, `new` in classes and actors, and a capability after `new`
--- in classes. In a trait no method has a body, elsewhere each has one. That is the table of the kinds of entities in
--- `pc_tree`. Interfaces stand in it, and so far no text spells one.
+-- Fields stand in classes and actors, `be` in actors, traits and interfaces, `new` in classes and actors, and a capability
+-- after `new` in classes. In a trait and in an interface no method has a body, elsewhere each has one. That is the table of
+-- the kinds of entities in `pc_tree`.
 use Rattle.std.specs.Prelude.{◌≡◌, Bool, true, false, List, [], ◌∷◌, ◌++◌, Option, Some, None, ◌⊎◌}
 use Rattle.pc_tree.specs.Tree as t
 use Rattle.pc_tree.specs.declared.names.Name.{Name}
@@ -122,14 +122,6 @@ entity_word kind.Primitive = w.PrimitiveWord
 entity_word kind.Trait = w.TraitWord
 entity_word kind.Interface = w.InterfaceWord
 
--- so far no text spells an interface
-abbrev pub is_spelled : EntityKind → Bool
-is_spelled kind.Class = true
-is_spelled kind.Actor = true
-is_spelled kind.Primitive = true
-is_spelled kind.Trait = true
-is_spelled kind.Interface = false
-
 -- {"&" TypeName}
 abbrev pub SpellsMoreNames : List Name → List Token → Type 0
 SpellsMoreNames [] ts = ts ≡ []
@@ -157,7 +149,7 @@ SpellsProvides (m ∷ ms) ts = (x : Token) × (a : List Token) × (ts ≡ x ∷ 
 abbrev pub SpellsEntity : t.Entity → List Token → Type 0
 SpellsEntity e ts =
     (x y : Token) × (a p d f b : List Token) × (ts ≡ x ∷ (a ++ y ∷ (p ++ (d ++ (f ++ b))))) × (is_word (entity_word e.kind) x ≡ true) × SpellsCap e.cap a × IsTypeName y e.name
-    × SpellsProvides e.provides p × IsDoc d × SpellsFields e.fields f × SpellsMethods e.kind e.methods b × CapIf (may_have_cap e.kind) e.cap × MayHaveFields e.kind e.fields × (is_spelled e.kind ≡ true)
+    × SpellsProvides e.provides p × IsDoc d × SpellsFields e.fields f × SpellsMethods e.kind e.methods b × CapIf (may_have_cap e.kind) e.cap × MayHaveFields e.kind e.fields
 
 -- {Entity}
 abbrev pub SpellsMoreEntities : List t.Entity → List Token → Type 0

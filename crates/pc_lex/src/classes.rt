@@ -1,5 +1,5 @@
 //! Classes of bytes, and runs of them.
-ghost use Rattle.std.specs.Prelude.{◌≡◌, ◌<◌, ◌≤◌, ◌+◌, drop, length, true};
+ghost use Rattle.std.specs.Prelude.{◌≡◌, ◌≤◌, length};
 ghost use Rattle.std.specs.List.{prefix_len};
 ghost use Rattle.pc_lex.specs.Bytes as bytes;
 ghost use Rattle.pc_lex.specs.Bytes.{first_test};

@@ -1,10 +1,10 @@
 //! The lexer's loop over a text, piece by piece.
-ghost use Rattle.std.specs.Prelude.{◌≡◌, ◌<◌, ◌≤◌, ◌+◌, List as Sequence, length, Ok, Err, IfOk, IfErr};
+ghost use Rattle.std.specs.Prelude.{◌≡◌, ◌<◌, ◌≤◌, List as Sequence, length, Ok, Err, IfOk, IfErr};
 ghost use Rattle.pc_token.specs.declared.kinds.Token.{Token};
 ghost use Rattle.pc_lex.specs.declared.fault.LexFault.{LexFault};
-ghost use Rattle.pc_lex.specs.Limits.{bytes_limit, token_limit};
+ghost use Rattle.pc_lex.specs.Limits.{bytes_limit};
 ghost use Rattle.pc_lex.specs.Pieces as pieces;
-ghost use Rattle.pc_lex.specs.Pieces.{Tokens, FirstFault};
+ghost use Rattle.pc_lex.specs.Pieces.{FirstFault};
 ghost use Rattle.pc_lex.specs.Reading as reading;
 ghost use Rattle.pc_lex.specs.Reading.{Steps, StopWithin, Stuck};
 ghost use Rattle.pc_lex.specs.Answers.{TokenList, Refuses, Answers};

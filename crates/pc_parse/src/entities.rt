@@ -60,7 +60,7 @@ fn entity_of(
     ))
 }
 
-/// ("class" [Cap] | "trait" [Cap] | "actor" | "primitive") TypeName, and what stands behind it.
+/// ("class" [Cap] | "trait" [Cap] | "interface" [Cap] | "actor" | "primitive") TypeName, and what stands behind it.
 #[tactic(auto, unfolding(pc_grammar::specs::ReadingFile::entity, pc_grammar::specs::Reading::peek))]
 fn entity(alloc: Global, tokens: &[Token], at: usize) -> Result<(Entity, usize), ParseStop>
     requires { At tokens.now at }
@@ -76,6 +76,8 @@ fn entity(alloc: Global, tokens: &[Token], at: usize) -> Result<(Entity, usize),
         entity_of(alloc, tokens, at, EntityKind::Primitive)
     } else if is_word(token, Word::TraitWord) {
         entity_of(alloc, tokens, at, EntityKind::Trait)
+    } else if is_word(token, Word::InterfaceWord) {
+        entity_of(alloc, tokens, at, EntityKind::Interface)
     } else {
         Err(ParseStop::Unexpected(at))
     }

@@ -1,5 +1,5 @@
 //! Fields.
-ghost use Rattle.std.specs.Prelude.{◌≡◌, ◌≤◌, drop, map, IfOk};
+ghost use Rattle.std.specs.Prelude.{◌≤◌, drop, map, IfOk};
 ghost use Rattle.pc_tree.specs.View.{maybe_expr, field_view};
 ghost use Rattle.pc_grammar.specs.ReadingFile as rules;
 ghost use Rattle.pc_expr.specs.Gives.{At, Moves, Gives};

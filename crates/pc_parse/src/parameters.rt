@@ -1,5 +1,5 @@
 //! The parameters of a method.
-ghost use Rattle.std.specs.Prelude.{◌≡◌, ◌≤◌, drop, IfOk};
+ghost use Rattle.std.specs.Prelude.{◌≤◌, drop, IfOk};
 ghost use Rattle.pc_grammar.specs.ReadingFile as rules;
 ghost use Rattle.pc_expr.specs.Gives.{At, Moves, Gives};
 ghost use Rattle.pc_parse.specs.Parts as parts;

@@ -1,5 +1,5 @@
 //! Whole files.
-ghost use Rattle.std.specs.Prelude.{◌<◌, ◌≤◌, ◌+◌, length, IfOk, IfErr};
+ghost use Rattle.std.specs.Prelude.{◌≤◌, length, IfOk, IfErr};
 ghost use Rattle.pc_tree.specs.View.{file_view};
 ghost use Rattle.pc_grammar.specs.ReadingFile as rules;
 ghost use Rattle.pc_grammar.specs.FileAnswers.{IsFileAnswer, spelled};

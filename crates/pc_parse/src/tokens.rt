@@ -139,6 +139,7 @@ fn begins_entity(token: &Token) -> bool
         || is_word(token, Word::ActorWord)
         || is_word(token, Word::PrimitiveWord)
         || is_word(token, Word::TraitWord)
+        || is_word(token, Word::InterfaceWord)
 }
 
 /// Here, if an entity begins here.

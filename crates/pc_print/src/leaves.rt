@@ -2,7 +2,7 @@
 ghost use Rattle.std.specs.Prelude.{◌≡◌, ◌++◌, ◌<◌, ◌/◌, ◌%◌, [], ◌∷◌, if◌then◌else◌, OnOk};
 ghost use Rattle.std.specs.Char.{digit_char};
 ghost use Rattle.std.specs.Fmt.{decimal};
-ghost use Rattle.pc_print.specs.Escapes.{escaped, all_escaped};
+ghost use Rattle.pc_print.specs.Escapes.{escaped};
 ghost use Rattle.pc_print.specs.Printing as text;
 ghost use Rattle.pc_token.specs.Words.{word_text};
 ghost use Rattle.pc_grammar.specs.Asking.{local_word};

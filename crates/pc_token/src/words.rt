@@ -4,7 +4,7 @@ ghost use Rattle.pc_token.specs.Words as spec;
 
 /// A reserved word, named by its spelling. No name is spelled like one.
 ///
-/// The words from `InterfaceWord` on are reserved, and no rule of the grammar takes them so far.
+/// The words from `StructWord` on are reserved, and no rule of the grammar takes them so far.
 #[derive(Clone, Copy, Debug, PartialEq, Eq)]
 pub enum Word {
     ActorWord,

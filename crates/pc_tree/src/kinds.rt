@@ -9,7 +9,7 @@ pub enum EntityKind {
     Actor,
     Primitive,
     Trait,
-    /// An interface. No text spells one so far.
+    /// An interface: as a trait, but an entity is below it by its methods too.
     Interface,
 }
 

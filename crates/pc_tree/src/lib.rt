@@ -13,6 +13,7 @@ mod kinds;
 mod level;
 mod measure;
 mod names;
+mod spans;
 
 pub use expression::{Arm, Expr, Item, Seq, Suffix};
 pub use file::{Entity, FieldDef, File, MethodDef, ParamDef};
@@ -20,3 +21,4 @@ pub use kinds::{EntityKind, MethodWord, Op};
 pub use level::depth;
 pub use measure::size;
 pub use names::{Name, TypeRef};
+pub use spans::{join, span_of};

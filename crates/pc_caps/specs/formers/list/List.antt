@@ -38,7 +38,7 @@ the_empty = []
 
 -- The struct around its vector.
 abbrev around : Former {0}
-around = via (vector.the_former this Global) Inside (λ T list. list.values) (λ T values. record { values = values }) (λ T list. refl) (λ T values. refl)
+around = via (vector.the_former this Global) Inside (λ T list. list.row) (λ T row. record { row = row }) (λ T list. refl) (λ T values. refl)
 
 -- Two types of values that are laid out alike give two lists that are.
 module _ (From To : RattleType) (change : From.Denot → To.Denot) where

@@ -1,4 +1,4 @@
-use Rattle.std.proofs.Common.{◌≡◌, Some, ap, ap₂, ◌∙◌}
+use Rattle.std.proofs.Common.{Some, ap, ap₂, ◌∙◌}
 use Rattle.pc_tree.specs.Tree as t
 use Rattle.pc_tree.specs.View.{seq_view, arms_view}
 use Rattle.pc_tree.proofs.Views.{view_if}
