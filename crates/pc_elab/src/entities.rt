@@ -5,7 +5,7 @@ ghost use Rattle.pc_names.specs.Chains.{first_own, numbers_of};
 ghost use Rattle.pc_names.specs.Reach.{or_nil};
 ghost use Rattle.pc_file_spec.specs.Cores as spec;
 ghost use Rattle.pc_elab.specs.Rows as rows;
-ghost use Rattle.pc_elab.specs.Views.{members_view, table_view};
+ghost use Rattle.pc_elab.specs.Views.{table_view};
 
 use crate::known::{default_cap, number_after};
 use crate::language::list_built_ins;

@@ -1,5 +1,5 @@
 //! What the bodies of a file see of its entities.
-ghost use Rattle.std.specs.Prelude.{◌≡◌, ◌++◌, ◌∷◌, [], ◌+◌, ◌<◌, ◌^◌, map, length, IfOk, codes};
+ghost use Rattle.std.specs.Prelude.{◌≡◌, ◌++◌, [], ◌+◌, ◌<◌, ◌^◌, map, length, IfOk};
 ghost use Rattle.pc_tree.specs.View.{entity_view};
 ghost use Rattle.pc_file_spec.specs.Known as spec;
 ghost use Rattle.pc_body_spec.specs.Slots.{cap_or as either_cap};

@@ -1,5 +1,5 @@
 //! The members of an entity.
-ghost use Rattle.std.specs.Prelude.{◌≡◌, ◌++◌, [], map, IfOk, OnOk};
+ghost use Rattle.std.specs.Prelude.{◌≡◌, ◌++◌, map, IfOk, OnOk};
 ghost use Rattle.pc_tree.specs.View.{entity_view, method_view};
 ghost use Rattle.pc_file_spec.specs.Members as spec;
 ghost use Rattle.pc_elab.specs.Rounds as rounds;

@@ -15,7 +15,7 @@ use crate::member::Member;
 use crate::signature::{kind_of, params_of, receiver_of, result_of};
 use crate::slots::add_slots;
 use pc_caps::{List, Span};
-use pc_core::{Method, Node, Slot};
+use pc_core::{Method, Node, ParamInfo, Slot};
 use pc_emit::{EmitStop, emit, emit_added};
 use pc_names::{NameFault, Which};
 use pc_resolve::{BodyFault, Context, Local, check, check_added};
@@ -160,6 +160,42 @@ fn member_outcome(
     }
 }
 
+// Where the slots and nodes of a method stand.
+#[derive(Clone, Copy)]
+struct Places {
+    first_slot: u32,
+    slots: u32,
+    first_node: u32,
+    body: Option<u32>,
+}
+
+// A member of the entity of this number as a method, with these parameters and places.
+fn declare(
+    context: &Context,
+    number_of_entity: u32,
+    entity: &Entity,
+    member: Member,
+    params: List<ParamInfo>,
+    places: Places,
+) -> Method
+    requires { params ≡ signatures.params_of context.now.entities (member_view member) }
+    ensures { result ≡ signatures.declared context.now (owned number_of_entity (entity_view entity.now) (member_view member.entry)) places.first_slot places.slots places.first_node places.body }
+{
+    Method {
+        entity: number_of_entity,
+        name: context.text_of(member.text()),
+        kind: kind_of(entity.kind, member),
+        receiver: receiver_of(member),
+        params,
+        result: result_of(context, entity.kind, number_of_entity, member),
+        first_slot: places.first_slot,
+        slots: places.slots,
+        first_node: places.first_node,
+        body: places.body,
+        span: member.span(entity.name.span),
+    }
+}
+
 // The method and the slots of a member of the entity of this number go behind the others. Its nodes are there.
 fn join(
     alloc: Global,
@@ -189,19 +225,14 @@ fn join(
         locals,
     )?;
     let behind = number(parts.slots.len())?;
-    parts.methods.push(Method {
-        entity: number_of_entity,
-        name: context.text_of(member.text()),
-        kind: kind_of(entity.kind, member),
-        receiver: receiver_of(member),
-        params,
-        result: result_of(context, entity.kind, number_of_entity, member),
+    let places = Places {
         first_slot,
         slots: behind - first_slot,
         first_node,
         body,
-        span: member.span(entity.name.span),
-    })?;
+    };
+    let declared = declare(context, number_of_entity, entity, member, params, places);
+    parts.methods.push(declared)?;
     Ok(())
 }
 

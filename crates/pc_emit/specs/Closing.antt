@@ -8,7 +8,7 @@ use Rattle.pc_tree.specs.declared.names.Name.{Name}
 use Rattle.pc_tree.specs.Tree as t
 use Rattle.pc_body_spec.specs.Roses.{Rose, rose, leaf, one, two, and_last, Numbered, and_then, push}
 use Rattle.pc_body_spec.specs.Scopes.{Context, Scope, Meaning, local, field, method, nothing, resolve, text_of}
-use Rattle.pc_body_spec.specs.Expressions.{join, gap, expr_of, exprs_of, chain_of, Start, with_value, Use, read, write}
+use Rattle.pc_body_spec.specs.Expressions.{join, gap, value_then, write_name, expr_of, exprs_of, chain_of, Start, with_value, Use, read, write}
 use Rattle.pc_emit.specs.declared.stop.EmitStop.{EmitStop}
 use Rattle.pc_emit.specs.declared.stop.EmitStop.TheVariants as stop
 use Rattle.pc_emit.specs.declared.waiting.OpenArm.{OpenArm}
@@ -156,6 +156,12 @@ names_none nothing = true
 abbrev pub is_missing : Context → Scope → t.Expr → Bool
 is_missing c sc (t.name n) = names_none (resolve c sc n.text)
 is_missing c sc e = false
+
+-- What stands for a write to an expression that is no chain: only a bare name takes the value. `left` is what it would be
+-- alone.
+abbrev pub alone_of : Context → Scope → ℕ → Span → Rose → Rose → t.Expr → Rose
+alone_of c sc d s value left (t.name n) = write_name c s n d value (resolve c sc n.text)
+alone_of c sc d s value left e = value_then s d value left
 
 -- The node of what is written to a bare name that something has, behind the value.
 unfoldable pub name_closes : Context → ℕ → ℕ → Span → Name → Meaning → ℕ → List Node → Numbered ℕ

@@ -57,7 +57,19 @@ pub(crate) fn begin(
     match head {
         Expr::Name(name) => begin_with_name(context, scope, name, suffixes),
         Expr::TypeName(name) => begin_with_type(context, name, suffixes),
-        _ => Beginning::Value,
+        Expr::Number { .. }
+        | Expr::Truth { .. }
+        | Expr::Text { .. }
+        | Expr::This(_)
+        | Expr::Consume { .. }
+        | Expr::Not { .. }
+        | Expr::Infix { .. }
+        | Expr::Chain { .. }
+        | Expr::Group { .. }
+        | Expr::If { .. }
+        | Expr::While { .. }
+        | Expr::Recover { .. }
+        | Expr::Assign { .. } => Beginning::Value,
     }
 }
 
@@ -262,6 +274,19 @@ pub(crate) fn is_missing(context: &Context, scope: &[Visible], left: &Expr) -> b
             context.resolve(scope, name.text.as_slice()),
             Meaning::Method | Meaning::Nothing
         ),
-        _ => false,
+        Expr::Number { .. }
+        | Expr::Truth { .. }
+        | Expr::Text { .. }
+        | Expr::TypeName(_)
+        | Expr::This(_)
+        | Expr::Consume { .. }
+        | Expr::Not { .. }
+        | Expr::Infix { .. }
+        | Expr::Chain { .. }
+        | Expr::Group { .. }
+        | Expr::If { .. }
+        | Expr::While { .. }
+        | Expr::Recover { .. }
+        | Expr::Assign { .. } => false,
     }
 }

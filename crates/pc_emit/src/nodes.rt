@@ -1,7 +1,5 @@
 //! Single nodes, and the places at which they stand.
-ghost use Rattle.std.specs.Prelude.{◌≡◌, ◌∷◌, [], ◌++◌, IfOk};
-ghost use Rattle.pc_tree.specs.Tree as tree;
-ghost use Rattle.pc_tree.specs.View.{expr_view};
+ghost use Rattle.std.specs.Prelude.{◌≡◌, ◌∷◌, [], IfOk};
 ghost use Rattle.pc_body_spec.specs.Roses as roses;
 ghost use Rattle.pc_body_spec.specs.Expressions as spec;
 ghost use Rattle.pc_emit.specs.Giving.{Gives};
@@ -10,7 +8,7 @@ use crate::setting::Setting;
 use crate::stop::EmitStop;
 use pc_caps::{List, Span};
 use pc_core::{Node, NodeKind};
-use pc_tree::{Expr, Op};
+use pc_tree::Op;
 use std::alloc::{AllocError, Global};
 
 /// How many nodes a program may have.
@@ -100,16 +98,6 @@ pub(crate) fn one(alloc: Global, child: u32) -> Result<List<u32>, AllocError>
     Ok(children)
 }
 
-/// From the start of the first to the end of the second.
-pub(crate) fn join(a: Span, b: Span) -> Span
-    ensures { result ≡ spec.join a b }
-{
-    Span {
-        start: a.start,
-        end: b.end,
-    }
-}
-
 /// The word `end` of an `if`.
 pub(crate) fn end_word(span: Span) -> Span
     ensures { result ≡ spec.end_word span }
@@ -117,28 +105,6 @@ pub(crate) fn end_word(span: Span) -> Span
     Span {
         start: span.end.saturating_sub(3),
         end: span.end,
-    }
-}
-
-/// Where an expression stands.
-pub(crate) fn span_of(e: &Expr) -> Span
-    ensures { result ≡ tree.span_of (expr_view e.now) }
-{
-    match e {
-        Expr::Name(name) | Expr::TypeName(name) => name.span,
-        Expr::This(span) => *span,
-        Expr::Number { span, .. }
-        | Expr::Truth { span, .. }
-        | Expr::Text { span, .. }
-        | Expr::Consume { span, .. }
-        | Expr::Not { span, .. }
-        | Expr::Infix { span, .. }
-        | Expr::Chain { span, .. }
-        | Expr::Group { span, .. }
-        | Expr::If { span, .. }
-        | Expr::While { span, .. }
-        | Expr::Recover { span, .. }
-        | Expr::Assign { span, .. } => *span,
     }
 }
 
@@ -151,6 +117,17 @@ pub(crate) fn operation(op: Op) -> NodeKind
         Op::Or => NodeKind::Or,
         Op::Is => NodeKind::Same(true),
         Op::Isnt => NodeKind::Same(false),
-        _ => NodeKind::Binary(op),
+        Op::Add
+        | Op::Sub
+        | Op::Mul
+        | Op::Div
+        | Op::Rem
+        | Op::Eq
+        | Op::Ne
+        | Op::Lt
+        | Op::Le
+        | Op::Gt
+        | Op::Ge
+        | Op::Xor => NodeKind::Binary(op),
     }
 }

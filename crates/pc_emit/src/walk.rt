@@ -1,16 +1,15 @@
 //! The nodes of expressions and sequences, in the order of evaluation.
 ghost use Rattle.std.specs.Prelude.{◌≡◌, ◌+◌, ◌≤◌, OnOk, length, take, drop, map, true, false, Some, List as Sequence};
-ghost use Rattle.pc_tree.specs.View.{expr_view, item_view, suffix_view, suffixes_view, seq_view, items_view, exprs_view, arms_view, other_view};
+ghost use Rattle.pc_tree.specs.View.{expr_view, item_view, suffix_view, seq_view, items_view, exprs_view, arms_view, other_view};
 ghost use Rattle.pc_body_spec.specs.Expressions as spec;
-ghost use Rattle.pc_body_spec.specs.Roses as roses;
 ghost use Rattle.pc_body_spec.specs.Roses.{Rose, put, puts};
 ghost use Rattle.pc_body_spec.specs.Scopes.{scope_after};
 ghost use Rattle.pc_emit.specs.Giving.{Gives};
-ghost use Rattle.pc_emit.specs.Closing.{arm_closes, begun, begun_by, is_block, is_chain, link_closes, link_of, first_of, is_missing as misses, only, rest_of, taken as count_of, Opens, OpensChain, OpensOne};
+ghost use Rattle.pc_emit.specs.Closing.{alone_of, arm_closes, begun, begun_by, is_block, is_chain, link_closes, link_of, first_of, is_missing as misses, only, rest_of, taken as count_of, Opens, OpensChain, OpensOne};
 
 use crate::chains::{Beginning, First, begin, behind, count_taken, cut, is_missing, split_field};
 use crate::names::{consume, read_name, read_text, read_type, write_name};
-use crate::nodes::{double, end_word, gap, join, leaf, operation, push, single, span_of};
+use crate::nodes::{double, end_word, gap, leaf, operation, push, single};
 use crate::setting::Setting;
 use crate::stop::EmitStop;
 use crate::waiting::{
@@ -19,7 +18,7 @@ use crate::waiting::{
 use pc_caps::{List, Span};
 use pc_core::{Node, NodeKind};
 use pc_resolve::Visible;
-use pc_tree::{Arm, Expr, Item, Op, Seq, Suffix};
+use pc_tree::{Arm, Expr, Item, Op, Seq, Suffix, join, span_of};
 
 /// An expression.
 #[cycle(walk)]
@@ -144,24 +143,54 @@ fn store(
     ensures gives { (v : Rose) (before : Sequence Node) → misses setting.now.context.now scope.old (expr_view left.now) ≡ false → put setting.now.number v before ≡ Some (value, nodes.old) → Gives result nodes.new (put setting.now.number (spec.assign_of setting.now.context.now scope.old setting.now.depth span v (spec.expr_of setting.now.context.now scope.old setting.now.depth (expr_view left.now)) (expr_view left.now)) before) }
     ensures scope { OnOk result (scope.new ≡ scope.old) }
 {
+    let Expr::Chain {
+        head,
+        suffixes,
+        span: reach,
+    } = left
+    else {
+        return store_alone(setting, scope, nodes, span, left, value);
+    };
+    let head: &Expr = head;
+    let suffixes = suffixes.as_slice();
+    let beginning = begin(setting.context, scope.as_slice(), head, suffixes);
+    let taken = count_taken(&beginning);
+    let written = behind(suffixes, taken);
+    let (field, count) = split_field(setting.context, written);
+    let opened = open_chain(setting, scope, nodes, *reach, suffixes, beginning, count)?;
+    let origin = chain_origin(setting, scope, nodes, opened.origin, head)?;
+    close_write(setting, nodes, span, field, opened.links, origin, value)
+}
+
+/// What is written to, behind its value, where it is no chain: only a bare name takes the value.
+#[cycle(walk)]
+fn store_alone(
+    setting: &Setting,
+    scope: &mut List<Visible>,
+    nodes: &mut List<Node>,
+    span: Span,
+    left: &Expr,
+    value: u32,
+) -> Result<u32, EmitStop>
+    ensures gives { (v : Rose) (before : Sequence Node) → misses setting.now.context.now scope.old (expr_view left.now) ≡ false → put setting.now.number v before ≡ Some (value, nodes.old) → Gives result nodes.new (put setting.now.number (alone_of setting.now.context.now scope.old setting.now.depth span v (spec.expr_of setting.now.context.now scope.old setting.now.depth (expr_view left.now)) (expr_view left.now)) before) }
+    ensures scope { OnOk result (scope.new ≡ scope.old) }
+{
     match left {
         Expr::Name(name) => write_name(setting, scope.as_slice(), nodes, span, name, value),
-        Expr::Chain {
-            head,
-            suffixes,
-            span: reach,
-        } => {
-            let head: &Expr = head;
-            let suffixes = suffixes.as_slice();
-            let beginning = begin(setting.context, scope.as_slice(), head, suffixes);
-            let taken = count_taken(&beginning);
-            let written = behind(suffixes, taken);
-            let (field, count) = split_field(setting.context, written);
-            let opened = open_chain(setting, scope, nodes, *reach, suffixes, beginning, count)?;
-            let origin = chain_origin(setting, scope, nodes, opened.origin, head)?;
-            close_write(setting, nodes, span, field, opened.links, origin, value)
-        }
-        _ => {
+        Expr::Number { .. }
+        | Expr::Truth { .. }
+        | Expr::Text { .. }
+        | Expr::TypeName(_)
+        | Expr::This(_)
+        | Expr::Consume { .. }
+        | Expr::Not { .. }
+        | Expr::Infix { .. }
+        | Expr::Chain { .. }
+        | Expr::Group { .. }
+        | Expr::If { .. }
+        | Expr::While { .. }
+        | Expr::Recover { .. }
+        | Expr::Assign { .. } => {
             let last = expr(setting, scope, nodes, left)?;
             double(setting, nodes, NodeKind::Seq, span, value, last)
         }

@@ -20,7 +20,7 @@ use Rattle.pc_lists.specs.Places.{Each, Has, Differ, Ascends, IsIn}
 use Rattle.pc_names.specs.Words.{Text, built_in_names, texts_of, entity_names}
 use Rattle.pc_names.specs.Faults.{field_texts, method_texts}
 use Rattle.pc_names.specs.Reach.{or_nil}
-use Rattle.pc_names.specs.Chains.{first_own, Closes, IsAbove, numbers_of}
+use Rattle.pc_names.specs.Chains.{first_own, IsAbove, numbers_of}
 use Rattle.pc_names.specs.Chains as chain
 use Rattle.pc_names.proofs.Closings.{numbers_only, numbers_all, no_entity}
 use Rattle.pc_file_spec.specs.Members.{Member, written, added, members, member_text, Owned, owned}

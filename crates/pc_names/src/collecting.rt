@@ -1,11 +1,8 @@
 //! The names of a file, or the first thing that is wrong with them.
-ghost use Rattle.std.specs.Prelude.{◌≡◌, ◌++◌, ◌+◌, ◌<◌, ◌≤◌, ◌^◌, map, drop, length, IfOk, IfErr};
+ghost use Rattle.std.specs.Prelude.{◌≡◌, ◌+◌, ◌<◌, ◌≤◌, ◌^◌, map, drop, length, IfOk, IfErr};
 ghost use Rattle.pc_tree.specs.View.{entity_view, file_view};
 ghost use Rattle.pc_names.specs.Chains.{first_own, edges_of};
-ghost use Rattle.pc_names.specs.Counts.{count_faults};
-ghost use Rattle.pc_names.specs.Cycles.{cycle_faults};
 ghost use Rattle.pc_names.specs.Faults.{Tells, declaration_faults};
-ghost use Rattle.pc_names.specs.Mains.{main_faults};
 ghost use Rattle.pc_names.specs.Names.{Collected, IsNameFault, above_faults};
 ghost use Rattle.pc_names.specs.Reach.{above_all};
 ghost use Rattle.pc_names.specs.Words.{entity_names};

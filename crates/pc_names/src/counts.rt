@@ -1,5 +1,5 @@
 //! How many methods a file has.
-ghost use Rattle.std.specs.Prelude.{◌≡◌, ◌+◌, ◌<◌, ◌≤◌, map, length, OnOk, IfOk, if◌then◌else◌};
+ghost use Rattle.std.specs.Prelude.{◌≡◌, map, length, OnOk, IfOk};
 ghost use Rattle.pc_tree.specs.View.{entity_view};
 ghost use Rattle.pc_names.specs.Counts as spec;
 ghost use Rattle.pc_names.specs.Faults.{Tells};

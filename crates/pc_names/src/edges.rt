@@ -1,5 +1,5 @@
 //! The `is` lists, as edges between the numbers of entities.
-ghost use Rattle.std.specs.Prelude.{◌≡◌, ◌++◌, [], ◌∷◌, map, replicate, OnOk, IfOk};
+ghost use Rattle.std.specs.Prelude.{◌≡◌, ◌++◌, [], map, replicate, IfOk};
 ghost use Rattle.pc_tree.specs.View.{entity_view, file_view};
 ghost use Rattle.pc_names.specs.Chains as spec;
 ghost use Rattle.pc_names.specs.Words.{entity_names};

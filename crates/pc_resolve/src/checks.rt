@@ -1,5 +1,5 @@
 //! What single names and texts of a body may be.
-ghost use Rattle.std.specs.Prelude.{◌≡◌, ◌∷◌, [], length, nat_lt, if◌then◌else◌};
+ghost use Rattle.std.specs.Prelude.{◌∷◌, [], length, nat_lt, if◌then◌else◌};
 ghost use Rattle.pc_body_spec.specs.Scopes.{constructor_named as constructor_in, resolve, slot_of as slot_in, type_meaning};
 ghost use Rattle.pc_body_spec.specs.Faults as spec;
 ghost use Rattle.pc_resolve.specs.Checking.{Tells};

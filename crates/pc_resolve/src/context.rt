@@ -1,5 +1,5 @@
 //! What stays the same throughout the body of a method, and what names mean in it.
-ghost use Rattle.std.specs.Prelude.{◌≡◌, ◌<◌, ◌≤◌, ◌^◌, [], length, if◌then◌else◌};
+ghost use Rattle.std.specs.Prelude.{◌≡◌, ◌<◌, ◌^◌, length, if◌then◌else◌};
 ghost use Rattle.pc_body_spec.specs.Scopes as spec;
 ghost use Rattle.pc_body_spec.specs.Faults.{is_entity};
 ghost use Rattle.pc_body_spec.specs.Slots as slots;

@@ -1,7 +1,7 @@
 //! The first fault of a body, in the order of the text.
 ghost use Rattle.std.specs.Prelude.{◌≡◌, OnOk, length, map, take};
 ghost use Rattle.pc_tree.specs.View.{arm_view, arms_view, expr_view, exprs_view, field_view, item_view, items_view, maybe_expr, maybe_seq, method_view, other_view, seq_view, suffix_view, suffixes_view};
-ghost use Rattle.pc_body_spec.specs.Scopes.{params_scope as scope_of, scope_after};
+ghost use Rattle.pc_body_spec.specs.Scopes.{scope_after};
 ghost use Rattle.pc_body_spec.specs.Faults as spec;
 ghost use Rattle.pc_body_spec.specs.Expressions.{start_of};
 ghost use Rattle.pc_resolve.specs.Checking.{Tells, args_faults, next_view, suffix_faults};

@@ -181,8 +181,8 @@ chain-returns-clause-gives t c =
     let there = subst (λ z. part z ≡ Some (c.in_ok-origin.origin, n2)) c.in_ok-opened.ensures.scope c.in_ok-origin.ensures.gives in
     rw w (inner_gives c.close_links.result n2 c.close_links.new.nodes c.in_ok-origin.origin (part sc) (closing (link_closes m d) o.links) _ (c.in_ok-opened.ensures.gives a) there c.close_links.ensures)
 
-pub store-returns-in_err-opened-in-Chain-clause-gives : goal.store-returns-in_err-opened-in-Chain-clause-gives
-store-returns-in_err-opened-in-Chain-clause-gives t c = λ v before there first.
+pub store-returns-in_err-opened-clause-gives : goal.store-returns-in_err-opened-clause-gives
+store-returns-in_err-opened-clause-gives t c = λ v before there first.
     let p = err_from_is_err_and c.from_residual.result c.from_residual.ensures.1 in
     let xs = c.as_slice-suffixes.result.now in
     let h = c.deref-head.result.now in
@@ -193,15 +193,15 @@ store-returns-in_err-opened-in-Chain-clause-gives t c = λ v before there first.
     let cx = c.args.setting.now.context.now in
     let a = spec.expr_of cx sc d (expr_view h) in
     let r = rest_of cx sc d c.in-Chain.reach (begun cx sc d c.in-Chain.reach beg (map suffix_view xs) a) (map suffix_view (take c.split_field-field.result.1 (drop (taken beg) xs))) in
-    let w = write_opens cx sc _ d c.args.left.now h c.in-Chain.head c.in-Chain.suffixes xs c.in-Chain.reach c.args.span v beg c.count_taken-taken.result c.split_field-field.result.1 c.split_field-field.result.0 c.behind-written.result.now c.in-Chain.is c.deref-head.ensures c.as_slice-suffixes.ensures c.as_slice-in-Chain.ensures c.begin-beginning.ensures.begins c.count_taken-taken.ensures c.behind-written.ensures c.split_field-field.ensures.split in
+    let w = write_opens cx sc _ d c.args.left.now h c.in-Chain.head c.in-Chain.suffixes xs c.in-Chain.reach c.args.span v beg c.count_taken-taken.result c.split_field-field.result.1 c.split_field-field.result.0 c.behind-written.result.now c.in-Chain.is c.deref-head.ensures c.as_slice-suffixes.ensures c.as_slice.ensures c.begin-beginning.ensures.begins c.count_taken-taken.ensures c.behind-written.ensures c.split_field-field.ensures.split in
     let begin = write_start m d c.args.span c.split_field-field.result.0 v r _ c.args.value before c.args.nodes.now w first in
-    let e = c.in_err-opened-in-Chain.field-0.0 in
+    let e = c.in_err-opened.field-0.0 in
     let n1 = c.open_chain.new.nodes in
-    rw (p.1, p.2) (inner_stops e n1 n1 (put m r c.args.nodes.now) _ _ begin (chain_stops e n1 n1 (link_closes m d) (put m a) _ (c.in_err-opened-in-Chain.ensures.gives a)))
+    rw (p.1, p.2) (inner_stops e n1 n1 (put m r c.args.nodes.now) _ _ begin (chain_stops e n1 n1 (link_closes m d) (put m a) _ (c.in_err-opened.ensures.gives a)))
 
-pub store-returns-in_err-origin-in-Chain-clause-gives : goal.store-returns-in_err-origin-in-Chain-clause-gives
-store-returns-in_err-origin-in-Chain-clause-gives t c = λ v before there first.
-    let p = err_from_is_err_and c.from_residual-in_err-origin-in-Chain.result c.from_residual-in_err-origin-in-Chain.ensures.1 in
+pub store-returns-in_err-origin-clause-gives : goal.store-returns-in_err-origin-clause-gives
+store-returns-in_err-origin-clause-gives t c = λ v before there first.
+    let p = err_from_is_err_and c.from_residual-in_err-origin.result c.from_residual-in_err-origin.ensures.1 in
     let xs = c.as_slice-suffixes.result.now in
     let h = c.deref-head.result.now in
     let beg = c.begin-beginning.result in
@@ -211,17 +211,17 @@ store-returns-in_err-origin-in-Chain-clause-gives t c = λ v before there first.
     let cx = c.args.setting.now.context.now in
     let a = spec.expr_of cx sc d (expr_view h) in
     let r = rest_of cx sc d c.in-Chain.reach (begun cx sc d c.in-Chain.reach beg (map suffix_view xs) a) (map suffix_view (take c.split_field-field.result.1 (drop (taken beg) xs))) in
-    let w = write_opens cx sc _ d c.args.left.now h c.in-Chain.head c.in-Chain.suffixes xs c.in-Chain.reach c.args.span v beg c.count_taken-taken.result c.split_field-field.result.1 c.split_field-field.result.0 c.behind-written.result.now c.in-Chain.is c.deref-head.ensures c.as_slice-suffixes.ensures c.as_slice-in-Chain.ensures c.begin-beginning.ensures.begins c.count_taken-taken.ensures c.behind-written.ensures c.split_field-field.ensures.split in
+    let w = write_opens cx sc _ d c.args.left.now h c.in-Chain.head c.in-Chain.suffixes xs c.in-Chain.reach c.args.span v beg c.count_taken-taken.result c.split_field-field.result.1 c.split_field-field.result.0 c.behind-written.result.now c.in-Chain.is c.deref-head.ensures c.as_slice-suffixes.ensures c.as_slice.ensures c.begin-beginning.ensures.begins c.count_taken-taken.ensures c.behind-written.ensures c.split_field-field.ensures.split in
     let begin = write_start m d c.args.span c.split_field-field.result.0 v r _ c.args.value before c.args.nodes.now w first in
-    let o = c.in_ok-opened-in-Chain.opened in
+    let o = c.in_ok-opened.opened in
     let part = λ (z : List Visible). begun_by o.origin (put m (spec.expr_of cx z d (expr_view h))) c.open_chain.new.nodes in
-    let e = c.in_err-origin-in-Chain.field-0.0 in
+    let e = c.in_err-origin.field-0.0 in
     let n2 = c.chain_origin.new.nodes in
-    let stopped : Gives (Err e) n2 (part sc) = subst (λ z. Gives (Err e) n2 (part z)) c.in_ok-opened-in-Chain.ensures.scope c.in_err-origin-in-Chain.ensures.gives in
-    rw (p.1, p.2) (inner_stops e n2 n2 (put m r c.args.nodes.now) _ _ begin (inner_stops e n2 n2 (part sc) (closing (link_closes m d) o.links) _ (c.in_ok-opened-in-Chain.ensures.gives a) stopped))
+    let stopped : Gives (Err e) n2 (part sc) = subst (λ z. Gives (Err e) n2 (part z)) c.in_ok-opened.ensures.scope c.in_err-origin.ensures.gives in
+    rw (p.1, p.2) (inner_stops e n2 n2 (put m r c.args.nodes.now) _ _ begin (inner_stops e n2 n2 (part sc) (closing (link_closes m d) o.links) _ (c.in_ok-opened.ensures.gives a) stopped))
 
-pub store-returns-in_ok-origin-in-Chain-clause-gives : goal.store-returns-in_ok-origin-in-Chain-clause-gives
-store-returns-in_ok-origin-in-Chain-clause-gives t c = λ v before there first.
+pub store-returns-clause-gives : goal.store-returns-clause-gives
+store-returns-clause-gives t c = λ v before there first.
     let xs = c.as_slice-suffixes.result.now in
     let h = c.deref-head.result.now in
     let beg = c.begin-beginning.result in
@@ -231,17 +231,17 @@ store-returns-in_ok-origin-in-Chain-clause-gives t c = λ v before there first.
     let cx = c.args.setting.now.context.now in
     let a = spec.expr_of cx sc d (expr_view h) in
     let r = rest_of cx sc d c.in-Chain.reach (begun cx sc d c.in-Chain.reach beg (map suffix_view xs) a) (map suffix_view (take c.split_field-field.result.1 (drop (taken beg) xs))) in
-    let w = write_opens cx sc _ d c.args.left.now h c.in-Chain.head c.in-Chain.suffixes xs c.in-Chain.reach c.args.span v beg c.count_taken-taken.result c.split_field-field.result.1 c.split_field-field.result.0 c.behind-written.result.now c.in-Chain.is c.deref-head.ensures c.as_slice-suffixes.ensures c.as_slice-in-Chain.ensures c.begin-beginning.ensures.begins c.count_taken-taken.ensures c.behind-written.ensures c.split_field-field.ensures.split in
+    let w = write_opens cx sc _ d c.args.left.now h c.in-Chain.head c.in-Chain.suffixes xs c.in-Chain.reach c.args.span v beg c.count_taken-taken.result c.split_field-field.result.1 c.split_field-field.result.0 c.behind-written.result.now c.in-Chain.is c.deref-head.ensures c.as_slice-suffixes.ensures c.as_slice.ensures c.begin-beginning.ensures.begins c.count_taken-taken.ensures c.behind-written.ensures c.split_field-field.ensures.split in
     let begin = write_start m d c.args.span c.split_field-field.result.0 v r _ c.args.value before c.args.nodes.now w first in
-    let o = c.in_ok-opened-in-Chain.opened in
+    let o = c.in_ok-opened.opened in
     let part = λ (z : List Visible). begun_by o.origin (put m (spec.expr_of cx z d (expr_view h))) c.open_chain.new.nodes in
     let n2 = c.chain_origin.new.nodes in
-    let there = subst (λ z. part z ≡ Some (c.in_ok-origin-in-Chain.origin, n2)) c.in_ok-opened-in-Chain.ensures.scope c.in_ok-origin-in-Chain.ensures.gives in
-    let whole : put m r c.args.nodes.now ≡ closing (link_closes m d) o.links c.in_ok-origin-in-Chain.origin n2 = c.in_ok-opened-in-Chain.ensures.gives a ∙ ap (λ z. and_then z (closing (link_closes m d) o.links)) there in
+    let there = subst (λ z. part z ≡ Some (c.in_ok-origin.origin, n2)) c.in_ok-opened.ensures.scope c.in_ok-origin.ensures.gives in
+    let whole : put m r c.args.nodes.now ≡ closing (link_closes m d) o.links c.in_ok-origin.origin n2 = c.in_ok-opened.ensures.gives a ∙ ap (λ z. and_then z (closing (link_closes m d) o.links)) there in
     rw (begin, whole) c.close_write.ensures
 
-pub store-returns-in-Name-clause-gives : goal.store-returns-in-Name-clause-gives
-store-returns-in-Name-clause-gives t c = λ v before there first.
+pub store_alone-returns-in-Name-clause-gives : goal.store_alone-returns-in-Name-clause-gives
+store_alone-returns-in-Name-clause-gives t c = λ v before there first.
     let cx = c.args.setting.now.context.now in
     let sc = c.args.scope.now in
     let n = c.in-Name.name in
