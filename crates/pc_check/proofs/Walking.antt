@@ -1,11 +1,11 @@
 -- One node more.
-use Rattle.std.specs.Prelude.{◌≡◌, ◌⊎◌, ℕ, ◌+◌, ◌<◌, ◌≤◌, true, false, not, ◌&&◌, List, [], ◌∷◌, ◌++◌, map, length, Option, Some, None, slice_get, slice_set, refl}
+use Rattle.std.specs.Prelude.{◌≡◌, ◌⊎◌, ℕ, ◌+◌, ◌<◌, ◌≤◌, true, false, not, ◌&&◌, List, [], ◌∷◌, ◌++◌, length, Option, Some, None, slice_get, slice_set, refl}
 use Rattle.std.proofs.Common.{inl, inr, ap, sym, subst, ◌∙◌, arith}
-use Rattle.std.proofs.lemmas.List.{length-map, length-set, length-append}
+use Rattle.std.proofs.lemmas.List.{length-set, length-append}
 use Rattle.std.proofs.lemmas.Option.{same_Some, none-some}
 use Rattle.std.proofs.lemmas.Bool.{cases_lt, not-false}
 use Rattle.std.proofs.lemmas.Bool.Decides.{eqb_tells}
-use Rattle.pc_lists.proofs.Gets.{get_below, get_within, get_front, get_behind, get_set_other, get_map}
+use Rattle.pc_lists.proofs.Gets.{get_below, get_within, get_front, get_behind, get_set_other}
 use Rattle.pc_caps.specs.declared.capability.Cap.{Cap}
 use Rattle.pc_core.specs.declared.declarations.Method.{Method}
 use Rattle.pc_core.specs.declared.nodes.Slot.{Slot}
@@ -30,7 +30,7 @@ use Rattle.pc_rules.proofs.Agreeing.{body_method}
 use Rattle.pc_check.specs.declared.sources.Source.{Source}
 use Rattle.pc_check.specs.declared.sources.Source.TheVariants as source
 use Rattle.pc_check.specs.Sources.{Comes, Placed}
-use Rattle.pc_check.specs.Inference.{masks_in, masks_behind, written_type, first_types, inferred_slot, with_slot, with_inferred, masks_from, note_of, or_else, first_note, is_body, lacks_field, leaves_unset}
+use Rattle.pc_check.specs.Inference.{masks_in, masks_behind, inferred_slot, with_slot, with_inferred, masks_from, note_of, or_else, first_note, is_body, lacks_field, leaves_unset}
 use Rattle.pc_check.specs.Walked.{Walked}
 use Rattle.pc_rules.proofs.Homes.{children_before}
 use Rattle.pc_check.proofs.Definitions.{inferred_inv, other_place}

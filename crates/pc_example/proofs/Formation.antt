@@ -1,5 +1,5 @@
 -- The core of the small program is formed.
-use Rattle.std.specs.Prelude.{◌≡◌, ◌⊎◌, ℕ, zero, suc, ◌+◌, ◌<◌, ◌≤◌, Bool, true, false, nat_eq, if◌then◌else◌, List, [], ◌∷◌, ◌++◌, map, length, Option, Some, None, slice_get, refl}
+use Rattle.std.specs.Prelude.{◌≡◌, ℕ, zero, suc, nat_eq, if◌then◌else◌, List, [], ◌∷◌, map, length, Some, slice_get, refl}
 use Rattle.std.proofs.Common.{inl, inr, ap, sym, subst, ◌∙◌, arith}
 use Rattle.std.proofs.lemmas.Option.{same_Some, none-some}
 use Rattle.pc_caps.specs.declared.capability.Cap.{Cap}
@@ -10,11 +10,8 @@ use Rattle.pc_core.specs.declared.declarations.Method.{Method}
 use Rattle.pc_core.specs.declared.nodes.Slot.{Slot}
 use Rattle.pc_core.specs.declared.nodes.SlotKind.TheVariants as slot
 use Rattle.pc_core.specs.declared.nodes.Node.{Node}
-use Rattle.pc_core.specs.declared.nodes.NodeKind.{NodeKind}
-use Rattle.pc_core.specs.declared.nodes.NodeKind.TheVariants as node
-use Rattle.pc_core.specs.CoreData.{CoreData}
 use Rattle.pc_lists.specs.Places.{Each, Has, Differ}
-use Rattle.pc_core.specs.Entities.{built_in_value, HasBuiltIn, HasMain, EntityFits, Leads, one, more}
+use Rattle.pc_core.specs.Entities.{built_in_value, EntityFits, Leads, one, more}
 use Rattle.pc_core.specs.Methods.{MethodFits, BodyFits, LocalFits}
 use Rattle.pc_core.specs.Nodes.{NodeFits}
 use Rattle.pc_core.specs.Formed.{Formed}

@@ -1,15 +1,13 @@
 -- The derivation of the small program is valid.
-use Rattle.std.specs.Prelude.{◌≡◌, ℕ, zero, suc, ◌<◌, Bool, true, length, Some, slice_get, refl}
+use Rattle.std.specs.Prelude.{◌≡◌, ℕ, zero, suc, ◌<◌, true, length, Some, slice_get, refl}
 use Rattle.std.proofs.Common.{ap, sym, subst, ◌∙◌, arith}
 use Rattle.std.proofs.lemmas.Option.{same_Some}
-use Rattle.pc_core.specs.declared.declarations.Method.{Method}
-use Rattle.pc_lists.specs.Places.{Each}
 use Rattle.pc_ann.specs.declared.annotation.Note.{Note}
 use Rattle.pc_sub.specs.Declarations.{DeclOk}
 use Rattle.pc_rules.specs.Parts.{full}
 use Rattle.pc_rules.specs.Rules.{MeetsRule}
-use Rattle.pc_rules.specs.Valid.{Valid, SetsFields}
-use Rattle.pc_rules.specs.Example.{four_slots, derivation, create_c, create_main}
+use Rattle.pc_rules.specs.Valid.{Valid}
+use Rattle.pc_rules.specs.Example.{four_slots, derivation}
 use Rattle.pc_example.proofs.Formation.{single, three, four, eight}
 use Rattle.pc_lists.proofs.Elements.{each_none}
 use Rattle.pc_lists.proofs.Bools.{false_true}

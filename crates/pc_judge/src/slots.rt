@@ -1,5 +1,5 @@
 //! Slots with a written type.
-ghost use Rattle.std.specs.Prelude.{◌≡◌, ◌↔◌, IsTrue, MatchOption, length};
+ghost use Rattle.std.specs.Prelude.{◌↔◌, IsTrue, MatchOption};
 ghost use Rattle.pc_rules.specs.Valid.{KeepsWritten};
 ghost use Rattle.pc_judge.specs.Faults as spec;
 

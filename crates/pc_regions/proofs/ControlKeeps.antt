@@ -22,7 +22,6 @@ use Rattle.pc_ann.specs.declared.annotation.Ann.{Ann}
 use Rattle.pc_ann.specs.Masks.{meet}
 use Rattle.pc_ann.specs.MaskLaws.{meet_bits, within_bits}
 use Rattle.pc_sub.specs.Sub.{is_sub}
-use Rattle.pc_sub.specs.Above.{is_sub_iff}
 use Rattle.pc_semantics.specs.declared.frames.Frame.{Frame}
 use Rattle.pc_semantics.specs.declared.frames.Task.{Task}
 use Rattle.pc_semantics.specs.declared.frames.Task.TheVariants as task
@@ -37,6 +36,7 @@ use Rattle.pc_regions.proofs.World.{World}
 use Rattle.pc_regions.proofs.StackForms.{Entry, Shallow, Below, Ascent, Joins, Decides, ascend, MayAscend, top_of, Climbs, SlotsShallow, entry_of, piled, uses_top, EvalRises, BodyRises, FinishRises, TasksRise, LiveShallow}
 use Rattle.pc_regions.proofs.MoveFits.{RegionMoveOk, Situated}
 use Rattle.pc_types.proofs.Needs.{Needs}
+use Rattle.pc_types.proofs.Places.{is_under}
 use Rattle.pc_types.proofs.Basic.{within_same, within_trans}
 use Rattle.pc_types.proofs.Begin.{BodyRule}
 use Rattle.pc_types.proofs.EvalChildren.{within_is, items_less, First, first_of_them, type_is}
@@ -63,7 +63,7 @@ module _ (core : CoreData) (ann : Ann) (needs : Needs core ann) where
   pub below_is : (a b : Ty) → lower core a b ≡ true → Below core a b
   below_is a b e =
       let p = and_parts (is_sub core a.0 b.0) (is_below a.1 b.1) e in
-      ((is_sub_iff core a.0 b.0 needs.formed).0 p.0, p.1)
+      (is_under core ann needs a.0 b.0 p.0, p.1)
 
   -- Each branch's value may become that of both.
   left_joins : (d : ℕ) (a b : Ty) (p q : Bool) → lower core a b ≡ p → MayAscend core (Joins (cond p (Some b) (cond q (Some a) None))) (at_depth d (Some a))

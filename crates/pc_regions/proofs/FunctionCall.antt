@@ -300,7 +300,7 @@ module _ (settle : SettleLaw) (core : CoreData) (ann : Ann) (needs : Needs core 
         (calm.top i ∙ is_top) (all.calm.shifts.fits (InSlot i (suc h) 0 level) (unalias c.found.own.receiver) c.this refl this.fits) all.fit (inl refl) result
 
   below_result : (by : CalledRule core ann g.node name g.note) (c : Calls by) → Below core c.found.own.result by.own.result
-  below_result by c = (c.found.stands.entity, (below_iff c.found.own.result.1 by.own.result.1).1 c.found.stands.form)
+  below_result by c = (needs.under c.found.own.result.0 by.own.result.0 (inl c.found.stands.entity), (below_iff c.found.own.result.1 by.own.result.1).1 c.found.stands.form)
 
   pub call_ok : CallRule core ann g.node name g.note → RegionMoveOk core ann w around fs (invoke_task core around f g.node.children (nodes.Call name))
   call_ok rule =

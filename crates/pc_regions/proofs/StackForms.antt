@@ -17,11 +17,11 @@ use Rattle.pc_ann.specs.declared.mask.Mask.{Mask}
 use Rattle.pc_ann.specs.declared.annotation.Note.{Note}
 use Rattle.pc_ann.specs.declared.annotation.Ann.{Ann}
 use Rattle.pc_ann.specs.Masks.{IsIn}
-use Rattle.pc_sub.specs.Sub.{Sub}
 use Rattle.pc_semantics.specs.declared.frames.Task.{Task}
 use Rattle.pc_semantics.specs.declared.frames.Task.TheVariants as task
 use Rattle.pc_rules.specs.Parts.{Ty, Masks, before, through, type_of}
 use Rattle.pc_rules.specs.Control.{recovered}
+use Rattle.pc_types.proofs.Under.{Under}
 use Rattle.pc_types.proofs.Tasks.{Within, reads, writes, stores, makes, spawns, invokes, applies, is_lazy}
 
 -- ---- what a place of the stack holds
@@ -36,9 +36,9 @@ abbrev pub Shallow : List Entry → ℕ → Type 0
 Shallow [] d = Unit {0}
 Shallow (e ∷ es) d = (e.depth ≤ d) × Shallow es d
 
--- A type is below another in entity and form.
+-- A type is below another in form, and its entity is under that of the other.
 abbrev pub Below : CoreData → Ty → Ty → Type 0
-Below core a b = Sub core a.0 b.0 × (is_below a.1 b.1 ≡ true)
+Below core a b = Under core a.0 b.0 × (is_below a.1 b.1 ≡ true)
 
 -- ---- the way up
 

@@ -1,5 +1,5 @@
 //! Rules for constructors, calls and messages.
-ghost use Rattle.std.specs.Prelude.{◌≡◌, ◌≤◌, codes, length, slice_get, take};
+ghost use Rattle.std.specs.Prelude.{◌≡◌, ◌≤◌, length, take};
 ghost use Rattle.pc_rules.specs.Calls as spec;
 ghost use Rattle.pc_rules.specs.Children.{type_at as type_is, goes_at as goes_is, sendable_at as sendable_is};
 

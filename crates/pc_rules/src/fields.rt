@@ -1,5 +1,5 @@
 //! Rules for fields that are read and written.
-ghost use Rattle.std.specs.Prelude.{◌≡◌, slice_get};
+ghost use Rattle.std.specs.Prelude.{◌≡◌};
 ghost use Rattle.pc_rules.specs.Fields as spec;
 
 use crate::children::Children;

@@ -1,5 +1,5 @@
 //! Rules for operators.
-ghost use Rattle.std.specs.Prelude.{◌≡◌, ◌&&◌, ◌||◌};
+ghost use Rattle.std.specs.Prelude.{◌≡◌};
 ghost use Rattle.pc_rules.specs.Operators as spec;
 
 use crate::children::Children;

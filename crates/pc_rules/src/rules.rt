@@ -1,5 +1,5 @@
 //! The rules.
-ghost use Rattle.std.specs.Prelude.{◌≡◌, ◌↔◌, ◌<◌, IsTrue, Some, false, length, slice_get};
+ghost use Rattle.std.specs.Prelude.{◌≡◌, ◌↔◌, ◌<◌, IsTrue, Some, false, length};
 ghost use Rattle.pc_rules.specs.Parts.{before};
 ghost use Rattle.pc_rules.specs.Children.{HaveNotes, either};
 ghost use Rattle.pc_rules.specs.Rules as spec;

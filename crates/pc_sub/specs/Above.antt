@@ -1,4 +1,4 @@
--- In a core that fits together the computed order is the order.
+-- In a core that fits together the computed chains are the chains.
 use Rattle.std.specs.Prelude.{◌≡◌, ◌↔◌, ℕ, zero, suc, true, List, [], ◌∷◌, Option, Some, None, IsTrue, nat_eq, slice_get, refl}
 use Rattle.std.proofs.Common.{inl, inr, ap, sym, ◌∙◌}
 use Rattle.std.proofs.lemmas.Option.{same_Some, none-some}
@@ -8,7 +8,7 @@ use Rattle.pc_core.specs.CoreData.{CoreData}
 use Rattle.pc_lists.specs.Places.{Has}
 use Rattle.pc_core.specs.Entities.{Leads, one, more}
 use Rattle.pc_core.specs.Formed.{Formed}
-use Rattle.pc_sub.specs.Sub.{Sub, is_in, above_in, is_sub}
+use Rattle.pc_sub.specs.Chain.{Chain, is_in, above_in, is_chain}
 use Rattle.pc_lists.proofs.Bools.{false_true}
 
 -- A chain begins at an entity that is there.
@@ -37,8 +37,8 @@ leads_above : (core : CoreData) (a b : ℕ) (o : Option EntityDef) → Formed co
 leads_above core a b None f e h = absurd (begins core a b h e)
 leads_above core a b (Some x) f e h = let k = ((f.entities a x e).above b).1 h in has_in b x.above k.0 k.1
 
-pub is_sub_iff : (core : CoreData) (a b : ℕ) → Formed core → (IsTrue (is_sub core a b)) ↔ (Sub core a b)
-is_sub_iff core a b f = (
+pub is_chain_iff : (core : CoreData) (a b : ℕ) → Formed core → (IsTrue (is_chain core a b)) ↔ (Chain core a b)
+is_chain_iff core a b f = (
   λ h. elim (or_cases (nat_eq a b) (is_in b (above_in (slice_get core.entities a))) h) [
     | inl e ↦ inl (eqb-true a b e)
     | inr e ↦ inr (above_leads core a b (slice_get core.entities a) f refl e)

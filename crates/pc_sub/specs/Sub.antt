@@ -1,22 +1,33 @@
 -- When an entity is below another.
-use Rattle.std.specs.Prelude.{◌≡◌, ◌⊎◌, ℕ, Bool, false, ◌||◌, List, [], ◌∷◌, Option, Some, None, nat_eq, slice_get}
+use Rattle.std.specs.Prelude.{◌≡◌, ◌⊎◌, ℕ, Bool, true, false, ◌&&◌, ◌||◌, Option, Some, None, slice_get}
+use Rattle.pc_tree.specs.declared.kinds.EntityKind.{EntityKind}
+use Rattle.pc_tree.specs.declared.kinds.EntityKind.TheVariants as kind
 use Rattle.pc_core.specs.declared.declarations.EntityDef.{EntityDef}
 use Rattle.pc_core.specs.CoreData.{CoreData}
-use Rattle.pc_core.specs.Entities.{Leads}
+use Rattle.pc_sub.specs.Chain.{Chain, is_chain}
+use Rattle.pc_sub.specs.Conforms.{Conforms, conforms}
 
--- The entities are the same, or a chain of `is` leads from the first to the second (nominal subtyping, in the Pony
--- tutorial).
+-- Of these kinds an entity is below another that does not name it: by its methods.
+abbrev pub is_structural : EntityKind → Bool
+is_structural kind.Class = false
+is_structural kind.Actor = false
+is_structural kind.Primitive = false
+is_structural kind.Trait = false
+is_structural kind.Interface = true
+
+abbrev pub IsInterface : CoreData → ℕ → Type 0
+IsInterface core e = (x : EntityDef) × (slice_get core.entities e ≡ Some x) × (is_structural x.kind ≡ true)
+
+-- A chain of `is` leads from the first entity to the second, or the second is an interface to which the first conforms
+-- (nominal and structural subtyping, in the Pony tutorial). It need not be transitive: what conforms is compared by
+-- chains alone.
 abbrev pub Sub : CoreData → ℕ → ℕ → Type 0
-Sub core a b = (a ≡ b) ⊎ Leads core a b
+Sub core a b = Chain core a b ⊎ (IsInterface core b × Conforms core a b)
 
--- The same as it is computed, by the list of what is above an entity.
-abbrev pub is_in : ℕ → List ℕ → Bool
-is_in b [] = false
-is_in b (x ∷ xs) = nat_eq x b || is_in b xs
-
-abbrev pub above_in : Option EntityDef → List ℕ
-above_in None = []
-above_in (Some x) = x.above
+-- The same as it is computed.
+abbrev pub is_interface : Option EntityDef → Bool
+is_interface None = false
+is_interface (Some x) = is_structural x.kind
 
 abbrev pub is_sub : CoreData → ℕ → ℕ → Bool
-is_sub core a b = nat_eq a b || is_in b (above_in (slice_get core.entities a))
+is_sub core a b = is_chain core a b || (is_interface (slice_get core.entities b) && conforms core a b)

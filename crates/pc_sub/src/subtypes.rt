@@ -2,44 +2,48 @@
 ghost use Rattle.std.specs.Prelude.{◌≡◌, IsTrue, ◌↔◌, slice_get};
 ghost use Rattle.pc_sub.specs.Sub as spec;
 
+use crate::chains::is_chain;
+use crate::conforming::conforms;
 use pc_core::Core;
+use pc_tree::EntityKind;
 
-/// Whether entity `a` is below entity `b`: they are the same, or a chain of `is` leads from `a` to `b` (nominal
-/// subtyping, in the Pony tutorial). Takes no memory.
-#[tactic(auto, using(crate::specs::Above::is_sub_iff))]
+/// Whether entity `a` is below entity `b`: they are the same, or a chain of `is` leads from `a` to `b`, or `b` is an
+/// interface and `a` conforms to it (nominal and structural subtyping, in the Pony tutorial). Takes no memory.
+#[tactic(auto, using(crate::specs::Agreement::is_sub_iff))]
 pub fn is_sub(core: &Core, a: u32, b: u32) -> bool
     ensures order { IsTrue result ↔ spec.Sub core.now a b }
     ensures value { result ≡ spec.is_sub core.now a b }
 {
     core.formed();
-    is_same_or_above(core, a, b)
+    is_below(core, a, b)
 }
 
-// Whether `b` is `a`, or stands in the list of what is above it.
-fn is_same_or_above(core: &Core, a: u32, b: u32) -> bool
+// The same, as it is computed.
+fn is_below(core: &Core, a: u32, b: u32) -> bool
     ensures { result ≡ spec.is_sub core.now a b }
 {
-    a == b || is_above(core, a, b)
+    is_chain(core, a, b) || is_interface(core, b) && conforms(core, a, b)
 }
 
-// Whether `b` stands in the list of what is above `a`.
-fn is_above(core: &Core, a: u32, b: u32) -> bool
-    ensures { result ≡ spec.is_in b (spec.above_in (slice_get core.now.entities a)) }
+// Whether there is an interface of this number.
+fn is_interface(core: &Core, entity: u32) -> bool
+    ensures { result ≡ spec.is_interface (slice_get core.now.entities entity) }
 {
-    match core.entity_at(a) {
+    match core.entity_at(entity) {
         None => false,
-        Some(entity) => contains(entity.above.as_slice(), b),
+        Some(found) => is_structural(found.kind),
     }
 }
 
-// Whether the number stands in the list.
-fn contains(numbers: &[u32], wanted: u32) -> bool
-    ensures { result ≡ spec.is_in wanted numbers.now }
+// Whether what has the methods of an entity of this kind is below it, without naming it.
+fn is_structural(kind: EntityKind) -> bool
+    ensures { result ≡ spec.is_structural kind }
 {
-    for number in numbers {
-        if *number == wanted {
-            return true;
-        }
+    match kind {
+        EntityKind::Class => false,
+        EntityKind::Actor => false,
+        EntityKind::Primitive => false,
+        EntityKind::Trait => false,
+        EntityKind::Interface => true,
     }
-    false
 }

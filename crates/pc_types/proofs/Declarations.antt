@@ -1,10 +1,12 @@
--- Of the order of entities and of what an entity has for the methods of those above it.
+-- Of the order of entities, of what an entity is under, and of what it has for the methods of those.
 use Rattle.std.specs.Prelude.{◌≡◌, ℕ, ◌+◌, ◌-◌, ◌<◌, ◌≤◌, ◌++◌, true, false, length, map, Option, Some, None, slice_get, refl}
 use Rattle.std.proofs.Common.{inl, inr, ap, sym, subst, ◌∙◌, arith}
 use Rattle.std.proofs.lemmas.Option.{same_Some}
 use Rattle.pc_caps.specs.Order.{IsBelow, same, step}
 use Rattle.pc_lists.proofs.Gets.{get_below, get_within, get_append, get_map, get_range, range_get}
 use Rattle.pc_caps.specs.declared.capability.Form.{Form}
+use Rattle.pc_tree.specs.declared.kinds.EntityKind.{EntityKind}
+use Rattle.pc_tree.specs.declared.kinds.EntityKind.TheVariants as kind
 use Rattle.pc_tree.specs.Kinds.{is_abstract}
 use Rattle.pc_core.specs.declared.declarations.EntityDef.{EntityDef}
 use Rattle.pc_core.specs.declared.declarations.Method.{Method}
@@ -15,23 +17,27 @@ use Rattle.pc_core.specs.Lookup.{own_methods, field_name, method_name, method_na
 use Rattle.pc_lists.specs.Lookup.{place_of}
 use Rattle.pc_core.specs.Entities.{IsAbstract, Names, Leads, one, more}
 use Rattle.pc_core.specs.Members.{method_among, method_found, method_missed}
+use Rattle.pc_lists.proofs.Bools.{false_true}
 use Rattle.pc_lists.proofs.Options.{bind_some}
 use Rattle.pc_lists.proofs.Lookup.{place_found}
 use Rattle.pc_core.specs.Formed.{Formed}
-use Rattle.pc_sub.specs.Sub.{Sub}
-use Rattle.pc_sub.specs.Declarations.{ParamFits, StandsFor, DeclOk}
+use Rattle.pc_sub.specs.Chain.{Chain}
+use Rattle.pc_sub.specs.Conforms.{ParamFits, StandsFor, HasFor, Conforms}
+use Rattle.pc_sub.specs.Sub.{Sub, IsInterface, is_structural}
+use Rattle.pc_sub.specs.Declarations.{DeclOk}
+use Rattle.pc_types.proofs.Under.{Under}
 use Rattle.pc_types.proofs.Needs.{Declared}
 
--- ---- the order
+-- ---- chains
 
 lead_on : (core : CoreData) (a b c : ℕ) → Leads core a b → Leads core b c → Leads core a c
 lead_on core a b c (one n) l = more n l
 lead_on core a b c (more {b = d} n r) l = more n (lead_on core d b c r l)
 
-pub sub_trans : (core : CoreData) (a b c : ℕ) → Sub core a b → Sub core b c → Sub core a c
-sub_trans core a b c (inl e) q = subst (λ (n : ℕ). Sub core n c) (sym e) q
-sub_trans core a b c (inr l) (inl e) = inr (subst (Leads core a) e l)
-sub_trans core a b c (inr l) (inr r) = inr (lead_on core a b c l r)
+chain_on : (core : CoreData) (a b c : ℕ) → Chain core a b → Chain core b c → Chain core a c
+chain_on core a b c (inl e) q = subst (λ (n : ℕ). Chain core n c) (sym e) q
+chain_on core a b c (inr l) (inl e) = inr (subst (Leads core a) e l)
+chain_on core a b c (inr l) (inr r) = inr (lead_on core a b c l r)
 
 -- A chain leads to a trait or an interface.
 named_trait : (core : CoreData) (a b : ℕ) → Formed core → Names core a b → IsAbstract core b
@@ -41,11 +47,15 @@ ends_in_trait : (core : CoreData) (a b : ℕ) → Formed core → Leads core a b
 ends_in_trait core a b formed (one n) = named_trait core a b formed n
 ends_in_trait core a b formed (more {b = d} n r) = ends_in_trait core d b formed r
 
-pub below_no_trait : (core : CoreData) (d e : ℕ) (x : EntityDef) → Formed core → Sub core d e → slice_get core.entities e ≡ Some x → is_abstract x.kind ≡ false → d ≡ e
-below_no_trait core d e x formed (inl p) at n = p
-below_no_trait core d e x formed (inr l) at n =
-    let t = ends_in_trait core d e formed l in
-    let bad : false ≡ true = sym n ∙ ap (λ (z : EntityDef). is_abstract z.kind) (same_Some x t.0 (sym at ∙ t.1)) ∙ t.2 in absurd (cc)
+structural_abstract : (k : EntityKind) → is_structural k ≡ true → is_abstract k ≡ true
+structural_abstract kind.Class e = absurd (false_true e)
+structural_abstract kind.Actor e = absurd (false_true e)
+structural_abstract kind.Primitive e = absurd (false_true e)
+structural_abstract kind.Trait e = refl
+structural_abstract kind.Interface e = refl
+
+interface_abstract : (core : CoreData) (b : ℕ) → IsInterface core b → IsAbstract core b
+interface_abstract core b i = (i.0, i.1, structural_abstract i.0.kind i.2)
 
 -- ---- a method that stands for another
 
@@ -66,7 +76,7 @@ stands_itself core f = record {
 }
 
 fits_on : (core : CoreData) (p q r : ParamInfo) → ParamFits core p q → ParamFits core q r → ParamFits core p r
-fits_on core p q r a b = (sub_trans core p.entity q.entity r.entity a.0 b.0, below_trans _ _ _ a.1 b.1)
+fits_on core p q r a b = (chain_on core p.entity q.entity r.entity a.0 b.0, below_trans _ _ _ a.1 b.1)
 
 stands_on : (core : CoreData) (t y z : Method) → StandsFor core t y → StandsFor core y z → StandsFor core t z
 stands_on core t y z a b = record {
@@ -75,7 +85,7 @@ stands_on core t y z a b = record {
   params = λ i p g r h.
       let q = get_within y.params i (subst (λ (n : ℕ). i < n) (sym a.count) (get_below t.params i p g)) in
       fits_on core p q.0 r (a.params i p g q.0 q.1) (b.params i q.0 q.1 r h);
-  entity = sub_trans core z.result.0 y.result.0 t.result.0 b.entity a.entity;
+  entity = chain_on core z.result.0 y.result.0 t.result.0 b.entity a.entity;
   form = below_trans _ _ _ b.form a.form;
 }
 
@@ -123,9 +133,17 @@ among_own core e name k f found at =
     let is : p.1 ≡ f = same_Some p.1 f (sym g ∙ ap (slice_get core.methods) (sym p.2) ∙ at) in
     (x, a.1, (p.0, p.3 ∙ ap Some is), ap method_name (sym is) ∙ p.4)
 
+-- A method of the name stands among its entity's.
+own_method : (core : CoreData) (d name m : ℕ) → Formed core → (is : IsMethod core d name m) → (x : EntityDef) × (slice_get core.entities d ≡ Some x) × Has (own_methods core x) is.0
+own_method core d name m formed is =
+    let y = is.0 in
+    let among = method_among core m y formed is.1 (get_below core.methods m y is.1) in
+    let x = among.0 in
+    (x, ap (slice_get core.entities) (sym is.2) ∙ among.1, (m - x.first_method, range_get core.methods x.first_method (x.first_method + x.methods) m y among.2 among.3 is.1))
+
 -- ---- what an entity has
 
-module _ (core : CoreData) (formed : Formed core) (fit : DeclOk core) where
+module _ (core : CoreData) (formed : Formed core) where
   -- For a method of its own, itself.
   own_declared : (e name k : ℕ) (f : Method) → method_named core e name ≡ Some k → slice_get core.methods k ≡ Some f → Declared core e name f
   own_declared e name k f found at =
@@ -133,16 +151,17 @@ module _ (core : CoreData) (formed : Formed core) (fit : DeclOk core) where
       let own : is.0 ≡ f = same_Some is.0 f (sym is.1 ∙ at) in
       record { number = k; found = found; own = f; is_own = at; entity = ap (λ (g : Method). g.entity) (sym own) ∙ is.2; kind = refl; stands = stands_itself core f }
 
-  -- For one of a trait of its `is` list.
-  named_declared : (d e name k : ℕ) (f : Method) → Names core d e → method_named core e name ≡ Some k → slice_get core.methods k ≡ Some f → Declared core d name f
-  named_declared d e name k f n found at =
+  -- For one of a trait or an interface to which it conforms.
+  conforming_declared : (d e name k : ℕ) (f : Method) → Conforms core d e → method_named core e name ≡ Some k → slice_get core.methods k ≡ Some f → Declared core d name f
+  conforming_declared d e name k f c found at =
       let a = among_own core e name k f found at in
-      let y = fit.conform d n.0 n.1 n.2.0 e n.2.1 a.0 a.1 a.2.0 f a.2.1 in
+      let y = c a.0 a.1 a.2.0 f a.2.1 in
       let is : IsMethod core d name y.0 = subst (λ (w : ℕ). IsMethod core d w y.0) a.3 y.2 in
+      let owner = own_method core d name y.0 formed is in
       let own : y.2.0 ≡ y.1 = same_Some y.2.0 y.1 (sym y.2.1 ∙ y.3) in
       record {
         number = y.0;
-        found = found_is core d name y.0 n.0 formed n.1 is (method_named core d name) refl;
+        found = found_is core d name y.0 owner.0 formed owner.1 is (method_named core d name) refl;
         own = y.1;
         is_own = y.3;
         entity = ap (λ (g : Method). g.entity) (sym own) ∙ y.2.2;
@@ -150,24 +169,45 @@ module _ (core : CoreData) (formed : Formed core) (fit : DeclOk core) where
         stands = y.5;
       }
 
-  then_declared : (d b name : ℕ) (f : Method) (m : Declared core b name f) → Declared core d name m.own → Declared core d name f
-  then_declared d b name f m n = record {
-    number = n.number;
-    found = n.found;
-    own = n.own;
-    is_own = n.is_own;
-    entity = n.entity;
-    kind = n.kind ∙ m.kind;
-    stands = stands_on core f m.own n.own m.stands n.stands;
-  }
-
-  led_declared : (d e name k : ℕ) (f : Method) → Leads core d e → method_named core e name ≡ Some k → slice_get core.methods k ≡ Some f → Declared core d name f
-  led_declared d e name k f (one n) found at = named_declared d e name k f n found at
-  led_declared d e name k f (more {b = b} n r) found at =
-      let m = led_declared b e name k f r found at in
-      then_declared d b name f m (named_declared d b name m.number m.own n m.found m.is_own)
-
-  -- For one of an entity above it.
-  pub all_declared : (d e name k : ℕ) (f : Method) → Sub core d e → method_named core e name ≡ Some k → slice_get core.methods k ≡ Some f → Declared core d name f
+  -- For one of an entity that it is under.
+  pub all_declared : (d e name k : ℕ) (f : Method) → Under core d e → method_named core e name ≡ Some k → slice_get core.methods k ≡ Some f → Declared core d name f
   all_declared d e name k f (inl s) found at = subst (λ (c : ℕ). Declared core c name f) (sym s) (own_declared e name k f found at)
-  all_declared d e name k f (inr l) found at = led_declared d e name k f l found at
+  all_declared d e name k f (inr c) found at = conforming_declared d e name k f c.1 found at
+
+  -- ---- what an entity is under
+
+  -- What an entity has for a method of a second one, and that one for a method of a third, it has for the third's.
+  has_on : (a b : ℕ) (t : Method) → Conforms core a b → HasFor core b t → HasFor core a t
+  has_on a b t c y =
+      let own : y.2.0 ≡ y.1 = same_Some y.2.0 y.1 (sym y.2.1 ∙ y.3) in
+      let owner = own_method core b t.name y.0 formed y.2 in
+      let there : slice_get (own_methods core owner.0) owner.2.0 ≡ Some y.1 = owner.2.1 ∙ ap Some own in
+      let z = c owner.0 owner.1 owner.2.0 y.1 there in
+      let name : y.1.name ≡ t.name = ap method_name (sym own) ∙ y.2.3 in
+      (z.0, z.1, subst (λ (w : ℕ). IsMethod core a w z.0) name z.2, z.3, z.4 ∙ y.4, stands_on core t y.1 z.1 y.5 z.5)
+
+  conforms_on : (a b c : ℕ) → Conforms core a b → Conforms core b c → Conforms core a c
+  conforms_on a b c p q x at i t g = has_on a b t p (q x at i t g)
+
+  pub under_trans : (a b c : ℕ) → Under core a b → Under core b c → Under core a c
+  under_trans a b c p (inl e) = subst (Under core a) e p
+  under_trans a b c (inl e) (inr q) = subst (λ (n : ℕ). Under core n c) (sym e) (inr q)
+  under_trans a b c (inr p) (inr q) = inr (q.0, conforms_on a b c p.1 q.1)
+
+  module _ (fit : DeclOk core) where
+    led_conforms : (a b : ℕ) → Leads core a b → Conforms core a b
+    led_conforms a b (one n) = fit.conform a n.0 n.1 n.2.0 b n.2.1
+    led_conforms a b (more {b = d} n r) = conforms_on a d b (fit.conform a n.0 n.1 n.2.0 d n.2.1) (led_conforms d b r)
+
+    -- What is below an entity is under it.
+    pub sub_under : (a b : ℕ) → Sub core a b → Under core a b
+    sub_under a b (inl (inl e)) = inl e
+    sub_under a b (inl (inr l)) = inr (ends_in_trait core a b formed l, led_conforms a b l)
+    sub_under a b (inr s) = inr (interface_abstract core b s.0, s.1)
+
+-- Only a trait or an interface has other entities under it.
+pub under_no_trait : (core : CoreData) (d e : ℕ) (x : EntityDef) → Under core d e → slice_get core.entities e ≡ Some x → is_abstract x.kind ≡ false → d ≡ e
+under_no_trait core d e x (inl p) at n = p
+under_no_trait core d e x (inr c) at n =
+    let t = c.0 in
+    let bad : false ≡ true = sym n ∙ ap (λ (z : EntityDef). is_abstract z.kind) (same_Some x t.0 (sym at ∙ t.1)) ∙ t.2 in absurd (cc)

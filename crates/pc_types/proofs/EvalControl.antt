@@ -21,7 +21,6 @@ use Rattle.pc_ann.specs.declared.annotation.Ann.{Ann}
 use Rattle.pc_ann.specs.Masks.{meet}
 use Rattle.pc_ann.specs.MaskLaws.{meet_bits, within_bits}
 use Rattle.pc_sub.specs.Sub.{is_sub}
-use Rattle.pc_sub.specs.Above.{is_sub_iff}
 use Rattle.pc_semantics.specs.declared.frames.Frame.{Frame}
 use Rattle.pc_semantics.specs.declared.frames.Task.{Task}
 use Rattle.pc_semantics.specs.declared.frames.Task.TheVariants as task
@@ -39,6 +38,7 @@ use Rattle.pc_types.proofs.Types.{LowerType, Lower, Want, wanted}
 use Rattle.pc_types.proofs.Tasks.{Within, want_of, stacked, EvalOk, is_lazy, ReturnOk, TasksOk}
 use Rattle.pc_types.proofs.Moves.{MoveOk, Runs}
 use Rattle.pc_types.proofs.Needs.{Needs, IsChild}
+use Rattle.pc_types.proofs.Places.{is_under}
 use Rattle.pc_types.proofs.Basic.{within_trans, lower_same, trans_lower, eval_more, tasks_more}
 use Rattle.pc_types.proofs.Tables.{below_sees, recovered_sees}
 use Rattle.pc_types.proofs.Begin.{BodyRule, body_inverse}
@@ -52,7 +52,7 @@ module _ (core : CoreData) (ann : Ann) (needs : Needs core ann) where
   lower_type : (a b : Ty) → lower core a b ≡ true → LowerType core a b
   lower_type a b e =
       let p = and_parts (is_sub core a.0 b.0) (is_below a.1 b.1) e in
-      ((is_sub_iff core a.0 b.0 needs.formed).0 p.0, below_sees a.1 b.1 p.1)
+      (is_under core ann needs a.0 b.0 p.0, below_sees a.1 b.1 p.1)
 
   -- Each branch's type is below the type of both.
   joined_left : (a b : Ty) (p q : Bool) → lower core a b ≡ p → lower core b a ≡ q → Lower core (Some a) (cond p (Some b) (cond q (Some a) None))

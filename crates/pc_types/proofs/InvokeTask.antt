@@ -126,7 +126,7 @@ module _ (core : CoreData) (ann : Ann) (needs : Needs core ann) (around : Around
       let is_entity = c.typed.is_entity ∙ ap Some (sym c.found.entity) in
       let body = needs.has_body c.found.number own owner.owner c.found.is_own other owner.is_owner (own_no_trait core ann needs h own.entity owner.owner c.this kind is_entity owner.is_owner) in
       let masks = left_within (through ann e.node.children (before e.note)) e.behind by.behind e.note.live_after e.note.set_after r.held.live r.held.set e.is_behind by.is_behind by.live by.set e.live e.set in
-      let low : LowerType core own.result by.own.result = (c.found.stands.entity, order_sees own.result.1 by.own.result.1 c.found.stands.form) in
+      let low : LowerType core own.result by.own.result = (needs.under own.result.0 by.own.result.0 (inl c.found.stands.entity), order_sees own.result.1 by.own.result.1 c.found.stands.form) in
       let this_ok : ThisOk core h own (start_set core own) c.this = record {
         is_entity = is_entity;
         kind = kind;

@@ -1,3 +1,4 @@
+pub mod Under
 pub mod Types
 pub mod Tasks
 pub mod Frames

@@ -26,7 +26,7 @@ use Rattle.pc_lists.proofs.Bools.{false_true}
 use Rattle.pc_rules.specs.Valid.{Valid}
 use Rattle.pc_types.proofs.Needs.{IsChild, Needs}
 use Rattle.pc_types.proofs.Notes.{slot_at}
-use Rattle.pc_types.proofs.Declarations.{sub_trans, below_no_trait, all_declared}
+use Rattle.pc_types.proofs.Declarations.{under_trans, under_no_trait, sub_under, all_declared}
 
 -- ---- the children of a node
 
@@ -177,7 +177,8 @@ module _ (core : CoreData) (formed : Formed core) where
       body = body;
       has_body = has_body;
       stream = stream;
-      trans = sub_trans core;
-      only_traits = λ d e x l at n. below_no_trait core d e x formed l at n;
-      declared = all_declared core formed valid.declarations;
+      under = sub_under core formed valid.declarations;
+      trans = under_trans core formed;
+      only_traits = under_no_trait core;
+      declared = all_declared core formed;
     }

@@ -15,15 +15,16 @@ use Rattle.pc_core.specs.Nodes.{NamesSlot}
 use Rattle.pc_core.specs.Formed.{Formed}
 use Rattle.pc_ann.specs.declared.annotation.Ann.{Ann}
 use Rattle.pc_sub.specs.Sub.{Sub}
-use Rattle.pc_sub.specs.Declarations.{StandsFor}
+use Rattle.pc_sub.specs.Conforms.{StandsFor}
 use Rattle.pc_rules.proofs.ByNumber.{slot_of}
 use Rattle.pc_rules.specs.Valid.{Valid}
+use Rattle.pc_types.proofs.Under.{Under}
 
 -- Node c is there, in method m.
 abbrev pub IsChild : CoreData → ℕ → ℕ → Type 0
 IsChild core m c = (y : Node) × (slice_get core.nodes c ≡ Some y) × (y.method ≡ m)
 
--- Entity d has a method of this name, for the method f of an entity above it.
+-- Entity d has a method of this name, for the method f of an entity that it is under.
 pub record Declared (core : CoreData) (d name : ℕ) (f : Method) : Type 0 where
   pub number : ℕ
   pub found : method_named core d name ≡ Some number
@@ -50,6 +51,7 @@ pub record Needs (core : CoreData) (ann : Ann) : Type 0 where
   -- the stream has the first method alone
   pub stream : (m : ℕ) (f : Method) → slice_get core.methods m ≡ Some f → f.entity ≡ 5 → m ≡ 0
   -- entities
-  pub trans : (a b c : ℕ) → Sub core a b → Sub core b c → Sub core a c
-  pub only_traits : (d e : ℕ) (x : EntityDef) → Sub core d e → slice_get core.entities e ≡ Some x → is_abstract x.kind ≡ false → d ≡ e
-  pub declared : (d e name k : ℕ) (f : Method) → Sub core d e → method_named core e name ≡ Some k → slice_get core.methods k ≡ Some f → Declared core d name f
+  pub under : (a b : ℕ) → Sub core a b → Under core a b
+  pub trans : (a b c : ℕ) → Under core a b → Under core b c → Under core a c
+  pub only_traits : (d e : ℕ) (x : EntityDef) → Under core d e → slice_get core.entities e ≡ Some x → is_abstract x.kind ≡ false → d ≡ e
+  pub declared : (d e name k : ℕ) (f : Method) → Under core d e → method_named core e name ≡ Some k → slice_get core.methods k ≡ Some f → Declared core d name f

@@ -5,18 +5,25 @@ use Rattle.std.proofs.lemmas.Bool.{and_parts}
 use Rattle.pc_caps.specs.Tables.{unalias, fits}
 use Rattle.pc_caps.specs.declared.capability.Cap.{Cap}
 use Rattle.pc_core.specs.CoreData.{CoreData}
-use Rattle.pc_core.specs.Formed.{Formed}
+use Rattle.pc_ann.specs.declared.annotation.Ann.{Ann}
 use Rattle.pc_sub.specs.Sub.{is_sub}
-use Rattle.pc_sub.specs.Above.{is_sub_iff}
+use Rattle.pc_sub.specs.Agreement.{is_sub_iff}
 use Rattle.pc_rules.specs.Parts.{Ty, goes_to}
+use Rattle.pc_types.proofs.Under.{Under}
 use Rattle.pc_types.proofs.Types.{LowerType, held_in}
 use Rattle.pc_types.proofs.Tables.{unalias_sees, fits_sees}
+use Rattle.pc_types.proofs.Needs.{Needs}
 
--- A type that goes to a place is below what the place holds.
-pub goes_lower : (core : CoreData) → Formed core → (v : Ty) (place : ℕ × Cap) → goes_to core v place ≡ true → LowerType core v (held_in place)
-goes_lower core formed v place e =
-    let p = and_parts (is_sub core v.0 place.0) (fits v.1 place.1) e in
-    ((is_sub_iff core v.0 place.0 formed).0 p.0, fits_sees v.1 place.1 p.1)
+module _ (core : CoreData) (ann : Ann) (needs : Needs core ann) where
+  -- What is found to be below an entity is under it.
+  pub is_under : (a b : ℕ) → is_sub core a b ≡ true → Under core a b
+  is_under a b e = needs.under a b ((is_sub_iff core a b needs.formed).0 e)
+
+  -- A type that goes to a place is below what the place holds.
+  pub goes_lower : (v : Ty) (place : ℕ × Cap) → goes_to core v place ≡ true → LowerType core v (held_in place)
+  goes_lower v place e =
+      let p = and_parts (is_sub core v.0 place.0) (fits v.1 place.1) e in
+      (is_under v.0 place.0 p.0, fits_sees v.1 place.1 p.1)
 
 -- The form that no place holds sees as much as the place.
 pub taken_lower : (core : CoreData) (i : ℕ × Cap) → LowerType core (held_in i) (i.0, unalias i.1)

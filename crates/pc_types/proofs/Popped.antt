@@ -1,6 +1,6 @@
 -- The arguments of a call are taken off the stack: each is a value of its parameter's type.
 use Rattle.std.specs.Prelude.{◌≡◌, ℕ, zero, suc, ◌-◌, true, List, [], ◌∷◌, ◌++◌, take, length, Option, Some, None, slice_get, refl}
-use Rattle.std.proofs.Common.{ap, sym, subst, ◌∙◌, arith}
+use Rattle.std.proofs.Common.{inl, ap, sym, subst, ◌∙◌, arith}
 use Rattle.std.proofs.lemmas.Option.{same_Some, none-some, some_pair_parts}
 use Rattle.std.proofs.lemmas.Bool.{and_parts}
 use Rattle.std.proofs.lemmas.List.{append-nil}
@@ -11,7 +11,7 @@ use Rattle.pc_core.specs.CoreData.{CoreData}
 use Rattle.pc_lists.specs.Places.{Each}
 use Rattle.pc_ann.specs.declared.annotation.Ann.{Ann}
 use Rattle.pc_semantics.specs.Around.{popped}
-use Rattle.pc_sub.specs.Declarations.{ParamFits}
+use Rattle.pc_sub.specs.Conforms.{ParamFits}
 use Rattle.pc_rules.specs.Parts.{Ty, type_of, last_child}
 use Rattle.pc_rules.specs.Calls.{argument_goes}
 use Rattle.pc_rules.proofs.ByNumber.{arguments, arguments_go}
@@ -76,7 +76,7 @@ popped_is core objects this below vs k ps p = p.is [] ∙ ap (λ (values : List 
 module _ (core : CoreData) (ann : Ann) (needs : Needs core ann) (objects : ObjectMap) where
   argument_typed : (p : ParamInfo) (o : Option Ty) → argument_goes core p o ≡ true → (v : Ty) × (o ≡ Some v) × LowerType core v (param_type p)
   argument_typed p None e = absurd (false_true e)
-  argument_typed p (Some v) e = (v, refl, goes_lower core needs.formed v (p.entity, p.cap) e)
+  argument_typed p (Some v) e = (v, refl, goes_lower core ann needs v (p.entity, p.cap) e)
 
   pub take_arguments : (this : Value) (cs : List ℕ) (ps : List ParamInfo) (below : List Want) (vs : List Value) → arguments_go core ann cs ps ≡ true → StackOk core objects this (stacked core ann cs below) vs → Popped core objects this below vs (length cs) ps
   take_arguments this [] [] below vs goes ok = record { values = []; rest = vs; is = λ more. refl; fit = tt; ok = ok }
@@ -97,7 +97,7 @@ module _ (core : CoreData) (ann : Ann) (needs : Needs core ann) (objects : Objec
 
   -- What fits one method's parameters fits those of a method that may stand for it.
   fits_lower : (p q : ParamInfo) → ParamFits core p q → LowerType core (param_type p) (param_type q)
-  fits_lower p q f = (f.0, λ h. sym (unalias_sees p.cap) ∙ order_sees _ _ f.1 (unalias_sees q.cap ∙ h))
+  fits_lower p q f = (needs.under p.entity q.entity (inl f.0), λ h. sym (unalias_sees p.cap) ∙ order_sees _ _ f.1 (unalias_sees q.cap ∙ h))
 
   pub arguments_lower : (vs : List Value) (ps qs : List ParamInfo) → length qs ≡ length ps → Each (λ i p. (q : ParamInfo) → slice_get qs i ≡ Some q → ParamFits core p q) ps → ArgumentsOk core objects vs ps → ArgumentsOk core objects vs qs
   arguments_lower [] [] [] l each k = tt

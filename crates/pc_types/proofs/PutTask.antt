@@ -200,7 +200,7 @@ module _ (core : CoreData) (ann : Ann) (needs : Needs core ann) (around : Around
 
     -- The value is of the type of the field to which it goes.
     goes_ok : (c : ℕ) (ty : Ty) (w : Value) (x : FieldInfo) → type_of ann c ≡ Some ty → goes_to core ty (place x) ≡ true → Answers core around.objects r.held.this (want_of core ann c) w → OfType core around.objects (typed.field_type x) w
-    goes_ok c ty w x is goes has = of_lower core ann needs around.objects ty (typed.field_type x) w (goes_lower core needs.formed ty (place x) goes) (typed_at core ann around c ty w is has.0)
+    goes_ok c ty w x is goes has = of_lower core ann needs around.objects ty (typed.field_type x) w (goes_lower core ann needs ty (place x) goes) (typed_at core ann around c ty w is has.0)
 
     put_ok : (name : ℕ) → e.node.kind ≡ nodes.SetField name → (q : PutRule core ann e.node e.note e.behind name) (v w : Value) (rest : List Value) → f.stack ≡ v ∷ w ∷ rest → Answers core around.objects r.held.this (want_of core ann q.origin) v → Answers core around.objects r.held.this (want_of core ann q.value) w
         → StackOk core around.objects r.held.this e.below rest → Holds (put_into core around name v w (with_stack f rest))

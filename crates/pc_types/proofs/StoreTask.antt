@@ -153,7 +153,7 @@ module _ (core : CoreData) (ann : Ann) (needs : Needs core ann) (around : Around
     slot_ok : (k : NodeKind) → e.node.kind ≡ k → (is_this k ≡ true → ⊥) → (v : Value) (rest : List Value) → OfSome core around.objects (type_of ann q.child) v → StackOk core around.objects r.held.this e.below rest → MoveOk core ann around fs (store s v (with_stack f rest))
     slot_ok k is other v rest has ok =
         let o = e.follows in
-        let typed : OfType core around.objects (held_in q.slot.1) v = of_lower core ann needs around.objects q.value (held_in q.slot.1) v (goes_lower core needs.formed q.value q.slot.1 q.goes) (typed_at core ann around q.child q.value v q.is_value has) in
+        let typed : OfType core around.objects (held_in q.slot.1) v = of_lower core ann needs around.objects q.value (held_in q.slot.1) v (goes_lower core ann needs q.value q.slot.1 q.goes) (typed_at core ann around q.child q.value v q.is_value has) in
         let old : OfSome core around.objects e.note.ty (or_none (held (slice_get f.slots s))) = subst (λ (x : Option Ty). OfSome core around.objects x (or_none (held (slice_get f.slots s)))) (sym q.says.ty) old_ok in
         go_ok core ann needs around f fs r o.live o.set (o.goal ∷ e.below) (slice_set f.slots s (Some v)) (or_none (held (slice_get f.slots s)) ∷ rest) f.tasks (length-set f.slots s (Some v)) (get_set_other f.slots s (Some v) 0 (not_zero s names.0))
         (within_trans o.set e.note.set_after r.held.set o.set_left (subst (λ (m : Mask). Within m r.held.set) (sym q.says.set) e.set))

@@ -1,4 +1,4 @@
--- When a value is of a type: its own entity is below that of the type, and unless the form is `tag` all fields of its object
+-- When a value is of a type: its own entity is that of the type or conforms to it, and unless the form is `tag` all fields of its object
 -- have values. A type above another asks no more of a value than that one.
 use Rattle.std.specs.Prelude.{◌≡◌, ℕ, ◌<◌, Bool, true, false, List, [], ◌∷◌, length, Option, Some, None, slice_get}
 use Rattle.std.specs.FinMap.{get}
@@ -15,9 +15,9 @@ use Rattle.pc_core.specs.declared.declarations.ParamInfo.{ParamInfo}
 use Rattle.pc_core.specs.CoreData.{CoreData}
 use Rattle.pc_tree.specs.Kinds.{may_have_fields}
 use Rattle.pc_core.specs.Nodes.{NamesPrimitive}
-use Rattle.pc_sub.specs.Sub.{Sub}
 use Rattle.pc_semantics.specs.Around.{entity_of}
 use Rattle.pc_rules.specs.Parts.{Ty}
+use Rattle.pc_types.proofs.Under.{Under}
 
 -- ---- values
 
@@ -45,7 +45,7 @@ OfKind core d v = Unit {0}
 pub record OfType (core : CoreData) (objects : ObjectMap) (t : Ty) (v : Value) : Type 0 where
   pub entity : ℕ
   pub is_entity : entity_of objects v ≡ Some entity
-  pub below : Sub core entity t.0
+  pub below : Under core entity t.0
   pub kind : OfKind core entity v
   pub finished : sees t.1 ≡ true → Finished objects v
 
@@ -71,7 +71,7 @@ ArgumentsOk core objects vs ps = ⊥
 
 -- A value of type a is one of type b.
 abbrev pub LowerType : CoreData → Ty → Ty → Type 0
-LowerType core a b = Sub core a.0 b.0 × (sees b.1 ≡ true → sees a.1 ≡ true)
+LowerType core a b = Under core a.0 b.0 × (sees b.1 ≡ true → sees a.1 ≡ true)
 
 abbrev pub Lower : CoreData → Option Ty → Option Ty → Type 0
 Lower core a None = Unit {0}

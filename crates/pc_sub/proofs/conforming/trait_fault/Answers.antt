@@ -1,6 +1,6 @@
 use Rattle.std.proofs.Common.{sym, ◌∙◌, arith}
 use Rattle.pc_sub.proofs.Turns.{methods_stop, methods_pass}
-use Rattle.pc_sub.proofs.traits.trait_fault.Goals as goal
+use Rattle.pc_sub.proofs.conforming.trait_fault.Goals as goal
 
 pub returns-in-Some : goal.returns-in-Some
 returns-in-Some c =

@@ -1,0 +1,95 @@
+-- When an entity has what a trait or an interface declares, and what is wrong of it where it has not.
+use Rattle.std.specs.Prelude.{◌≡◌, ℕ, ◌+◌, Bool, true, false, ◌&&◌, List, [], ◌∷◌, ◌++◌, length, Option, Some, None, slice_get, if◌then◌else◌}
+use Rattle.std.specs.Option.{is_none}
+use Rattle.pc_caps.specs.Order.{IsBelow, is_below}
+use Rattle.pc_caps.specs.Tables.{unalias, fits}
+use Rattle.pc_core.specs.declared.declarations.EntityDef.{EntityDef}
+use Rattle.pc_core.specs.declared.declarations.Method.{Method}
+use Rattle.pc_core.specs.declared.declarations.MethodKind.{MethodKind}
+use Rattle.pc_core.specs.declared.declarations.MethodKind.TheVariants as method
+use Rattle.pc_core.specs.declared.declarations.ParamInfo.{ParamInfo}
+use Rattle.pc_core.specs.CoreData.{CoreData}
+use Rattle.pc_lists.specs.Places.{Each}
+use Rattle.pc_lists.specs.Options.{◌>>=◌}
+use Rattle.pc_core.specs.Lookup.{own_methods, method_named, IsMethod}
+use Rattle.pc_sub.specs.declared.faults.DeclFault.{DeclFault}
+use Rattle.pc_sub.specs.declared.faults.DeclFault.TheVariants as fault
+use Rattle.pc_sub.specs.Chain.{Chain, is_chain}
+
+-- ---- what fits
+
+-- What a declared method takes at a parameter, the entity's method takes too. Here and below entities are compared by
+-- chains of `is` alone, and not by their methods.
+abbrev pub ParamFits : CoreData → ParamInfo → ParamInfo → Type 0
+ParamFits core p q = Chain core p.entity q.entity × IsBelow (unalias p.cap) (unalias q.cap)
+
+-- The entity's method y may stand for the method t of a trait or an interface.
+pub record StandsFor (core : CoreData) (t y : Method) : Type 0 where
+  pub count : length y.params ≡ length t.params
+  pub receiver : IsBelow (unalias t.receiver) (unalias y.receiver)
+  pub params : Each (λ i p. (q : ParamInfo) → slice_get y.params i ≡ Some q → ParamFits core p q) t.params
+  pub entity : Chain core y.result.0 t.result.0
+  pub form : IsBelow y.result.1 t.result.1
+
+-- The entity has a method of the name and kind of method t, and it may stand for t.
+abbrev pub HasFor : CoreData → ℕ → Method → Type 0
+HasFor core e t = (m : ℕ) × (y : Method) × (IsMethod core e t.name m) × (slice_get core.methods m ≡ Some y) × (y.kind ≡ t.kind) × StandsFor core t y
+
+-- An entity conforms to a trait or an interface: it has a method for each of the methods there. To one without methods
+-- each entity conforms.
+abbrev pub Conforms : CoreData → ℕ → ℕ → Type 0
+Conforms core e b = (x : EntityDef) → slice_get core.entities b ≡ Some x → Each (λ i t. HasFor core e t) (own_methods core x)
+
+-- ---- what is wrong of an entity
+
+abbrev pub param_fits : CoreData → ParamInfo → ParamInfo → Bool
+param_fits core p q = is_chain core p.entity q.entity && fits (unalias p.cap) q.cap
+
+-- As many parameters, and each fits.
+abbrev pub params_fit : CoreData → List ParamInfo → List ParamInfo → Bool
+params_fit core [] [] = true
+params_fit core (p ∷ ps) (q ∷ qs) = param_fits core p q && params_fit core ps qs
+params_fit core ps qs = false
+
+-- What method t takes, y takes too.
+abbrev pub takes : CoreData → Method → Method → Bool
+takes core t y = fits (unalias t.receiver) y.receiver && params_fit core t.params y.params
+
+-- What y gives is below what t gives.
+abbrev pub gives : CoreData → Method → Method → Bool
+gives core t y = is_chain core y.result.0 t.result.0 && is_below y.result.1 t.result.1
+
+abbrev pub stands_for : CoreData → Method → Method → Bool
+stands_for core t y = takes core t y && gives core t y
+
+abbrev pub same_kind : MethodKind → MethodKind → Bool
+same_kind method.Fun method.Fun = true
+same_kind method.Be method.Be = true
+same_kind method.New method.New = true
+same_kind method.Spawn method.Spawn = true
+same_kind j k = false
+
+-- The entity's method of a name and kind, with its number.
+abbrev pub method_like : CoreData → ℕ → Method → Option (ℕ × Method)
+method_like core e t = do
+  m ← method_named core e t.name
+  y ← slice_get core.methods m
+  if same_kind y.kind t.kind then Some (m, y) else None
+
+-- What fails of entity e at method t of a trait or an interface, which has this number.
+abbrev pub method_faults : CoreData → ℕ → ℕ → Method → Option (ℕ × Method) → List DeclFault
+method_faults core e n t None = fault.MissingMethod e n ∷ []
+method_faults core e n t (Some y) = if stands_for core t y.1 then [] else fault.Mismatch e y.0 ∷ []
+
+-- Methods of a trait or an interface, from number n on.
+abbrev pub trait_faults : CoreData → ℕ → ℕ → List Method → List DeclFault
+trait_faults core e n [] = []
+trait_faults core e n (t ∷ ts) = method_faults core e n t (method_like core e t) ++ trait_faults core e (n + 1) ts
+
+abbrev pub conform_faults : CoreData → ℕ → Option EntityDef → List DeclFault
+conform_faults core e None = []
+conform_faults core e (Some x) = trait_faults core e x.first_method (own_methods core x)
+
+-- Nothing is wrong of the entity.
+abbrev pub conforms : CoreData → ℕ → ℕ → Bool
+conforms core e b = is_none (slice_get (conform_faults core e (slice_get core.entities b)) 0)

@@ -1,0 +1,90 @@
+//! Whether an entity has what a trait or an interface declares.
+ghost use Rattle.std.specs.Prelude.{◌≡◌, ◌↔◌, IsTrue, ◌+◌, ◌<◌, ◌≤◌, ◌^◌, length, slice_get};
+ghost use Rattle.pc_core.specs.Lookup.{own_methods};
+ghost use Rattle.pc_sub.specs.Conforms as spec;
+
+use crate::faults::DeclFault;
+use crate::stands::stands_for;
+use pc_core::{Core, EntityDef, Method};
+
+/// Whether entity `e` conforms to the trait or interface `t`: for each method of `t` it has one of the same name and kind
+/// that may be called in its place, where entities are compared by chains of `is` alone. It is true of every entity where
+/// `t` has no methods. Takes no memory.
+#[tactic(auto, using(crate::specs::Agreement::conforms_iff))]
+pub fn conforms(core: &Core, e: u32, t: u32) -> bool
+    ensures methods { IsTrue result ↔ spec.Conforms core.now e t }
+    ensures value { result ≡ spec.conforms core.now e t }
+{
+    core.formed();
+    nothing_is_wrong(core, e, t)
+}
+
+// The same, as it is computed.
+fn nothing_is_wrong(core: &Core, entity: u32, above: u32) -> bool
+    ensures { result ≡ spec.conforms core.now entity above }
+{
+    conform_fault(core, entity, above).is_none()
+}
+
+// What is wrong of an entity at a declared method, which has this number.
+fn method_fault(core: &Core, entity: u32, number: u32, wanted: &Method) -> Option<DeclFault>
+    ensures { result ≡ slice_get (spec.method_faults core.now entity number wanted.now (spec.method_like core.now entity wanted.now)) 0 }
+{
+    let missing = DeclFault::MissingMethod {
+        entity,
+        method: number,
+    };
+    match core.method(entity, wanted.name) {
+        None => Some(missing),
+        Some(found) => match core.method_at(found) {
+            None => Some(missing),
+            Some(method) => {
+                if method.kind != wanted.kind {
+                    Some(missing)
+                } else if stands_for(core, wanted, method) {
+                    None
+                } else {
+                    Some(DeclFault::Mismatch {
+                        entity,
+                        method: found,
+                    })
+                }
+            }
+        },
+    }
+}
+
+// What is first wrong of an entity at these methods of a trait or an interface, which have numbers from this one on.
+fn trait_fault(core: &Core, entity: u32, first: u32, methods: &[Method]) -> Option<DeclFault>
+    requires { first + length methods.now < 2 ^ 32 }
+    ensures { result ≡ slice_get (spec.trait_faults core.now entity first methods.now) 0 }
+{
+    let mut number = first;
+    for wanted in methods {
+        match method_fault(core, entity, number, wanted) {
+            None => number += 1,
+            Some(fault) => return Some(fault),
+        }
+    }
+    None
+}
+
+// The methods of an entity.
+fn methods_of<'c>(core: &'c Core, entity: &EntityDef) -> &'c [Method]
+    requires { entity.now.first_method + entity.now.methods ≤ length core.now.methods }
+    ensures { result.now ≡ own_methods core.now entity.now }
+{
+    let first = entity.first_method as usize;
+    &core.methods()[first..first + entity.methods as usize]
+}
+
+// What is first wrong of an entity at a trait or an interface.
+pub(crate) fn conform_fault(core: &Core, entity: u32, above: u32) -> Option<DeclFault>
+    ensures { result ≡ slice_get (spec.conform_faults core.now entity (slice_get core.now.entities above)) 0 }
+{
+    core.formed();
+    match core.entity_at(above) {
+        None => None,
+        Some(found) => trait_fault(core, entity, found.first_method, methods_of(core, found)),
+    }
+}
