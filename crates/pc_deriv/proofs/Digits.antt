@@ -1,19 +1,20 @@
 -- The digits of a number, one by one.
-use Rattle.std.proofs.Common.{◌≡◌, ℕ, zero, suc, ◌+◌, ◌-◌, ◌*◌, ◌/◌, ◌%◌, ◌^◌, ◌<◌, ◌≤◌, Bool, true, false, cond, ◌&&◌, ◌==◌, List, [], ◌∷◌, ◌++◌, Option, Some, None, refl, sym, ap, ◌∙◌, subst, inl, inr, ◌⊎◌, arith, append_assoc}
+use Rattle.std.proofs.Common.{◌≡◌, ℕ, zero, suc, ◌+◌, ◌*◌, ◌/◌, ◌%◌, ◌^◌, ◌<◌, ◌≤◌, false, cond, List, [], ◌∷◌, ◌++◌, refl, sym, ap, ◌∙◌, inl, inr, ◌⊎◌, arith, append_assoc}
 use Rattle.std.proofs.lemmas.Bool.{eq-eqb, ne_eqb, cases_lt}
 use Rattle.std.proofs.lemmas.Fmt.{decimal_step, decimal_digit, hex_one_digit}
 use Rattle.std.specs.Fmt.{digit_glyph, digits_onto, digits, decimal}
 
-abbrev spell : ℕ → ℕ → List ℕ → List ℕ
+-- the digits of a number to the base 16, at most so many, in front of what stands behind them
+abbrev pub spell : ℕ → ℕ → List ℕ → List ℕ
 spell k n acc = digits_onto k 16 false n acc
 
-abbrev last_glyph : ℕ → ℕ
+abbrev pub last_glyph : ℕ → ℕ
 last_glyph n = digit_glyph false (n % 16)
 
-spell_last : (k n : ℕ) (acc : List ℕ) → n < 16 → spell (suc k) n acc ≡ last_glyph n ∷ acc
+pub spell_last : (k n : ℕ) (acc : List ℕ) → n < 16 → spell (suc k) n acc ≡ last_glyph n ∷ acc
 spell_last k n acc h = ap (λ t. cond t (last_glyph n ∷ acc) (spell k (n / 16) (last_glyph n ∷ acc))) (eq-eqb (n / 16) 0 (omega arith))
 
-spell_next : (k n : ℕ) (acc : List ℕ) → 16 ≤ n → spell (suc k) n acc ≡ spell k (n / 16) (last_glyph n ∷ acc)
+pub spell_next : (k n : ℕ) (acc : List ℕ) → 16 ≤ n → spell (suc k) n acc ≡ spell k (n / 16) (last_glyph n ∷ acc)
 spell_next k n acc h = ap (λ t. cond t (last_glyph n ∷ acc) (spell k (n / 16) (last_glyph n ∷ acc))) (ne_eqb (n / 16) 0 (λ e. omega arith))
 
 append_by : (k n : ℕ) (acc : List ℕ) → (n < 16) ⊎ (16 ≤ n) → ((more : List ℕ) → spell k (n / 16) more ≡ spell k (n / 16) [] ++ more) → spell (suc k) n acc ≡ spell (suc k) n [] ++ acc
@@ -36,7 +37,7 @@ spell_enough zero k n acc p q = spell_last zero n acc (omega arith) ∙ sym (spe
 spell_enough (suc j) zero n acc p q = spell_last (suc j) n acc (omega arith) ∙ sym (spell_last zero n acc (omega arith))
 spell_enough (suc j) (suc k) n acc p q = enough_by j k n acc (cases_lt n 16) (spell_enough j k (n / 16) (last_glyph n ∷ acc) (omega arith) (omega arith))
 
-hex_step : (n : ℕ) → 16 ≤ n → n < 2 ^ 64 → digits 16 false n ≡ digits 16 false (n / 16) ++ (digit_glyph false (n % 16) ∷ [])
+pub hex_step : (n : ℕ) → 16 ≤ n → n < 2 ^ 64 → digits 16 false n ≡ digits 16 false (n / 16) ++ (digit_glyph false (n % 16) ∷ [])
 unfolding digits
 hex_step n h small = spell_next 63 n [] h ∙ spell_enough 62 63 (n / 16) (last_glyph n ∷ []) (omega arith) (omega arith) ∙ spell_append 64 (n / 16) (last_glyph n ∷ [])
 

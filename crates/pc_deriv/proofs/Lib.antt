@@ -6,3 +6,7 @@ pub mod LineReading
 pub mod Reached
 pub mod Outcome
 pub mod Fitting
+pub mod Feeding
+pub mod LineEnds
+pub mod Stages
+pub mod Whole

@@ -1,14 +1,13 @@
 -- A line is read where it stands, and nowhere else.
-use Rattle.std.proofs.Common.{◌≡◌, ℕ, ◌+◌, ◌-◌, ◌^◌, ◌<◌, ◌≤◌, List, [], ◌∷◌, ◌++◌, Option, Some, None, refl, sym, ap, ◌∙◌, subst, arith, append_assoc}
-use Rattle.std.specs.Prelude.{codes, decimal, false, ⊤}
-use Rattle.std.specs.Fmt.{digits}
+use Rattle.std.proofs.Common.{◌≡◌, ℕ, ◌-◌, ◌^◌, ◌<◌, List, ◌∷◌, ◌++◌, Option, Some, None, refl, sym, ap, ◌∙◌, subst, arith, append_assoc}
+use Rattle.std.specs.Prelude.{codes, decimal, ⊤}
 use Rattle.pc_caps.specs.declared.capability.Cap.{Cap}
 use Rattle.pc_caps.specs.declared.capability.Form.{Form}
 use Rattle.pc_ann.specs.declared.mask.Mask.{Mask}
 use Rattle.pc_ann.specs.declared.annotation.Rule.{Rule}
 use Rattle.pc_ann.specs.declared.annotation.Note.{Note}
 use Rattle.pc_deriv.specs.Names.{rule_name, cap_name, form_name}
-use Rattle.pc_deriv.specs.Text.{line_end, blank, head_line, slot_line, type_text, mask_text, masks_text, note_line, CountsFit, SlotFits, TypeFits, MaskFits, NoteFits}
+use Rattle.pc_deriv.specs.Text.{line_end, head_line, slot_line, type_text, mask_text, note_line, CountsFit, SlotFits, TypeFits, MaskFits, NoteFits}
 use Rattle.pc_deriv.specs.Reading.{digit_of, after, or_else, beside, rule_at, cap_at, form_at, number_at, decimal_at, mask_at, head_at, slot_at, some_type_at, type_at, masks_at, note_at}
 use Rattle.pc_lists.specs.Options.{◌>>=◌}
 use Rattle.pc_deriv.proofs.Digits.{ten, sixteen}

@@ -12,8 +12,6 @@ use Rattle.pc_ann.specs.declared.annotation.Rule.TheVariants as rule
 use Rattle.pc_deriv.specs.declared.names.TheConstants.{RULES, CAPS, FORMS}
 use Rattle.pc_deriv.specs.Names.{rule_name, cap_name, form_name}
 use Rattle.pc_deriv.specs.Reading.{after, after_word, or_else, beside, named_at, rule_at, cap_at, form_at}
-use Rattle.pc_lists.specs.Options.{◌>>=◌}
-use Rattle.pc_deriv.proofs.NumberReading.{bind_own}
 use Rattle.std.proofs.lemmas.Option.{same_Some}
 use Rattle.pc_lists.proofs.Options.{none_some, bind_some}
 use Rattle.pc_lists.proofs.Prefixes.{begins_own}

@@ -1,5 +1,5 @@
 -- A table of names at an index.
-use Rattle.std.proofs.Common.{◌≡◌, ℕ, ◌+◌, ◌<◌, List, [], Option, Some, None, length, slice_get, drop, refl, sym, ap, ◌∙◌}
+use Rattle.std.proofs.Common.{◌≡◌, ℕ, ◌+◌, List, Some, None, slice_get, drop, ap, ◌∙◌}
 use Rattle.pc_deriv.specs.Reading.{after_word, or_else, beside, named_at}
 use Rattle.pc_lists.proofs.Cuts.{drop_item}
 

@@ -1,7 +1,7 @@
 -- A number is read from its digits and their end, and from nothing else.
-use Rattle.std.proofs.Common.{◌≡◌, ℕ, zero, suc, ◌+◌, ◌-◌, ◌*◌, ◌/◌, ◌%◌, ◌^◌, ◌<◌, ◌≤◌, Bool, true, false, cond, ◌&&◌, ◌==◌, List, [], ◌∷◌, ◌++◌, Option, Some, None, refl, sym, ap, ◌∙◌, subst, arith, append_assoc, mod-lt}
+use Rattle.std.proofs.Common.{◌≡◌, ℕ, zero, suc, ◌+◌, ◌-◌, ◌*◌, ◌/◌, ◌%◌, ◌^◌, ◌<◌, ◌≤◌, Bool, true, false, cond, ◌&&◌, ◌==◌, List, [], ◌∷◌, ◌++◌, Option, Some, None, refl, sym, ap, ◌∙◌, arith, append_assoc, mod-lt}
 use Rattle.std.specs.Prelude.{nat_lt, nat_le}
-use Rattle.std.proofs.lemmas.Bool.{eq-eqb, ne_eqb, eqb-true, true≢false}
+use Rattle.std.proofs.lemmas.Bool.{eq-eqb, ne_eqb, eqb-true}
 use Rattle.std.proofs.lemmas.Bool.Decides.{nat_tests}
 use Rattle.std.proofs.lemmas.Nat.{div-add-mod'}
 use Rattle.std.specs.Char.{is_ascii_digit, is_ascii_lowercase}
@@ -32,7 +32,7 @@ digit_by base b d false false small p q e = absurd (none_some e)
 digit_sound : (base b d : ℕ) → base ≤ 16 → digit_of base b ≡ Some d → (d < base) × (b ≡ digit_glyph false d)
 digit_sound base b d small e = digit_by base b d (is_ascii_digit b && nat_lt (b - 48) base) (is_ascii_lowercase b && nat_lt (b - 97 + 10) base) small refl refl e
 
-digit_own : (base d : ℕ) → base ≤ 16 → d < base → digit_of base (digit_glyph false d) ≡ Some d
+pub digit_own : (base d : ℕ) → base ≤ 16 → d < base → digit_of base (digit_glyph false d) ≡ Some d
 digit_own base d small h = grind (arith, nat_tests)
 
 at_most_by : (most n v : ℕ) (t : Bool) → nat_le n most ≡ t → cond t (Some n) None ≡ Some v → (v ≡ n) × (n ≤ most)

@@ -1,5 +1,5 @@
 -- The outcome of a text, and that there is one.
-use Rattle.std.proofs.Common.{◌≡◌, ℕ, zero, suc, ◌+◌, ◌<◌, ◌≤◌, Bool, true, false, cond, ◌&&◌, List, [], ◌∷◌, ◌++◌, Option, Some, None, Ok, Err, length, refl, sym, ap, ◌∙◌, subst, inl, inr, ◌⊎◌, arith, append_assoc, append-nil}
+use Rattle.std.proofs.Common.{◌≡◌, ℕ, zero, suc, ◌+◌, ◌<◌, ◌≤◌, Bool, true, false, cond, ◌&&◌, List, [], ◌∷◌, ◌++◌, Option, Some, None, Ok, Err, length, refl, sym, ap, ◌∙◌, inl, inr, ◌⊎◌, arith, append_assoc, append-nil}
 use Rattle.std.specs.Prelude.{Result, IfOk, IfErr, nat_lt, nat_le}
 use Rattle.std.specs.List.{AllByRecursion}
 use Rattle.std.proofs.lemmas.Bool.Decides.{nat_tests}
@@ -9,11 +9,10 @@ use Rattle.pc_ann.specs.declared.annotation.Ann.{Ann}
 use Rattle.pc_deriv.specs.declared.fault.DerivFault.{DerivFault}
 use Rattle.pc_deriv.specs.declared.fault.DerivFault.TheVariants as fault
 use Rattle.pc_deriv.specs.Limits.{slot_limit, node_limit}
-use Rattle.pc_deriv.specs.Text.{head_line, slot_line, note_line, lines, deriv_text, CountsFit, SlotFits, NoteFits}
+use Rattle.pc_deriv.specs.Text.{head_line, slot_line, note_line, lines, CountsFit, SlotFits, NoteFits}
 use Rattle.pc_deriv.specs.Reading.{head_at, slot_at, note_at}
-use Rattle.pc_deriv.specs.Faults.{Within, IsText, Begins, NoLine, BeginsHead, IsBadLine, bad_head, bad_slot, bad_node, bad_end, IsTooMany, IsFault, Refuses}
+use Rattle.pc_deriv.specs.Faults.{Within, IsText, Begins, NoLine, BeginsHead, IsBadLine, bad_head, bad_slot, bad_node, bad_end, IsFault, Refuses}
 use Rattle.pc_deriv.specs.Answers.{Answers}
-use Rattle.pc_lists.proofs.Options.{none_some}
 use Rattle.pc_deriv.proofs.LineReading.{Reads, head_reads, slot_reads, note_reads}
 
 -- one more, and those behind it

@@ -1,5 +1,5 @@
 -- The lines that have been read.
-use Rattle.std.proofs.Common.{◌≡◌, ℕ, true, false, ◌==◌, ◌+◌, ◌<◌, ◌≤◌, ◌^◌, List, [], ◌∷◌, ◌++◌, Option, Some, None, length, refl, sym, ap, ◌∙◌, subst, arith, append_assoc, append-nil, length-append}
+use Rattle.std.proofs.Common.{◌≡◌, ℕ, true, false, ◌==◌, ◌+◌, ◌<◌, List, [], ◌∷◌, ◌++◌, Option, Some, None, length, refl, sym, ap, ◌∙◌, arith, append_assoc, append-nil}
 use Rattle.std.proofs.lemmas.Bool.{true≢false, eqb-true}
 use Rattle.std.specs.List.{AllByRecursion}
 use Rattle.pc_caps.specs.declared.capability.Cap.{Cap}
@@ -18,7 +18,7 @@ lines_app line [] x rest = ap (λ l. l ++ rest) (append-nil (line x))
 lines_app line (y ∷ ys) x rest =
     append_assoc (line y) (lines line (ys ++ x ∷ [])) rest ∙ ap (λ l. line y ++ l) (lines_app line ys x rest) ∙ sym (append_assoc (line y) (lines line ys) (line x ++ rest))
 
-all_app : {A : Type 0} (P : A → Type 0) (xs : List A) (x : A) → AllByRecursion P xs → P x → AllByRecursion P (xs ++ x ∷ [])
+pub all_app : {A : Type 0} (P : A → Type 0) (xs : List A) (x : A) → AllByRecursion P xs → P x → AllByRecursion P (xs ++ x ∷ [])
 all_app P [] x h p = (p, tt)
 all_app P (y ∷ ys) x h p = (h.0, all_app P ys x h.1 p)
 

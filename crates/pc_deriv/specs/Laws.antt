@@ -1,7 +1,12 @@
 -- What holds of all texts.
-use Rattle.std.specs.Prelude.{◌≡◌, ℕ, List}
+use Rattle.std.specs.Prelude.{◌≡◌, ℕ, List, ◌++◌, Some, Result, Ok, Err}
 use Rattle.pc_ann.specs.declared.annotation.Ann.{Ann}
 use Rattle.pc_deriv.specs.declared.fault.DerivFault.{DerivFault}
+use Rattle.pc_deriv.specs.declared.fault.DerivFault.TheVariants as fault
+use Rattle.pc_deriv.specs.declared.line.Line.{Line}
+use Rattle.pc_deriv.specs.declared.line.LineFault.{LineFault}
+use Rattle.pc_deriv.specs.declared.line.LineFault.TheVariants as line_fault
+use Rattle.pc_deriv.specs.Lines.{Taken, nothing_taken, fed, ended_so, lines_of}
 use Rattle.pc_deriv.specs.Faults.{IsText, IsFault}
 
 -- No bytes are the text of two annotations.
@@ -15,3 +20,35 @@ OneFault = (bytes : List ℕ) (f g : DerivFault) → IsFault bytes f → IsFault
 -- No bytes are a text and have a fault.
 abbrev pub NoFaultOfText : Type 0
 NoFaultOfText = (bytes : List ℕ) (ann : Ann) (f : DerivFault) → IsText bytes ann → IsFault bytes f → ⊥
+
+-- ---- a text that is taken in pieces
+
+-- the same fault of the whole text
+abbrev pub as_read : LineFault → DerivFault
+as_read (line_fault.BadLine n) = fault.BadLine n
+as_read line_fault.TooMany = fault.TooMany
+
+-- However bytes are cut, the same lines end in them, and the same is known behind them.
+abbrev pub CutsAreOne : Type 0
+CutsAreOne = (t : Taken) (a b : List ℕ) → fed t (a ++ b) ≡ ((fed t a).0 ++ (fed (fed t a).1 b).0, (fed (fed t a).1 b).1)
+
+-- What was wrong with the bytes taken, or else is wrong where nothing follows them, is the fault of the bytes. Where nothing
+-- is wrong, they are the text of an annotation, and the lines are its lines.
+abbrev pub IsRead : List ℕ → List Line → Result (Unit {0}) LineFault → Type 0
+IsRead bytes ls (Ok _) = (ann : Ann) × IsText bytes ann × (ls ≡ lines_of ann)
+IsRead bytes ls (Err f) = IsFault bytes (as_read f)
+
+abbrev pub LinesAreRead : Type 0
+LinesAreRead = (bytes : List ℕ) → IsRead bytes (fed nothing_taken bytes).0 (ended_so (fed nothing_taken bytes).1)
+
+-- All lines of an annotation's text end in it, and nothing is wrong.
+abbrev pub TextsAreTaken : Type 0
+TextsAreTaken = (bytes : List ℕ) (ann : Ann) → IsText bytes ann → ((fed nothing_taken bytes).0 ≡ lines_of ann) × (ended_so (fed nothing_taken bytes).1 ≡ Ok tt)
+
+-- The fault of the bytes is the one that is found.
+abbrev pub FaultsAreFound : Type 0
+FaultsAreFound = (bytes : List ℕ) (f : LineFault) → IsFault bytes (as_read f) → ended_so (fed nothing_taken bytes).1 ≡ Err f
+
+-- A line's fault is that of the bytes, whatever follows them.
+abbrev pub FaultsStay : Type 0
+FaultsStay = (bytes more : List ℕ) (f : LineFault) → (fed nothing_taken bytes).1.fault ≡ Some f → IsFault (bytes ++ more) (as_read f)

@@ -3,6 +3,9 @@ pub mod Limits
 pub mod Text
 pub mod Faults
 pub mod Answers
-pub mod Laws
 pub mod Reading
 pub mod Stops
+pub mod Lines
+pub mod Laws
+pub mod LineState
+pub mod Pieces

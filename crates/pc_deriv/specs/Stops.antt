@@ -1,7 +1,5 @@
 -- How the reading of lines stops before the last.
 use Rattle.std.specs.Prelude.{◌≡◌, ℕ, ◌+◌, ◌<◌, List, length, ⊤}
-use Rattle.pc_caps.specs.declared.capability.Cap.{Cap}
-use Rattle.pc_ann.specs.declared.annotation.Note.{Note}
 use Rattle.pc_deriv.specs.Text.{slot_line, note_line, SlotFits, NoteFits}
 use Rattle.pc_deriv.specs.Faults.{Begins, NoLine}
 use Rattle.pc_deriv.specs.declared.fault.DerivFault.{DerivFault}

@@ -1,5 +1,5 @@
 //! What holds of all derivation texts.
-ghost use Rattle.pc_deriv.specs.Laws.{OneAnnotation, OneFault, NoFaultOfText};
+ghost use Rattle.pc_deriv.specs.Laws.{OneAnnotation, OneFault, NoFaultOfText, CutsAreOne, LinesAreRead, TextsAreTaken, FaultsAreFound, FaultsStay};
 
 /// Bytes are the text of at most one annotation: what was written is read back.
 pub fn annotations_are_one()
@@ -10,4 +10,14 @@ pub fn annotations_are_one()
 pub fn faults_are_one()
     ensures one { OneFault }
     ensures apart { NoFaultOfText }
+{}
+
+/// Whatever the pieces are, the lines that `Lines` answers for them are those of the annotation read, and its first fault
+/// is that of `read`.
+pub fn pieces_are_read()
+    ensures cuts { CutsAreOne }
+    ensures whole { LinesAreRead }
+    ensures texts { TextsAreTaken }
+    ensures faults { FaultsAreFound }
+    ensures stays { FaultsStay }
 {}

@@ -2,21 +2,27 @@
 //!
 //! Proved: `write` gives the derivation text of an annotation, which `read` takes back, and `read` is Ok with exactly
 //! the annotation whose text the bytes are, or else names the first line that is not of its form, or that a count
-//! passes its limit; no bytes are two annotations' text or have two faults.
+//! passes its limit; no bytes are two annotations' text or have two faults. `Lines` takes a text in pieces, of any
+//! length, and without memory: its lines are those of the annotation read, and its first fault is that of `read`.
 //!
 //! Only tested: that it is linear; the example's text, its cuts and variants.
 #![tactic(auto)]
 
 mod fault;
 mod laws;
+mod line;
+mod line_state;
 mod lines;
 mod names;
 mod numbers;
+mod pieces;
 mod reading;
 mod writing;
 
 pub use fault::DerivFault;
-pub use laws::{annotations_are_one, faults_are_one};
+pub use laws::{annotations_are_one, faults_are_one, pieces_are_read};
+pub use line::{Line, LineFault};
 pub use pc_ann::{Ann, Mask, Note, Rule};
+pub use pieces::Lines;
 pub use reading::read;
 pub use writing::write;

@@ -1,5 +1,5 @@
 //! Numbers without leading zeros, and the byte that ends them.
-ghost use Rattle.std.specs.Prelude.{◌≡◌, ◌≤◌, ◌<◌, ◌^◌, option_map, IfSome};
+ghost use Rattle.std.specs.Prelude.{◌≡◌, ◌≤◌, option_map, IfSome};
 ghost use Rattle.pc_deriv.specs.Reading as reading;
 
 use pc_ann::Mask;

@@ -1,5 +1,5 @@
 //! Reading a derivation text.
-ghost use Rattle.std.specs.Prelude.{◌≡◌, ◌<◌, ◌≤◌, ◌+◌, length, Ok, Err, IfOk, IfErr};
+ghost use Rattle.std.specs.Prelude.{◌≡◌, ◌≤◌, length, Ok, Err, IfOk, IfErr};
 ghost use Rattle.pc_ann.specs.declared.annotation.Ann.{Ann};
 ghost use Rattle.pc_deriv.specs.declared.fault.DerivFault.{DerivFault};
 ghost use Rattle.pc_deriv.specs.Limits.{slot_limit, node_limit};
@@ -15,10 +15,10 @@ use pc_caps::{Cap, List};
 use std::alloc::Global;
 
 /// The most slots of an annotation that is read.
-const SLOT_LIMIT: u32 = 640_000;
+pub const SLOT_LIMIT: u32 = 640_000;
 
 /// The most nodes.
-const NODE_LIMIT: u32 = 200_000;
+pub const NODE_LIMIT: u32 = 200_000;
 
 /// Reads so many lines of slots.
 #[tactic(auto, using(crate::proofs::Reached::no_slot, crate::proofs::Reached::slot_more, crate::proofs::Reached::slot_stops))]

@@ -1,6 +1,5 @@
 //! Writing the derivation text.
 ghost use Rattle.std.specs.Prelude.{◌≡◌, ◌≤◌, ◌++◌, length, IfOk, OnOk};
-ghost use Rattle.std.specs.Fmt.{digits};
 ghost use Rattle.std.specs.List.{AllByRecursion};
 ghost use Rattle.pc_deriv.specs.Text as text;
 ghost use Rattle.pc_deriv.specs.Faults.{IsText};

@@ -1,5 +1,5 @@
 -- What a read of a file answers.
-use Rattle.std.specs.Prelude.{◌≡◌, ◌<◌, ◌≤◌, ◌+◌, ℕ, List, length, IfSome, Result, Ok, Err}
+use Rattle.std.specs.Prelude.{◌≡◌, ◌<◌, ◌≤◌, ◌+◌, ℕ, List, length, take, drop, IfSome, Result, Ok, Err}
 use Rattle.std.specs.declared.option.Option.{Option}
 use Rattle.pc_io.specs.declared.files.FileFault.{FileFault}
 use Rattle.pc_io.specs.declared.files.FileFault.TheVariants.{TooLong, Memory, Failed}
@@ -15,3 +15,14 @@ IsCopy bytes limit taken (Ok copy) = (copy ≡ bytes) × (length bytes ≤ limit
 IsCopy bytes limit taken (Err TooLong) = (limit < length bytes) × (taken ≡ limit + 1)
 IsCopy bytes limit taken (Err Memory) = (length bytes ≤ limit) × (taken ≡ 0)
 IsCopy bytes limit taken (Err Failed) = ⊥
+
+-- the bytes from a place on, as many as there are up to a limit
+abbrev pub part_of : List ℕ → (from limit : ℕ) → List ℕ
+part_of bytes from limit = take limit (drop from bytes)
+
+-- a read of a part of these bytes took `taken` of them, and gives the part
+abbrev pub IsPart : List ℕ → (from limit taken : ℕ) → Result Bytes FileFault → Type 0
+IsPart bytes from limit taken (Ok copy) = (copy ≡ part_of bytes from limit) × (taken ≡ length copy)
+IsPart bytes from limit taken (Err TooLong) = ⊥
+IsPart bytes from limit taken (Err Memory) = taken ≡ 0
+IsPart bytes from limit taken (Err Failed) = ⊥

@@ -7,6 +7,7 @@ use Rattle.pc_io.specs.declared.bytes.Bytes.{Bytes}
 use Rattle.pc_io.specs.declared.entries.Entry.{Entry}
 use Rattle.pc_io.specs.Count.{one_more}
 use Rattle.pc_io.specs.Entries.{held}
+use Rattle.pc_io.specs.Files.{part_of}
 
 -- The files; the numbers of the calls that fail; the number of the next call; the names whose reading failed, the latest
 -- last; how many bytes the last call took.
@@ -38,3 +39,16 @@ after_read store name limit (Ok bytes) = record store { next_call = one_more sto
 after_read store name limit (Err TooLong) = record store { next_call = one_more store.next_call; taken = limit + 1 }
 after_read store name limit (Err Failed) = record store { next_call = one_more store.next_call; failed = store.failed ++ name ∷ []; taken = 0 }
 after_read store name limit (Err Memory) = record store { next_call = one_more store.next_call; taken = 0 }
+
+-- The same of a call that reads a part, which is never too long.
+abbrev pub IsPartOf : Store → List ℕ → (from limit : ℕ) → Result Bytes FileFault → Type 0
+IsPartOf store name from limit (Ok bytes) = (fails_next store ≡ false) × IsSomeAnd (held store.entries name) (λ told. bytes ≡ part_of told from limit)
+IsPartOf store name from limit (Err TooLong) = ⊥
+IsPartOf store name from limit (Err Failed) = fails_next store ≡ false → held store.entries name ≡ None
+IsPartOf store name from limit (Err Memory) = ⊤
+
+abbrev pub after_part : Store → List ℕ → Result Bytes FileFault → Store
+after_part store name (Ok bytes) = record store { next_call = one_more store.next_call; taken = length bytes }
+after_part store name (Err TooLong) = record store { next_call = one_more store.next_call; taken = 0 }
+after_part store name (Err Failed) = record store { next_call = one_more store.next_call; failed = store.failed ++ name ∷ []; taken = 0 }
+after_part store name (Err Memory) = record store { next_call = one_more store.next_call; taken = 0 }

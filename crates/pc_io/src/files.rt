@@ -1,8 +1,8 @@
 //! Files by their names: what is asked of whatever reads them.
-ghost use Rattle.std.specs.Prelude.{◌≡◌, ◌<◌, ◌≤◌, ◌+◌, List, ℕ, length, IfOk, IfSome, IsErrOf};
+ghost use Rattle.std.specs.Prelude.{◌≡◌, ◌<◌, ◌≤◌, ◌≢◌, ◌+◌, List, ℕ, length, Err, IfOk, IfSome, IsErrOf};
 ghost use Rattle.std.specs.declared.option.Option.{Option};
 ghost use Rattle.pc_io.specs.declared.files.FileFault.TheVariants.{Memory};
-ghost use Rattle.pc_io.specs.Files.{TooLongOnly};
+ghost use Rattle.pc_io.specs.Files.{TooLongOnly, part_of};
 
 use crate::Bytes;
 use std::alloc::{AllocError, AllocFailed, Global};
@@ -37,7 +37,7 @@ impl<T: Drop> From<AllocFailed<T>> for FileFault {
 /// Files that can be read by their names.
 ///
 /// Contracts see three things. `bytes` is what each name holds, where that is told: of a real file nothing is told. `faults`
-/// counts for each name how often its reading failed, and never falls. `taken` is the number of bytes that the last `read`
+/// counts for each name how often its reading failed, and never falls. `taken` is the number of bytes that the last call
 /// took from its file.
 pub trait Files {
     /// The bytes of a name, where they are told.
@@ -46,7 +46,7 @@ pub trait Files {
     /// How often the reading of a name has failed.
     ghost faults: { Self → List ℕ → ℕ };
 
-    /// How many bytes the last `read` took from its file.
+    /// How many bytes the last call took from its file.
     ghost taken: { Self → ℕ };
 
     /// All bytes of the file, which are at most `limit`, in memory of `alloc`. No reading changes what a name holds.
@@ -72,4 +72,29 @@ pub trait Files {
         ensures longer { IsErrOf result FileFault.TooLong → limit < taken self.new }
         ensures told { IsErrOf result FileFault.TooLong → TooLongOnly limit (bytes self.old name.now)
             (faults self.old name.now) (faults self.new name.now) };
+
+    /// The bytes of the file from `from` on, as many as there are up to `limit`, in memory of `alloc`. No reading changes
+    /// what a name holds.
+    ///
+    /// # Errors
+    /// - `Failed` only where the faults of this very name rose in this call.
+    /// - `Memory` at want of memory.
+    ///
+    /// `TooLong` never comes.
+    fn part(&mut self, alloc: Global, name: &str, from: u32, limit: u32) -> Result<Bytes, FileFault>
+        requires { 0 < limit }
+
+        // Whatever is answered.
+        ensures same { (n : List ℕ) → bytes self.new n ≡ bytes self.old n }
+        ensures later { (n : List ℕ) → faults self.old n ≤ faults self.new n }
+        ensures at_most { taken self.new ≤ limit }
+
+        // Ok has this part of the file.
+        ensures all { IfOk result (λ b. IfSome (bytes self.old name.now) (λ told. b ≡ part_of told from limit)) }
+        ensures within { IfOk result (λ b. length b ≤ limit) }
+        ensures whole { IfOk result (λ b. taken self.new ≡ length b) }
+
+        // Each refusal has its cause.
+        ensures failed { IsErrOf result FileFault.Failed → faults self.old name.now < faults self.new name.now }
+        ensures short { result ≢ Err FileFault.TooLong };
 }

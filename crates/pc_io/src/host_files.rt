@@ -1,12 +1,13 @@
 //! Real files.
-ghost use Rattle.std.specs.Prelude.{◌≡◌, ◌≢◌, ◌<◌, ◌≤◌, ◌+◌, List, ℕ, length, None, Err, IfOk, IfSome, IsErrOf, IfErr, OnOk, vec_len, ◌^◌};
+ghost use Rattle.std.specs.Prelude.{◌≡◌, ◌≢◌, ◌<◌, ◌≤◌, ◌+◌, List, ℕ, length, None, IfOk, IfSome, IsErrOf, OnOk, vec_len, ◌^◌, IfErr};
 ghost use Rattle.pc_io.specs.Failed.{times};
+ghost use Rattle.pc_io.specs.Files.{part_of};
 ghost use Rattle.pc_io.specs.HostFiles.{no_readings, failed_after};
 
 use crate::failures::Failures;
 use crate::{Bytes, FileFault, Files};
 use std::alloc::Global;
-use std::io::{self, ErrorKind, Read};
+use std::io::{self, ErrorKind, Read, Seek, SeekFrom};
 use std::marker::Model;
 use std::{fs, rt};
 
@@ -73,6 +74,33 @@ impl<'a, R: rt::Files> Files for HostFiles<'a, R> {
         }
         answer
     }
+
+    /// Opens the file, goes to the place and reads from there, to the file's end or to the limit. A file that does not
+    /// know places, as a pipe, has the place 0 alone.
+    #[tactic(auto, using(crate::proofs::Times::rises, crate::proofs::Times::keeps))]
+    fn part(&mut self, alloc: Global, name: &str, from: u32, limit: u32) -> Result<Bytes, FileFault>
+        ensures later { (n : List ℕ) → times n self.old.failed ≤ times n self.new.failed }
+        ensures failed { IsErrOf result FileFault.Failed → times name.now self.old.failed < times name.now self.new.failed }
+        ensures names { self.new.failed ≡ failed_after self.old.failed name.now result }
+        ensures short { result ≢ Err FileFault.TooLong }
+
+        // As at all files: here no bytes are told.
+        ensures all { IfOk result (λ b. IfSome None (λ told. b ≡ part_of told from limit)) }
+
+        // How much was taken.
+        ensures within { IfOk result (λ b. length b ≤ limit) }
+        ensures whole { IfOk result (λ b. self.new.taken ≡ length b) }
+        ensures at_most { self.new.taken ≤ limit }
+    {
+        self.taken = 0;
+        let kept = self.failures.make_room(alloc, name)?;
+        let (taken, answer) = read_file_part(alloc, self.runtime, name, from, limit);
+        self.taken = taken;
+        if let Err(FileFault::Failed) = answer {
+            self.failures.add(kept);
+        }
+        answer
+    }
 }
 
 // How many bytes were taken from the file of this name, and what a read answers.
@@ -89,7 +117,37 @@ fn read_file<R: rt::Files>(
 {
     let mut bytes = Vec::new(alloc);
     let ended = match fs::open(runtime, name) {
-        Ok(mut file) => fill(&mut file, &mut bytes, limit as usize),
+        Ok(mut file) => fill(&mut file, &mut bytes, limit as usize + 1),
+        Err(error) => Err(fault_of(&error)),
+    };
+    let taken = bytes.len();
+    match ended {
+        Ok(()) => {
+            if taken > limit as usize {
+                return (taken, Err(FileFault::TooLong));
+            }
+            (taken, Ok(Bytes::from_vec(bytes)))
+        }
+        Err(fault) => (taken, Err(fault)),
+    }
+}
+
+// How many bytes were taken from the file of this name, and what a read of a part answers.
+fn read_file_part<R: rt::Files>(
+    alloc: Global,
+    runtime: &R,
+    name: &str,
+    from: u32,
+    limit: u32,
+) -> (usize, Result<Bytes, FileFault>)
+    ensures within { IfOk result.1 (λ b. length b ≤ limit) }
+    ensures whole { IfOk result.1 (λ b. result.0 ≡ length b) }
+    ensures short { result.1 ≢ Err FileFault.TooLong }
+    ensures at_most { result.0 ≤ limit }
+{
+    let mut bytes = Vec::new(alloc);
+    let ended = match fs::open(runtime, name) {
+        Ok(mut file) => fill_from(&mut file, &mut bytes, from, limit as usize),
         Err(error) => Err(fault_of(&error)),
     };
     let taken = bytes.len();
@@ -99,20 +157,37 @@ fn read_file<R: rt::Files>(
     }
 }
 
-// Appends what a reader gives, to its end: at most `limit` bytes, or one more where it gives more.
-fn fill<F: Read>(file: &mut F, bytes: &mut Vec<u8>, limit: usize) -> Result<(), FileFault>
-    requires empty { vec_len bytes.old ≡ 0 }
-    requires room { limit + 1 < 2 ^ 64 }
-    ensures ok { OnOk result (vec_len bytes.new ≤ limit) }
-    ensures longer { IsErrOf result FileFault.TooLong → limit < vec_len bytes.new }
-    ensures within { vec_len bytes.new ≤ limit + 1 }
+// Goes to a place of the file, and appends what it gives from there.
+fn fill_from<F: Read + Seek>(
+    file: &mut F,
+    bytes: &mut Vec<u8>,
+    from: u32,
+    most: usize,
+) -> Result<(), FileFault>
+    requires { vec_len bytes.old ≡ 0 }
+    ensures short { IfErr result (λ fault. fault ≢ FileFault.TooLong) }
+    ensures within { vec_len bytes.new ≤ most }
+{
+    if from > 0 {
+        if let Err(error) = file.seek(SeekFrom::Start(u64::from(from))) {
+            return Err(fault_of(&error));
+        }
+    }
+    fill(file, bytes, most)
+}
+
+// Appends what a reader gives, to its end, but no more than so many bytes.
+fn fill<F: Read>(file: &mut F, bytes: &mut Vec<u8>, most: usize) -> Result<(), FileFault>
+    requires { vec_len bytes.old ≡ 0 }
+    ensures short { IfErr result (λ fault. fault ≢ FileFault.TooLong) }
+    ensures within { vec_len bytes.new ≤ most }
 {
     let mut chunk = [0u8; 4096];
     for _ in 0..u64::MAX {
-        if bytes.len() > limit {
-            return Err(FileFault::TooLong);
+        if bytes.len() == most {
+            return Ok(());
         }
-        let room = (limit + 1 - bytes.len()).min(chunk.len());
+        let room = (most - bytes.len()).min(chunk.len());
         bytes.reserve(room)?;
         match file.read(&mut chunk[..room]) {
             Ok(0) => return Ok(()),

@@ -1,5 +1,5 @@
 //! A sink over a writer.
-ghost use Rattle.std.specs.Prelude.{◌≡◌, ◌≤◌, [], Ok, Err, MatchBool, OnOk, OnErr, None};
+ghost use Rattle.std.specs.Prelude.{◌≡◌, ◌≤◌, [], Ok, Err, MatchBool, OnOk, OnErr};
 ghost use Rattle.std.specs.Io.KnownBytes.{Appends};
 ghost use Rattle.pc_io.specs.Count.{one_more};
 ghost use Rattle.pc_io.specs.Sink.{GrowsByPrefix};

@@ -4,16 +4,16 @@ ghost use Rattle.std.specs.List.{list_any};
 ghost use Rattle.std.specs.Str.{bytes_eq};
 ghost use Rattle.pc_io.specs.Entries.{held};
 ghost use Rattle.pc_io.specs.Failed.{times};
-ghost use Rattle.pc_io.specs.MemFiles.{new_store, after_read, IsAnswerOf};
+ghost use Rattle.pc_io.specs.MemFiles.{new_store, after_read, after_part, IsAnswerOf, IsPartOf};
 
 use crate::entries::{Entry, find_entry, put_entry};
 use crate::failures::Failures;
-use crate::reading::read_bytes;
+use crate::reading::{read_bytes, read_part};
 use crate::{Bytes, FileFault, Files};
 use std::alloc::{AllocError, Global};
 use std::marker::Model;
 
-/// Files in memory, for tests of what reads files: chosen calls of `read` fail.
+/// Files in memory, for tests of what reads files: chosen calls of `read` and `part` fail.
 #[derive(Debug, Drop)]
 pub struct MemFiles {
     alloc: Global,
@@ -39,7 +39,7 @@ impl Model for MemFiles {
 }
 
 impl MemFiles {
-    /// No files yet. The calls of `read` with the numbers in `fail` will fail: all calls are counted in one sequence,
+    /// No files yet. The readings with the numbers in `fail` will fail: calls of `read` and `part` count in one sequence,
     /// whatever they name and answer, and the first has number 1.
     ///
     /// # Errors
@@ -99,6 +99,31 @@ impl Files for MemFiles {
             return Err(FileFault::Failed);
         };
         let (taken, answer) = read_bytes(alloc, entry.bytes.as_slice(), limit);
+        self.taken = taken;
+        answer
+    }
+
+    /// Fails exactly where the number of the call is one of those that fail, or where there is no file of that name.
+    #[tactic(auto, using(crate::proofs::Times::rises, crate::proofs::Times::keeps, crate::proofs::Parts::short_part))]
+    fn part(&mut self, alloc: Global, name: &str, from: u32, limit: u32) -> Result<Bytes, FileFault>
+        ensures answer { IsPartOf self.old name.now from limit result }
+        ensures later { (n : List ℕ) → times n self.old.failed ≤ times n self.new.failed }
+        ensures failed { IsErrOf result FileFault.Failed → times name.now self.old.failed < times name.now self.new.failed }
+        ensures rest { self.new ≡ after_part self.old name.now result }
+    {
+        let call = self.next_call;
+        self.next_call = call.saturating_add(1);
+        self.taken = 0;
+        let failure = self.failures.make_room(alloc, name)?;
+        if is_listed(&self.failing, call) {
+            self.failures.add(failure);
+            return Err(FileFault::Failed);
+        }
+        let Some(entry) = find_entry(&self.entries, name.as_bytes()) else {
+            self.failures.add(failure);
+            return Err(FileFault::Failed);
+        };
+        let (taken, answer) = read_part(alloc, entry.bytes.as_slice(), from, limit);
         self.taken = taken;
         answer
     }

@@ -1,5 +1,5 @@
 //! A sink in memory, which can be made to fail.
-ghost use Rattle.std.specs.Prelude.{◌≡◌, ◌≤◌, ℕ, nat_eq, find, option_map, IfOk, IsErrOf, Some};
+ghost use Rattle.std.specs.Prelude.{◌≡◌, ◌≤◌, nat_eq, find, option_map, IfOk, IsErrOf, Some};
 ghost use Rattle.pc_io.specs.MemSink.{new_tape, after_put, IsAnswerOf};
 ghost use Rattle.pc_io.specs.Sink.{GrowsByPrefix};
 

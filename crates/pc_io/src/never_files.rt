@@ -5,7 +5,7 @@ ghost use Rattle.pc_io.specs.Entries.{held, held_or_empty};
 ghost use Rattle.pc_io.specs.NeverFiles.{empty_shelf};
 
 use crate::entries::{Entry, find_entry, put_entry};
-use crate::reading::read_bytes;
+use crate::reading::{read_bytes, read_part};
 use crate::{Bytes, FileFault, Files};
 use std::alloc::{AllocError, Global};
 use std::marker::Model;
@@ -64,6 +64,22 @@ impl Files for NeverFiles {
         let (taken, answer) = match find_entry(&self.entries, name.as_bytes()) {
             Some(entry) => read_bytes(alloc, entry.bytes.as_slice(), limit),
             None => read_bytes(alloc, &[], limit),
+        };
+        self.taken = taken;
+        answer
+    }
+
+    #[tactic(auto, using(crate::proofs::Parts::short_part))]
+    fn part(
+        &mut self,
+        alloc: Global,
+        name: &str,
+        from: u32,
+        limit: u32,
+    ) -> Result<Bytes, FileFault> {
+        let (taken, answer) = match find_entry(&self.entries, name.as_bytes()) {
+            Some(entry) => read_part(alloc, entry.bytes.as_slice(), from, limit),
+            None => read_part(alloc, &[], from, limit),
         };
         self.taken = taken;
         answer

@@ -1,5 +1,6 @@
-//! Reading bytes that are in memory, up to a limit.
-ghost use Rattle.pc_io.specs.Files.{IsCopy};
+//! Reading bytes that are in memory, up to a limit: all of them, or a part.
+ghost use Rattle.std.specs.Prelude.{◌≡◌};
+ghost use Rattle.pc_io.specs.Files.{IsCopy, IsPart, part_of};
 
 use crate::{Bytes, FileFault};
 use std::alloc::Global;
@@ -13,6 +14,32 @@ pub fn read_bytes(alloc: Global, bytes: &[u8], limit: u32) -> (usize, Result<Byt
         return (most + 1, Err(FileFault::TooLong));
     }
     match Bytes::copy_of(alloc, bytes) {
+        Ok(copy) => (copy.len(), Ok(copy)),
+        Err(error) => (0, Err(FileFault::from(error))),
+    }
+}
+
+// The bytes from a place on, as many as there are up to a limit.
+#[tactic(auto, using(crate::proofs::Parts::part_is))]
+fn part_of(bytes: &[u8], from: u32, limit: u32) -> &[u8]
+    ensures { result.now ≡ part_of bytes.now from limit }
+{
+    let start = (from as usize).min(bytes.len());
+    let rest = &bytes[start..];
+    let count = (limit as usize).min(rest.len());
+    &rest[..count]
+}
+
+/// How many bytes a read of a part takes from these, and what it answers.
+pub fn read_part(
+    alloc: Global,
+    bytes: &[u8],
+    from: u32,
+    limit: u32,
+) -> (usize, Result<Bytes, FileFault>)
+    ensures { IsPart bytes.now from limit result.0 result.1 }
+{
+    match Bytes::copy_of(alloc, part_of(bytes, from, limit)) {
         Ok(copy) => (copy.len(), Ok(copy)),
         Err(error) => (0, Err(FileFault::from(error))),
     }

@@ -1,4 +1,4 @@
-use Rattle.std.proofs.Common.{length, ◌-◌, ◌+◌, ◌≡◌, ◌≤◌, ◌<◌, drop}
+use Rattle.std.proofs.Common.{length, ◌-◌, ◌≡◌, ◌≤◌, drop}
 use Rattle.pc_deriv.specs.Reading.{digits_on, number_at}
 use Rattle.pc_deriv.proofs.numbers.number_at.Given as goal
 

@@ -1,4 +1,4 @@
-use Rattle.std.proofs.Common.{◌++◌, [], ◌∷◌, length, ap, sym, subst, arith, length-append}
+use Rattle.std.proofs.Common.{[], ◌∷◌, length, ap, sym, subst, arith, length-append}
 use Rattle.pc_deriv.specs.Text.{slot_line, SlotFits}
 use Rattle.pc_deriv.specs.Faults.{Begins}
 use Rattle.pc_deriv.proofs.Reached.{slot_more}

@@ -1,0 +1,124 @@
+-- A text that is taken in pieces: the lines that have ended, and what is known behind them.
+use Rattle.std.specs.Prelude.{ℕ, ◌+◌, ◌==◌, nat_le, Bool, false, ◌&&◌, List, [], ◌∷◌, ◌++◌, length, map, Option, Some, None, option_map, Result, Ok, Err, if◌then◌else◌}
+use Rattle.pc_caps.specs.declared.capability.Cap.{Cap}
+use Rattle.pc_ann.specs.declared.annotation.Ann.{Ann}
+use Rattle.pc_deriv.specs.Limits.{slot_limit, node_limit}
+use Rattle.pc_deriv.specs.Reading.{head_at, slot_at, note_at}
+use Rattle.pc_deriv.specs.declared.line.Line.{Line}
+use Rattle.pc_deriv.specs.declared.line.Line.TheVariants as line
+use Rattle.pc_deriv.specs.declared.line.LineFault.{LineFault}
+use Rattle.pc_deriv.specs.declared.line.LineFault.TheVariants as fault
+
+-- What is known behind some bytes: the counts of the first line, once it has ended; how many lines have ended; the bytes
+-- behind the last of them; the fault, if there is one.
+pub record Taken : Type 0 where
+  pub counts : Option (ℕ × ℕ)
+  pub ended : ℕ
+  pub pending : List ℕ
+  pub fault : Option LineFault
+
+-- no byte was taken
+abbrev pub nothing_taken : Taken
+nothing_taken = record { counts = None; ended = 0; pending = []; fault = None }
+
+-- the most bytes of a line, its end among them
+abbrev pub longest_line : ℕ
+longest_line = 128
+
+-- the line that such bytes are, by what is to stand there
+abbrev pub head_in : List ℕ → Option Line
+head_in bytes = option_map (λ r. line.Head r.0.0 r.0.1) (head_at bytes)
+
+abbrev pub slot_in : List ℕ → Option Line
+slot_in bytes = option_map (λ r. line.Slot r.0.0 r.0.1) (slot_at bytes)
+
+abbrev pub node_in : List ℕ → Option Line
+node_in bytes = option_map (λ r. line.Node r.0) (note_at bytes)
+
+-- The line that such bytes are behind so many lines: first the counts, then as many slots and as many nodes as they say,
+-- and then nothing.
+abbrev pub line_in : Option (ℕ × ℕ) → (ended : ℕ) → List ℕ → Option Line
+line_in None ended bytes = head_in bytes
+line_in (Some (slots, nodes)) ended bytes = if nat_le ended slots then slot_in bytes else (if nat_le ended (slots + nodes) then node_in bytes else None)
+
+-- counts that pass a limit are refused
+abbrev pub within_limits : Line → Result Line LineFault
+within_limits (line.Head slots nodes) = if nat_le slots slot_limit && nat_le nodes node_limit then Ok (line.Head slots nodes) else Err fault.TooMany
+within_limits (line.Slot entity cap) = Ok (line.Slot entity cap)
+within_limits (line.Node note) = Ok (line.Node note)
+
+-- line n, or what is wrong with it
+abbrev pub checked : (n : ℕ) → Option Line → Result Line LineFault
+checked n None = Err (fault.BadLine n)
+checked n (Some l) = within_limits l
+
+-- what such bytes say behind so many lines
+abbrev pub said : Option (ℕ × ℕ) → (ended : ℕ) → List ℕ → Result Line LineFault
+said counts ended bytes = checked (ended + 1) (line_in counts ended bytes)
+
+-- the counts, once a line has ended
+abbrev pub counts_with : Option (ℕ × ℕ) → Line → Option (ℕ × ℕ)
+counts_with counts (line.Head slots nodes) = Some (slots, nodes)
+counts_with counts (line.Slot entity cap) = counts
+counts_with counts (line.Node note) = counts
+
+-- what is known behind a line
+abbrev pub behind : Taken → Result Line LineFault → Taken
+behind t (Ok l) = record { counts = counts_with t.counts l; ended = t.ended + 1; pending = []; fault = None }
+behind t (Err f) = record { counts = t.counts; ended = t.ended; pending = []; fault = Some f }
+
+-- the line that ended, if one did
+abbrev pub answered : Result Line LineFault → Result (Option Line) LineFault
+answered (Ok l) = Ok (Some l)
+answered (Err f) = Err f
+
+-- a line that ended, and what is known then
+abbrev pub closed : Taken → Result Line LineFault → Result (Option Line) LineFault × Taken
+closed t r = (answered r, behind t r)
+
+-- a byte that is no line end: with it the line is longer, or as long as none is
+abbrev pub kept : Taken → ℕ → Bool → Result (Option Line) LineFault × Taken
+kept t b long = if long then closed t (Err (fault.BadLine (t.ended + 1))) else (Ok None, record t { pending = t.pending ++ b ∷ [] })
+
+-- what a byte gives where nothing was wrong
+abbrev pub went_on : Taken → ℕ → Result (Option Line) LineFault × Taken
+went_on t b = if b == 10 then closed t (said t.counts t.ended (t.pending ++ b ∷ [])) else kept t b (length t.pending + 1 == longest_line)
+
+-- what a byte gives: behind a fault this fault, and nothing is taken
+abbrev pub took_at : Option LineFault → Taken → ℕ → Result (Option Line) LineFault × Taken
+took_at (Some f) t b = (Err f, t)
+took_at None t b = went_on t b
+
+abbrev pub took : Taken → ℕ → Result (Option Line) LineFault × Taken
+took t b = took_at t.fault t b
+
+-- lines, and one before them
+abbrev pub one_more : Result (Option Line) LineFault → List Line → List Line
+one_more (Ok (Some l)) ls = l ∷ ls
+one_more (Ok None) ls = ls
+one_more (Err f) ls = ls
+
+-- all bytes, one by one: the lines that end in them, and what is known behind them
+abbrev pub fed : Taken → List ℕ → List Line × Taken
+fed t [] = ([], t)
+fed t (b ∷ bs) = (one_more (took t b).0 (fed (took t b).1 bs).0, (fed (took t b).1 bs).1)
+
+-- whether all lines have ended, and nothing follows
+abbrev pub is_whole : Option (ℕ × ℕ) → (ended : ℕ) → List ℕ → Bool
+is_whole None ended pending = false
+is_whole (Some (slots, nodes)) ended pending = ended == slots + nodes + 1 && length pending == 0
+
+-- what is wrong where nothing follows: the fault, or else the line that is not whole
+abbrev pub ended_at : Option LineFault → Taken → Result (Unit {0}) LineFault
+ended_at (Some f) t = Err f
+ended_at None t = if is_whole t.counts t.ended t.pending then Ok tt else Err (fault.BadLine (t.ended + 1))
+
+abbrev pub ended_so : Taken → Result (Unit {0}) LineFault
+ended_so t = ended_at t.fault t
+
+-- the lines of an annotation
+abbrev pub slot_of : ℕ × Cap → Line
+slot_of (entity, cap) = line.Slot entity cap
+
+abbrev pub lines_of : Ann → List Line
+lines_of ann = line.Head (length ann.slots) (length ann.notes) ∷ (map slot_of ann.slots ++ map line.Node ann.notes)

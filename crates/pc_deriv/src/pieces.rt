@@ -1,0 +1,106 @@
+//! Reading a derivation text in pieces.
+ghost use Rattle.std.specs.Prelude.{◌≡◌, ◌≤◌, None, length};
+ghost use Rattle.pc_deriv.specs.Lines as lines;
+ghost use Rattle.pc_deriv.specs.Pieces.{IsNext};
+ghost use Rattle.pc_deriv.specs.LineState.{taken_of, Sound};
+
+use crate::line::{Line, LineFault};
+use crate::line_state::LineState;
+use std::marker::Model;
+
+/// The lines of a derivation text that comes in pieces. It keeps the bytes of one line, and takes no memory.
+///
+/// Contracts see what is known behind the bytes taken. That this does not depend on how they were cut, that the lines are
+/// those of the annotation that `read` gives, and that the first fault is that of `read`, is `pieces_are_read`.
+#[derive(Drop)]
+pub struct Lines {
+    state: LineState,
+}
+
+impl Model for Lines {
+    ghost use Rattle.pc_deriv.specs.Lines.{Taken};
+
+    ghost Value = { Taken };
+
+    ghost use Rattle.pc_deriv.specs.LineState.{taken_of, Sound};
+
+    ghost view = { λ l. taken_of l.state };
+
+    ghost invariant = { λ l. Sound l.state };
+}
+
+impl Lines {
+    /// No byte was taken.
+    pub fn new() -> Lines
+        ensures { result ≡ lines.nothing_taken }
+    {
+        Lines {
+            state: LineState::new(),
+        }
+    }
+
+    /// Takes the bytes of a piece from `at` on, up to and with the next line end, or to the piece's end. The answer is
+    /// where it stopped, and the line that ended there. No line stands in it exactly where no line end follows.
+    ///
+    /// # Errors
+    /// The fault of the line that ends here, or that is longer than any line of a derivation text. After a fault nothing
+    /// is taken, and that fault is answered again.
+    pub fn next(&mut self, piece: &[u8], at: usize) -> Result<(usize, Option<Line>), LineFault>
+        requires { at ≤ length piece.now }
+        ensures { IsNext self.old piece.now at result self.new }
+    {
+        take_line(&mut self.state, piece, at)
+    }
+
+    /// Ok exactly where all bytes taken are a derivation text.
+    ///
+    /// # Errors
+    /// The fault of `next`, or else the line that is missing or has not ended.
+    pub fn finish(&self) -> Result<(), LineFault>
+        ensures { result ≡ lines.ended_so self.now }
+    {
+        self.state.end()
+    }
+}
+
+// Takes bytes until a line or a fault ends them, where nothing was wrong before.
+fn take_bytes(
+    state: &mut LineState,
+    piece: &[u8],
+    at: usize,
+) -> Result<(usize, Option<Line>), LineFault>
+    requires sound { Sound state.old }
+    requires right { state.old.fault ≡ None }
+    requires within { at ≤ length piece.now }
+    ensures answer { IsNext (taken_of state.old) piece.now at result (taken_of state.new) }
+    ensures sound { Sound state.new }
+{
+    let mut stop = at;
+    while stop < piece.len() {
+        let ended = state.take(piece[stop])?;
+        stop += 1;
+        match ended {
+            Some(line) => return Ok((stop, Some(line))),
+            None => {}
+        }
+    }
+    Ok((stop, None))
+}
+
+// Takes bytes until a line or a fault ends them.
+#[tactic(auto, using(crate::proofs::Feeding::next_again))]
+fn take_line(
+    state: &mut LineState,
+    piece: &[u8],
+    at: usize,
+) -> Result<(usize, Option<Line>), LineFault>
+    requires sound { Sound state.old }
+    requires within { at ≤ length piece.now }
+    ensures answer { IsNext (taken_of state.old) piece.now at result (taken_of state.new) }
+    ensures sound { Sound state.new }
+{
+    match state.fault {
+        Some(fault) => Err(fault),
+        None => take_bytes(state, piece, at),
+    }
+}
