@@ -1,0 +1,2 @@
+pub mod PostOrder
+pub mod Noted

@@ -1,0 +1,19 @@
+-- The nodes of a core, one by one, and those whose parent has not come yet.
+use Rattle.std.specs.Prelude.{◌≡◌, ◌≢◌, ℕ, ◌+◌, List, [], ◌∷◌, ◌++◌, Some, slice_get}
+use Rattle.pc_core.specs.declared.nodes.Node.{Node}
+use Rattle.pc_core.specs.declared.nodes.NodeKind.TheVariants as node
+use Rattle.pc_core.specs.CoreData.{CoreData}
+use Rattle.pc_ann.specs.declared.annotation.Note.{Note}
+use Rattle.pc_ann.specs.declared.annotation.Ann.{Ann}
+use Rattle.pc_rules.specs.Parts.{Slots}
+
+-- The nodes before node n that wait: a node takes the place of its children, which are the last ones. A body has no parent,
+-- and nothing waits behind it.
+pub data Waits (core : CoreData) : ℕ → List ℕ → Type 0 where
+  start : Waits core 0 []
+  next : {n : ℕ} (rest : List ℕ) (x : Node) → slice_get core.nodes n ≡ Some x → x.kind ≢ node.Body → Waits core n (rest ++ x.children) → Waits core (n + 1) (rest ++ n ∷ [])
+  body : {n : ℕ} (x : Node) → slice_get core.nodes n ≡ Some x → x.kind ≡ node.Body → Waits core n x.children → Waits core (n + 1) []
+
+-- An annotation with these types of slots whose notes begin with these.
+abbrev pub Begins : Ann → Slots → List Note → Type 0
+Begins ann slots notes = (more : List Note) × (ann.slots ≡ slots) × (ann.notes ≡ notes ++ more)
