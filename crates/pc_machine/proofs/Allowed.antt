@@ -1,8 +1,9 @@
--- What a task's move may name: a write's object stands, a new object has the next address of its actor, and a message goes to
--- an actor.
+-- What a task's move may name: a write's object stands, a new object has the fields of its entity, and the next address of its
+-- actor where no actor is made, and a message goes to an actor.
 use Rattle.std.proofs.Common.{◌≡◌, ℕ, ◌-◌, ◌<◌, Bool, true, false, cond, List, [], ◌∷◌, ◌++◌, Option, Some, None, refl, sym, ap, subst}
 use Rattle.std.specs.Prelude.{nat_eq, nat_lt, ◌&&◌, is_some, IsSome, slice_get, length}
 use Rattle.std.specs.FinMap.{get}
+use Rattle.std.proofs.lemmas.List.{length-replicate}
 use borrow.Author.Tests.{ltb-true}
 use Rattle.pc_tree.specs.declared.kinds.Op.{Op}
 use Rattle.pc_tree.specs.declared.kinds.Op.TheVariants as op
@@ -22,60 +23,63 @@ use Rattle.pc_core.specs.declared.nodes.NodeKind.TheVariants as node
 use Rattle.pc_semantics.specs.declared.frames.Frame.{Frame}
 use Rattle.pc_semantics.specs.declared.frames.Task.{Task}
 use Rattle.pc_semantics.specs.declared.frames.Task.TheVariants as task
-use Rattle.pc_semantics.specs.Around.{Around, Move, Writes, Makes, Sends, with_top, popped, with_popped, entity_of}
+use Rattle.pc_semantics.specs.Around.{Around, Move, Writes, Makes, Spawns, Sends, with_top, popped, with_popped, entity_of}
+use Rattle.pc_semantics.specs.Configurations.{blank_object, fields_in}
 use Rattle.pc_semantics.specs.Calls.{counted, begin_new, make_of, make_task, spawn_of, spawn_task, enter, send, invoke_kind, text_of, is_string, push_text, invoke_found, invoke_method, invoke_on, invoke_task, leave_object, leave, return_task}
 use Rattle.pc_semantics.specs.Choices.{truth, apply_task, right_side, test_and, test_or, test_task, branch, turn}
 use Rattle.pc_semantics.specs.Evaluation.{push_slot, take_slot, first_then, evaluate, evaluate_node}
 use Rattle.pc_semantics.specs.Fields.{get_value, get_field, get_of, get_from, put_value, put_field, put_of, put_into, get_task, put_task, store_task}
 use Rattle.pc_semantics.specs.Operators.{gives, of_numbers, of_truths, of_texts, binary, negated}
 use Rattle.pc_semantics.specs.Tasks.{at_node, task_move}
+use Rattle.pc_tasks.specs.Fielded.{HasFields}
 use Rattle.pc_tasks.specs.Inside.{first_move, relieved}
 use Rattle.pc_machine.specs.declared.plan.Plan.{Plan}
 use Rattle.pc_machine.specs.declared.plan.Plan.TheVariants as plan
 use Rattle.pc_machine.specs.Plans.{move_of, Reaches}
 use Rattle.pc_lists.proofs.Bools.{second_true}
 
-abbrev pub Allowed : Around → Move → Type 0
-Allowed around (Writes at k v f) = IsSome (get around.objects at)
-Allowed around (Makes at o g f) = at ≡ next_address around.objects around.actor
-Allowed around (Sends j m f) = j < around.actors
-Allowed around m = Unit {0}
+abbrev pub Allowed : CoreData → Around → Move → Type 0
+Allowed core around (Writes at k v f) = IsSome (get around.objects at)
+Allowed core around (Makes at o g f) = (at ≡ next_address around.objects around.actor) × HasFields core o
+Allowed core around (Spawns o m f) = HasFields core o
+Allowed core around (Sends j m f) = j < around.actors
+Allowed core around m = Unit {0}
 
 module _ (core : CoreData) (around : Around) where
   -- ---- what is popped
 
-  top : (f : Frame) (vs : List Value) (next : Value → Frame → Move) → ((v : Value) (g : Frame) → Allowed around (next v g)) → Allowed around (with_top f vs next)
+  top : (f : Frame) (vs : List Value) (next : Value → Frame → Move) → ((v : Value) (g : Frame) → Allowed core around (next v g)) → Allowed core around (with_top f vs next)
   top f [] next h = tt
   top f (v ∷ vs) next h = h v _
 
-  arguments : (f : Frame) (o : Option (List Value × List Value)) (next : List Value → Frame → Move) → ((vs : List Value) (g : Frame) → Allowed around (next vs g)) → Allowed around (with_popped f o next)
+  arguments : (f : Frame) (o : Option (List Value × List Value)) (next : List Value → Frame → Move) → ((vs : List Value) (g : Frame) → Allowed core around (next vs g)) → Allowed core around (with_popped f o next)
   arguments f None next h = tt
   arguments f (Some p) next h = h p.0 _
 
-  if_true : (b : Bool) (m n : Move) → (b ≡ true → Allowed around m) → Allowed around n → Allowed around (cond b m n)
+  if_true : (b : Bool) (m n : Move) → (b ≡ true → Allowed core around m) → Allowed core around n → Allowed core around (cond b m n)
   if_true true m n h k = h refl
   if_true false m n h k = k
 
-  count : (x : Method) (vs : List Value) (m : Move) → Allowed around m → Allowed around (counted x vs m)
+  count : (x : Method) (vs : List Value) (m : Move) → Allowed core around m → Allowed core around (counted x vs m)
   count x vs m h = if_true (nat_eq (length vs) (length x.params)) m _ (λ e. h) tt
 
   -- ---- evaluation
 
-  slot : (f : Frame) (o : Option (Option Value)) → Allowed around (push_slot f o)
+  slot : (f : Frame) (o : Option (Option Value)) → Allowed core around (push_slot f o)
   slot f None = tt
   slot f (Some None) = tt
   slot f (Some (Some v)) = tt
 
-  taken : (f : Frame) (s : ℕ) (o : Option (Option Value)) → Allowed around (take_slot f s o)
+  taken : (f : Frame) (s : ℕ) (o : Option (Option Value)) → Allowed core around (take_slot f s o)
   taken f s None = tt
   taken f s (Some None) = tt
   taken f s (Some (Some v)) = tt
 
-  first : (f : Frame) (cs : List ℕ) (ts : List Task) → Allowed around (first_then f cs ts)
+  first : (f : Frame) (cs : List ℕ) (ts : List Task) → Allowed core around (first_then f cs ts)
   first f [] ts = tt
   first f (c ∷ cs) ts = tt
 
-  kind : (f : Frame) (n : ℕ) (cs : List ℕ) (k : NodeKind) → Allowed around (evaluate f n cs k)
+  kind : (f : Frame) (n : ℕ) (cs : List ℕ) (k : NodeKind) → Allowed core around (evaluate f n cs k)
   kind f n cs node.This = slot f (slice_get f.slots 0)
   kind f n cs (node.Local s) = slot f (slice_get f.slots s)
   kind f n cs (node.Consume s) = taken f s (slice_get f.slots s)
@@ -87,77 +91,77 @@ module _ (core : CoreData) (around : Around) where
   kind f n cs node.Body = first f cs _
   kind f n cs k = tt
 
-  evaluated : (f : Frame) (n : ℕ) (o : Option Node) → Allowed around (evaluate_node f n o)
+  evaluated : (f : Frame) (n : ℕ) (o : Option Node) → Allowed core around (evaluate_node f n o)
   evaluated f n None = tt
   evaluated f n (Some x) = kind f n x.children x.kind
 
   -- ---- fields
 
-  value_read : (f : Frame) (o : Option (Option Value)) → Allowed around (get_value f o)
+  value_read : (f : Frame) (o : Option (Option Value)) → Allowed core around (get_value f o)
   value_read f None = tt
   value_read f (Some None) = tt
   value_read f (Some (Some v)) = tt
 
-  field_read : (f : Frame) (o : Object) (i : Option ℕ) → Allowed around (get_field f o i)
+  field_read : (f : Frame) (o : Object) (i : Option ℕ) → Allowed core around (get_field f o i)
   field_read f o None = tt
   field_read f o (Some i) = value_read f (slice_get o.fields i)
 
-  object_read : (f : Frame) (name : ℕ) (o : Option Object) → Allowed around (get_of core f name o)
+  object_read : (f : Frame) (name : ℕ) (o : Option Object) → Allowed core around (get_of core f name o)
   object_read f name None = tt
   object_read f name (Some o) = field_read f o (field_named core o.entity name)
 
-  read : (name : ℕ) (v : Value) (f : Frame) → Allowed around (get_from core around name v f)
+  read : (name : ℕ) (v : Value) (f : Frame) → Allowed core around (get_from core around name v f)
   read name (At a) f = object_read f name (get around.objects a)
   read name (Num n) f = tt
   read name (Truth b) f = tt
   read name (Text t) f = tt
   read name (Prim e) f = tt
 
-  value_put : (f : Frame) (a : Address) (i : ℕ) (v : Value) (o : Option (Option Value)) → IsSome (get around.objects a) → Allowed around (put_value f a i v o)
+  value_put : (f : Frame) (a : Address) (i : ℕ) (v : Value) (o : Option (Option Value)) → IsSome (get around.objects a) → Allowed core around (put_value f a i v o)
   value_put f a i v None h = tt
   value_put f a i v (Some old) h = h
 
-  field_put : (f : Frame) (a : Address) (o : Object) (v : Value) (i : Option ℕ) → IsSome (get around.objects a) → Allowed around (put_field f a o v i)
+  field_put : (f : Frame) (a : Address) (o : Object) (v : Value) (i : Option ℕ) → IsSome (get around.objects a) → Allowed core around (put_field f a o v i)
   field_put f a o v None h = tt
   field_put f a o v (Some i) h = value_put f a i v (slice_get o.fields i) h
 
-  object_put : (f : Frame) (name : ℕ) (a : Address) (v : Value) (o : Option Object) → get around.objects a ≡ o → Allowed around (put_of core f name a v o)
+  object_put : (f : Frame) (name : ℕ) (a : Address) (v : Value) (o : Option Object) → get around.objects a ≡ o → Allowed core around (put_of core f name a v o)
   object_put f name a v None e = tt
   object_put f name a v (Some o) e = field_put f a o v (field_named core o.entity name) (ap is_some e)
 
-  put : (name : ℕ) (o v : Value) (f : Frame) → Allowed around (put_into core around name o v f)
+  put : (name : ℕ) (o v : Value) (f : Frame) → Allowed core around (put_into core around name o v f)
   put name (At a) v f = object_put f name a v (get around.objects a) refl
   put name (Num n) v f = tt
   put name (Truth b) v f = tt
   put name (Text t) v f = tt
   put name (Prim e) v f = tt
 
-  get_allowed : (f : Frame) (k : NodeKind) → Allowed around (get_task core around f k)
+  get_allowed : (f : Frame) (k : NodeKind) → Allowed core around (get_task core around f k)
   get_allowed f (node.Field name) = top f f.stack _ (read name)
   get_allowed f k = tt
 
-  put_allowed : (f : Frame) (k : NodeKind) → Allowed around (put_task core around f k)
+  put_allowed : (f : Frame) (k : NodeKind) → Allowed core around (put_task core around f k)
   put_allowed f (node.SetField name) = top f f.stack _ (λ o g. top g g.stack _ (put name o))
   put_allowed f k = tt
 
-  store_allowed : (f : Frame) (k : NodeKind) → Allowed around (store_task f k)
+  store_allowed : (f : Frame) (k : NodeKind) → Allowed core around (store_task f k)
   store_allowed f (node.Define s) = top f f.stack _ (λ v g. tt)
   store_allowed f (node.Assign s) = top f f.stack _ (λ v g. tt)
   store_allowed f k = tt
 
   -- ---- operators
 
-  given : (f : Frame) (o : Option Value) → Allowed around (gives f o)
+  given : (f : Frame) (o : Option Value) → Allowed core around (gives f o)
   given f None = tt
   given f (Some v) = tt
 
-  texts : (f : Frame) (o : Op) (a b : List ℕ) → Allowed around (of_texts f o a b)
+  texts : (f : Frame) (o : Op) (a b : List ℕ) → Allowed core around (of_texts f o a b)
   texts f op.Add a b = if_true (nat_lt 4096 (length (a ++ b))) _ _ (λ e. tt) tt
   texts f op.Eq a b = tt
   texts f op.Ne a b = tt
   texts f o a b = tt
 
-  operated : (f : Frame) (o : Op) (v w : Value) → Allowed around (binary f o v w)
+  operated : (f : Frame) (o : Op) (v w : Value) → Allowed core around (binary f o v w)
   operated f o (Num a) (Num b) = given f (of_numbers o a b)
   operated f o (Num a) w = tt
   operated f o (Truth a) (Truth b) = given f (of_truths o a b)
@@ -166,11 +170,11 @@ module _ (core : CoreData) (around : Around) where
   operated f o (Text a) w = tt
   operated f o v w = tt
 
-  not_allowed : (f : Frame) (v : Value) → Allowed around (negated f v)
+  not_allowed : (f : Frame) (v : Value) → Allowed core around (negated f v)
   not_allowed f (Truth b) = tt
   not_allowed f v = tt
 
-  apply_allowed : (f : Frame) (k : NodeKind) → Allowed around (apply_task f k)
+  apply_allowed : (f : Frame) (k : NodeKind) → Allowed core around (apply_task f k)
   apply_allowed f (node.Binary o) = top f f.stack _ (λ w g. top g g.stack _ (λ v h. operated h o v w))
   apply_allowed f (node.Same b) = top f f.stack _ (λ w g. top g g.stack _ (λ v h. tt))
   apply_allowed f node.Not = top f f.stack _ (λ v g. not_allowed g v)
@@ -178,125 +182,128 @@ module _ (core : CoreData) (around : Around) where
 
   -- ---- choices
 
-  told : (next : Bool → Frame → Move) → ((b : Bool) (f : Frame) → Allowed around (next b f)) → (v : Value) (f : Frame) → Allowed around (truth next v f)
+  told : (next : Bool → Frame → Move) → ((b : Bool) (f : Frame) → Allowed core around (next b f)) → (v : Value) (f : Frame) → Allowed core around (truth next v f)
   told next h (Truth b) f = h b f
   told next h (Num n) f = tt
   told next h (Text t) f = tt
   told next h (Prim e) f = tt
   told next h (At a) f = tt
 
-  right : (f : Frame) (cs : List ℕ) → Allowed around (right_side f cs)
+  right : (f : Frame) (cs : List ℕ) → Allowed core around (right_side f cs)
   right f (a ∷ b ∷ []) = tt
   right f cs = tt
 
-  and_allowed : (cs : List ℕ) (b : Bool) (f : Frame) → Allowed around (test_and cs b f)
+  and_allowed : (cs : List ℕ) (b : Bool) (f : Frame) → Allowed core around (test_and cs b f)
   and_allowed cs false f = tt
   and_allowed cs true f = right f cs
 
-  or_allowed : (cs : List ℕ) (b : Bool) (f : Frame) → Allowed around (test_or cs b f)
+  or_allowed : (cs : List ℕ) (b : Bool) (f : Frame) → Allowed core around (test_or cs b f)
   or_allowed cs true f = tt
   or_allowed cs false f = right f cs
 
-  test_allowed : (f : Frame) (cs : List ℕ) (k : NodeKind) → Allowed around (test_task f cs k)
+  test_allowed : (f : Frame) (cs : List ℕ) (k : NodeKind) → Allowed core around (test_task f cs k)
   test_allowed f cs node.And = top f f.stack _ (told (test_and cs) (and_allowed cs))
   test_allowed f cs node.Or = top f f.stack _ (told (test_or cs) (or_allowed cs))
   test_allowed f cs k = tt
 
-  branched : (cs : List ℕ) (b : Bool) (f : Frame) → Allowed around (branch cs b f)
+  branched : (cs : List ℕ) (b : Bool) (f : Frame) → Allowed core around (branch cs b f)
   branched (c ∷ a ∷ b ∷ []) true f = tt
   branched (c ∷ a ∷ b ∷ []) false f = tt
   branched cs b f = tt
 
-  turned : (n : ℕ) (cs : List ℕ) (b : Bool) (f : Frame) → Allowed around (turn n cs b f)
+  turned : (n : ℕ) (cs : List ℕ) (b : Bool) (f : Frame) → Allowed core around (turn n cs b f)
   turned n (c ∷ a ∷ []) true f = tt
   turned n (c ∷ a ∷ []) false f = tt
   turned n cs b f = tt
 
   -- ---- constructors
 
-  new_allowed : (m : ℕ) (x : Method) (vs : List Value) (f : Frame) (o : Option ℕ) → Allowed around (begin_new core around m x vs f o)
-  new_allowed m x vs f None = tt
-  new_allowed m x vs f (Some body) = refl
+  blank_fields : (e : ℕ) → HasFields core (blank_object core e)
+  blank_fields e = length-replicate (fields_in (slice_get core.entities e)) None
 
-  object_allowed : (m : ℕ) (vs : List Value) (f : Frame) (o : Option Method) → Allowed around (make_of core around m vs f o)
+  new_allowed : (m : ℕ) (x : Method) (vs : List Value) (f : Frame) (o : Option ℕ) → Allowed core around (begin_new core around m x vs f o)
+  new_allowed m x vs f None = tt
+  new_allowed m x vs f (Some body) = (refl, blank_fields x.entity)
+
+  object_allowed : (m : ℕ) (vs : List Value) (f : Frame) (o : Option Method) → Allowed core around (make_of core around m vs f o)
   object_allowed m vs f None = tt
   object_allowed m vs f (Some x) = count x vs _ (new_allowed m x vs f x.body)
 
-  make_allowed : (f : Frame) (cs : List ℕ) (k : NodeKind) → Allowed around (make_task core around f cs k)
+  make_allowed : (f : Frame) (cs : List ℕ) (k : NodeKind) → Allowed core around (make_task core around f cs k)
   make_allowed f cs (node.New m) = arguments f (popped (length cs) f.stack []) _ (λ vs g. object_allowed m vs g (slice_get core.methods m))
   make_allowed f cs k = tt
 
-  actor_allowed : (m : ℕ) (vs : List Value) (f : Frame) (o : Option Method) → Allowed around (spawn_of core around m vs f o)
+  actor_allowed : (m : ℕ) (vs : List Value) (f : Frame) (o : Option Method) → Allowed core around (spawn_of core around m vs f o)
   actor_allowed m vs f None = tt
-  actor_allowed m vs f (Some x) = count x vs _ tt
+  actor_allowed m vs f (Some x) = count x vs _ (blank_fields x.entity)
 
-  spawn_allowed : (f : Frame) (cs : List ℕ) (k : NodeKind) → Allowed around (spawn_task core around f cs k)
+  spawn_allowed : (f : Frame) (cs : List ℕ) (k : NodeKind) → Allowed core around (spawn_task core around f cs k)
   spawn_allowed f cs (node.Spawn m) = arguments f (popped (length cs) f.stack []) _ (λ vs g. actor_allowed m vs g (slice_get core.methods m))
   spawn_allowed f cs k = tt
 
   -- ---- calls
 
-  entered : (m : ℕ) (x : Method) (this : Value) (vs : List Value) (f : Frame) (o : Option ℕ) → Allowed around (enter m x this vs f o)
+  entered : (m : ℕ) (x : Method) (this : Value) (vs : List Value) (f : Frame) (o : Option ℕ) → Allowed core around (enter m x this vs f o)
   entered m x this vs f None = tt
   entered m x this vs f (Some body) = tt
 
-  sent : (m : ℕ) (x : Method) (vs : List Value) (f : Frame) (v : Value) → Allowed around (send around m x vs f v)
+  sent : (m : ℕ) (x : Method) (vs : List Value) (f : Frame) (v : Value) → Allowed core around (send around m x vs f v)
   sent m x vs f (At a) = if_true (nat_eq a.serial 0 && nat_lt a.maker around.actors) _ _ (λ e. count x vs _ (ltb-true a.maker around.actors (second_true _ _ e))) tt
   sent m x vs f (Num n) = tt
   sent m x vs f (Truth b) = tt
   sent m x vs f (Text t) = tt
   sent m x vs f (Prim e) = tt
 
-  called : (m : ℕ) (x : Method) (this : Value) (vs : List Value) (f : Frame) (k : MethodKind) → Allowed around (invoke_kind around m x this vs f k)
+  called : (m : ℕ) (x : Method) (this : Value) (vs : List Value) (f : Frame) (k : MethodKind) → Allowed core around (invoke_kind around m x this vs f k)
   called m x this vs f method.Fun = count x vs _ (entered m x this vs f x.body)
   called m x this vs f method.Be = sent m x vs f this
   called m x this vs f method.New = tt
   called m x this vs f method.Spawn = tt
 
-  text_pushed : (f : Frame) (o : Option (List ℕ)) → Allowed around (push_text f o)
+  text_pushed : (f : Frame) (o : Option (List ℕ)) → Allowed core around (push_text f o)
   text_pushed f None = tt
   text_pushed f (Some t) = tt
 
-  found : (m : ℕ) (this : Value) (vs : List Value) (f : Frame) (o : Option Method) → Allowed around (invoke_found around m this vs f o)
+  found : (m : ℕ) (this : Value) (vs : List Value) (f : Frame) (o : Option Method) → Allowed core around (invoke_found around m this vs f o)
   found m this vs f None = tt
   found m this vs f (Some x) = called m x this vs f x.kind
 
-  named : (name : ℕ) (this : Value) (vs : List Value) (f : Frame) (o : Option ℕ) → Allowed around (invoke_method core around name this vs f o)
+  named : (name : ℕ) (this : Value) (vs : List Value) (f : Frame) (o : Option ℕ) → Allowed core around (invoke_method core around name this vs f o)
   named name this vs f None = if_true (is_string core name vs) _ _ (λ e. text_pushed f (text_of this)) tt
   named name this vs f (Some m) = found m this vs f (slice_get core.methods m)
 
-  on : (name : ℕ) (this : Value) (vs : List Value) (f : Frame) (o : Option ℕ) → Allowed around (invoke_on core around name this vs f o)
+  on : (name : ℕ) (this : Value) (vs : List Value) (f : Frame) (o : Option ℕ) → Allowed core around (invoke_on core around name this vs f o)
   on name this vs f None = tt
   on name this vs f (Some e) = named name this vs f (method_named core e name)
 
-  invoke_allowed : (f : Frame) (cs : List ℕ) (k : NodeKind) → Allowed around (invoke_task core around f cs k)
+  invoke_allowed : (f : Frame) (cs : List ℕ) (k : NodeKind) → Allowed core around (invoke_task core around f cs k)
   invoke_allowed f cs (node.Call name) = top f f.stack _ (λ this g. arguments g (popped (length cs - 1) g.stack []) _ (λ vs h. on name this vs h (entity_of around.objects this)))
   invoke_allowed f cs k = tt
 
   -- ---- the end of a method
 
-  object_left : (o : Option (Option Value)) → Allowed around (leave_object o)
+  object_left : (o : Option (Option Value)) → Allowed core around (leave_object o)
   object_left None = tt
   object_left (Some None) = tt
   object_left (Some (Some v)) = tt
 
-  left : (f : Frame) (k : MethodKind) → Allowed around (leave f k)
+  left : (f : Frame) (k : MethodKind) → Allowed core around (leave f k)
   left f method.Fun = top f f.stack _ (λ v g. tt)
   left f method.New = object_left (slice_get f.slots 0)
   left f method.Be = tt
   left f method.Spawn = tt
 
-  return_allowed : (f : Frame) (o : Option Method) → Allowed around (return_task f o)
+  return_allowed : (f : Frame) (o : Option Method) → Allowed core around (return_task f o)
   return_allowed f None = tt
   return_allowed f (Some x) = left f x.kind
 
   -- ---- each task
 
-  at : (o : Option Node) (next : Node → Move) → ((x : Node) → Allowed around (next x)) → Allowed around (at_node o next)
+  at : (o : Option Node) (next : Node → Move) → ((x : Node) → Allowed core around (next x)) → Allowed core around (at_node o next)
   at None next h = tt
   at (Some x) next h = h x
 
-  pub task_allowed : (f : Frame) (t : Task) → Allowed around (task_move core around f t)
+  pub task_allowed : (f : Frame) (t : Task) → Allowed core around (task_move core around f t)
   task_allowed f (task.Eval n) = evaluated f n (slice_get core.nodes n)
   task_allowed f (task.Get n) = at (slice_get core.nodes n) _ (λ x. get_allowed f x.kind)
   task_allowed f (task.Put n) = at (slice_get core.nodes n) _ (λ x. put_allowed f x.kind)
@@ -311,13 +318,13 @@ module _ (core : CoreData) (around : Around) where
   task_allowed f task.Discard = top f f.stack _ (λ v g. tt)
   task_allowed f task.Return = return_allowed f (slice_get core.methods f.method)
 
-  pub first_allowed : (f : Frame) (o : Option Task) → Allowed around (first_move core around f o)
+  pub first_allowed : (f : Frame) (o : Option Task) → Allowed core around (first_move core around f o)
   first_allowed f None = tt
   first_allowed f (Some t) = task_allowed (relieved f) t
 
 -- A plan that is a task's move reaches no one but an actor.
 pub reached : (core : CoreData) (around : Around) (f : Frame) (o : Option Task) (p : Plan) → move_of around p f ≡ first_move core around f o → Reaches p around.actors
-reached core around f o (plan.Sends count receiver m) e = subst (Allowed around) (sym e) (first_allowed core around f o)
+reached core around f o (plan.Sends count receiver m) e = subst (Allowed core around) (sym e) (first_allowed core around f o)
 reached core around f o (plan.Lacks l) e = tt
 reached core around f o (plan.Changes ch) e = tt
 reached core around f o (plan.Makes count entity fields g) e = tt

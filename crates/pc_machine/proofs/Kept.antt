@@ -1,4 +1,4 @@
--- A step keeps that the makers of objects are actors.
+-- A step keeps that the makers of objects are actors, and that objects have the fields of their entities.
 use Rattle.std.proofs.Common.{◌≡◌, ℕ, zero, suc, ◌+◌, ◌<◌, List, [], ◌∷◌, ◌++◌, length, Option, Some, None, Ok, Err, refl, sym, ap, subst, length-append}
 use Rattle.std.specs.Prelude.{slice_get, slice_set, Result, IfOk, OnErr}
 use Rattle.std.specs.declared.alloc.AllocError.{AllocError}
@@ -17,31 +17,33 @@ use Rattle.pc_semantics.specs.declared.frames.Frame.{Frame}
 use Rattle.pc_semantics.specs.declared.frames.Task.{Task}
 use Rattle.pc_semantics.specs.declared.mailbox.Message.{Message}
 use Rattle.pc_semantics.specs.declared.outcome.Outcome.{Outcome}
-use Rattle.pc_semantics.specs.Configurations.{Configuration, with_frames}
+use Rattle.pc_semantics.specs.Configurations.{Configuration, own_address, with_frames}
 use Rattle.pc_semantics.specs.Around.{Move, Stuck, Overflows, Goes, Writes, Makes, Spawns, Enters, Sends, Leaves, with_tasks}
 use Rattle.pc_semantics.specs.Step.{around, begin_method, begun, delivered, made, printed_text, run_frames, run_task, step, step_of, take, take_first}
-use Rattle.pc_machine.specs.States.{Peopled, IsPeopled}
+use Rattle.pc_tasks.specs.Fielded.{Fielded}
+use Rattle.pc_machine.specs.States.{Peopled, Sound, IsSound}
 use Rattle.pc_machine.proofs.Allowed.{Allowed, task_allowed}
+use Rattle.pc_machine.proofs.Entitled.{field_written, object_comes}
 use Rattle.pc_machine.proofs.Peopling.{peopled_actor, peopled_again, peopled_object}
 
 -- ---- the same objects and as many actors
 
-same_number : (m : ObjectMap) (n k : ℕ) → k ≡ n → Peopled m n → Peopled m k
-same_number m n k e p = subst (λ j. Peopled m j) (sym e) p
+same_number : (core : CoreData) (m : ObjectMap) (n k : ℕ) → k ≡ n → Sound core m n → Sound core m k
+same_number core m n k e p = subst (λ j. Sound core m j) (sym e) p
 
-module _ (c : Configuration) (p : IsPeopled c) where
+module _ (core : CoreData) (c : Configuration) (p : IsSound core c) where
   -- ---- other frames, messages or texts
 
-  set_kept : (m : ObjectMap) (j : ℕ) (b : Actor) → Peopled m (length c.actors) → Peopled m (length (slice_set c.actors j b))
-  set_kept m j b q = same_number m (length c.actors) _ (length-set c.actors j b) q
+  set_kept : (m : ObjectMap) (j : ℕ) (b : Actor) → Sound core m (length c.actors) → Sound core m (length (slice_set c.actors j b))
+  set_kept m j b q = same_number core m (length c.actors) _ (length-set c.actors j b) q
 
-  delivery_kept : (d : Configuration) (j : ℕ) (m : Message) (o : Option Actor) → IsPeopled d → IsPeopled (delivered c d j m o).1
+  delivery_kept : (d : Configuration) (j : ℕ) (m : Message) (o : Option Actor) → IsSound core d → IsSound core (delivered c d j m o).1
   delivery_kept d j m None q = p
-  delivery_kept d j m (Some b) q = same_number d.objects (length d.actors) _ (length-set d.actors j (record { mailbox = b.mailbox ++ m ∷ []; frames = b.frames })) q
+  delivery_kept d j m (Some b) q = same_number core d.objects (length d.actors) _ (length-set d.actors j (record { mailbox = b.mailbox ++ m ∷ []; frames = b.frames })) q
 
   -- ---- the first message
 
-  printed_kept : (b : Actor) (vs : List Value) → IsPeopled (printed_text c b vs).1
+  printed_kept : (b : Actor) (vs : List Value) → IsSound core (printed_text c b vs).1
   printed_kept b [] = p
   printed_kept b (Text t ∷ []) = set_kept c.objects 0 b p
   printed_kept b (Text t ∷ v ∷ vs) = p
@@ -50,60 +52,66 @@ module _ (c : Configuration) (p : IsPeopled c) where
   printed_kept b (Prim n ∷ vs) = p
   printed_kept b (At t ∷ vs) = p
 
-  begun_kept : (i : ℕ) (b : Actor) (m : Message) (x : Method) (o : Option ℕ) → IsPeopled (begun c i b m x o).1
+  begun_kept : (i : ℕ) (b : Actor) (m : Message) (x : Method) (o : Option ℕ) → IsSound core (begun c i b m x o).1
   begun_kept i b m x None = p
   begun_kept i b m x (Some body) = set_kept c.objects i _ p
 
-  method_kept : (i : ℕ) (b : Actor) (m : Message) (o : Option Method) → IsPeopled (begin_method c i b m o).1
+  method_kept : (i : ℕ) (b : Actor) (m : Message) (o : Option Method) → IsSound core (begin_method c i b m o).1
   method_kept i b m None = p
   method_kept i b m (Some x) = begun_kept i b m x x.body
 
-  take_kept : (core : CoreData) (i : ℕ) (b : Actor) (m : Message) → IsPeopled (take core c i b m).1
-  take_kept core zero b m = printed_kept b m.arguments
-  take_kept core (suc k) b m = method_kept (suc k) b m (slice_get core.methods m.method)
+  take_kept : (i : ℕ) (b : Actor) (m : Message) → IsSound core (take core c i b m).1
+  take_kept zero b m = printed_kept b m.arguments
+  take_kept (suc k) b m = method_kept (suc k) b m (slice_get core.methods m.method)
 
-  first_kept : (core : CoreData) (i : ℕ) (ms : List Message) → IsPeopled (take_first core c i ms).1
-  first_kept core i [] = p
-  first_kept core i (m ∷ ms) = take_kept core i (record { mailbox = ms; frames = [] }) m
+  first_kept : (i : ℕ) (ms : List Message) → IsSound core (take_first core c i ms).1
+  first_kept i [] = p
+  first_kept i (m ∷ ms) = take_kept i (record { mailbox = ms; frames = [] }) m
 
   module _ (few : len c.objects < object_limit) (i : ℕ) (a : Actor) (there : i < length c.actors) where
     -- ---- moves
 
-    made_kept : (fs : List Frame) (m : Move) → Allowed (around c i) m → IsPeopled (made c i a fs m).1
+    made_kept : (fs : List Frame) (m : Move) → Allowed core (around c i) m → IsSound core (made c i a fs m).1
     made_kept fs (Stuck l) h = p
     made_kept fs Overflows h = p
     made_kept fs (Goes f) h = set_kept c.objects i _ p
-    made_kept fs (Writes at k v f) h = set_kept _ i _ (peopled_again c.objects (length c.actors) at (with_field (object_in (get c.objects at)) k v) p h)
+    made_kept fs (Writes at k v f) h = set_kept _ i _ (record {
+      peopled = peopled_again c.objects (length c.actors) at (with_field (object_in (get c.objects at)) k v) p.peopled h;
+      fielded = field_written core c.objects at k v p.fielded h;
+    })
     made_kept fs (Makes at o g f) h =
-        let own : at.maker < length c.actors = subst (λ (b : Address). b.maker < length c.actors) (sym h) there in
-        set_kept _ i _ (peopled_object c.objects (length c.actors) at o p few own)
+        let own : at.maker < length c.actors = subst (λ (b : Address). b.maker < length c.actors) (sym h.0) there in
+        set_kept _ i _ (record { peopled = peopled_object c.objects (length c.actors) at o p.peopled few own; fielded = object_comes core c.objects at o p.fielded h.1 })
     made_kept fs (Spawns o m f) h =
         let d : Configuration = with_frames c i a (f ∷ fs) in
-        let q : Peopled c.objects (length d.actors) = set_kept c.objects i _ p in
-        same_number _ (length d.actors + 1) _ (length-append d.actors _) (peopled_actor c.objects (length d.actors) o q few)
+        let q : Sound core c.objects (length d.actors) = set_kept c.objects i _ p in
+        same_number core _ (length d.actors + 1) _ (length-append d.actors _) (record {
+          peopled = peopled_actor c.objects (length d.actors) o q.peopled few;
+          fielded = object_comes core c.objects (own_address (length d.actors)) o p.fielded h;
+        })
     made_kept fs (Enters g f) h = set_kept c.objects i _ p
     made_kept fs (Sends j m f) h =
         let d : Configuration = with_frames c i a (f ∷ fs) in
         delivery_kept d j m (slice_get d.actors j) (set_kept c.objects i _ p)
     made_kept fs (Leaves v) h = set_kept c.objects i _ p
 
-    task_kept : (core : CoreData) (f : Frame) (fs : List Frame) (ts : List Task) → IsPeopled (run_task core c i a f fs ts).1
-    task_kept core f fs [] = p
-    task_kept core f fs (t ∷ ts) = made_kept fs _ (task_allowed core (around c i) (with_tasks f ts) t)
+    task_kept : (f : Frame) (fs : List Frame) (ts : List Task) → IsSound core (run_task core c i a f fs ts).1
+    task_kept f fs [] = p
+    task_kept f fs (t ∷ ts) = made_kept fs _ (task_allowed core (around c i) (with_tasks f ts) t)
 
-    frames_kept : (core : CoreData) (fs : List Frame) → IsPeopled (run_frames core c i a fs).1
-    frames_kept core [] = first_kept core i a.mailbox
-    frames_kept core (f ∷ fs) = task_kept core f fs f.tasks
+    frames_kept : (fs : List Frame) → IsSound core (run_frames core c i a fs).1
+    frames_kept [] = first_kept i a.mailbox
+    frames_kept (f ∷ fs) = task_kept f fs f.tasks
 
-  actor_kept : len c.objects < object_limit → (core : CoreData) (i : ℕ) (o : Option Actor) → slice_get c.actors i ≡ o → IsPeopled (step_of core c i o).1
-  actor_kept few core i None e = p
-  actor_kept few core i (Some a) e = frames_kept few i a (get_below c.actors i a e) core a.frames
+  actor_kept : len c.objects < object_limit → (i : ℕ) (o : Option Actor) → slice_get c.actors i ≡ o → IsSound core (step_of core c i o).1
+  actor_kept few i None e = p
+  actor_kept few i (Some a) e = frames_kept few i a (get_below c.actors i a e) a.frames
 
-  pub step_kept : len c.objects < object_limit → (core : CoreData) (i : ℕ) → IsPeopled (step core c i).1
-  step_kept few core i = actor_kept few core i (slice_get c.actors i) refl
+  pub step_kept : len c.objects < object_limit → (i : ℕ) → IsSound core (step core c i).1
+  step_kept few i = actor_kept few i (slice_get c.actors i) refl
 
--- The configuration behind a step, or the same where memory was wanting, is peopled.
-pub machine_kept : (core : CoreData) (c d : Configuration) (i : ℕ) (r : Result Outcome AllocError) → IsPeopled c → len c.objects < object_limit
-    → IfOk r (λ o. ◌≡◌ {A = Outcome × Configuration} (o, d) (step core c i)) → OnErr r (d ≡ c) → IsPeopled d
-machine_kept core c d i (Ok o) p few ok err = subst IsPeopled (sym (ap (λ (x : Outcome × Configuration). x.1) ok)) (step_kept c p few core i)
-machine_kept core c d i (Err e) p few ok err = subst IsPeopled (sym err) p
+-- The configuration behind a step, or the same where memory was wanting, is sound.
+pub machine_kept : (core : CoreData) (c d : Configuration) (i : ℕ) (r : Result Outcome AllocError) → IsSound core c → len c.objects < object_limit
+    → IfOk r (λ o. ◌≡◌ {A = Outcome × Configuration} (o, d) (step core c i)) → OnErr r (d ≡ c) → IsSound core d
+machine_kept core c d i (Ok o) p few ok err = subst (IsSound core) (sym (ap (λ (x : Outcome × Configuration). x.1) ok)) (step_kept core c p few i)
+machine_kept core c d i (Err e) p few ok err = subst (IsSound core) (sym err) p

@@ -11,8 +11,7 @@ use Rattle.pc_semantics.specs.declared.actors.Actor.{Actor}
 use Rattle.pc_semantics.specs.declared.frames.Frame.{Frame}
 use Rattle.pc_semantics.specs.declared.mailbox.Message.{Message}
 use Rattle.pc_semantics.specs.declared.outcome.Outcome.{Outcome}
-use Rattle.pc_semantics.specs.declared.outcome.Lack.{Lack}
-use Rattle.pc_semantics.specs.declared.outcome.Outcome.TheVariants.{Moved, Lacks}
+use Rattle.pc_semantics.specs.declared.outcome.Outcome.TheVariants.{Moved}
 use Rattle.pc_semantics.specs.Configurations.{Configuration, own_address, with_frames}
 use Rattle.pc_semantics.specs.Around.{with_slot, none}
 use Rattle.pc_semantics.specs.Step.{around, made, delivered}
@@ -20,7 +19,6 @@ use Rattle.pc_machine.specs.declared.plan.Change.{Change}
 use Rattle.pc_machine.specs.declared.plan.Change.TheVariants.{Gives, Enters, Leaves}
 use Rattle.pc_machine.specs.declared.plan.Plan.{Plan}
 use Rattle.pc_machine.specs.declared.plan.Plan.TheVariants.{Changes, Makes, Spawns, Sends}
-use Rattle.pc_machine.specs.declared.plan.Plan.TheVariants as plan
 use Rattle.pc_machine.specs.Changed.{changed, framed, mailed, frames_in, frames_of}
 use Rattle.pc_machine.specs.Plans.{given, frames_changed, change_move, move_of, planned, planned_by, planned_frames}
 use Rattle.pc_machine.proofs.Changes.{changed_set, is_there, frames_mailed, mailed_framed}

@@ -30,7 +30,7 @@ pub none_first : {T : Type 0} → (xs : List T) → slice_get xs 0 ≡ None → 
 none_first [] e = refl
 none_first (x ∷ xs) e = absurd (none-some x (sym e))
 
-head_rest : {T : Type 0} → (xs : List T) (x : T) → slice_get xs 0 ≡ Some x → xs ≡ x ∷ drop 1 xs
+pub head_rest : {T : Type 0} → (xs : List T) (x : T) → slice_get xs 0 ≡ Some x → xs ≡ x ∷ drop 1 xs
 head_rest [] x e = absurd (none-some x e)
 head_rest (y ∷ ys) x e = ap (λ z. z ∷ ys) (same_Some y x e)
 

@@ -4,7 +4,9 @@ use Rattle.std.specs.FinMap.{get, len}
 use Rattle.pc_heap.specs.declared.value.Address.{Address}
 use Rattle.pc_heap.specs.Heaps.{object_limit}
 use Rattle.pc_heap.specs.Objects.{ObjectMap}
+use Rattle.pc_core.specs.CoreData.{CoreData}
 use Rattle.pc_semantics.specs.Configurations.{Configuration}
+use Rattle.pc_tasks.specs.Fielded.{Fielded}
 use Rattle.pc_machine.specs.declared.state.State.{State}
 
 abbrev pub configuration_of : State → Configuration
@@ -18,3 +20,11 @@ pub record Peopled (objects : ObjectMap) (actors : ℕ) : Type 0 where
 
 abbrev pub IsPeopled : Configuration → Type 0
 IsPeopled c = Peopled c.objects (length c.actors)
+
+-- Objects and so many actors of a machine that runs a core.
+pub record Sound (core : CoreData) (objects : ObjectMap) (actors : ℕ) : Type 0 where
+  pub peopled : Peopled objects actors
+  pub fielded : Fielded core objects
+
+abbrev pub IsSound : CoreData → Configuration → Type 0
+IsSound core c = Sound core c.objects (length c.actors)

@@ -1,5 +1,5 @@
 //! Where the program of a core begins.
-ghost use Rattle.std.specs.Prelude.{◌≡◌, ◌<◌, ◌^◌, ◌∷◌, [], length, position, Some, IsSome, IfOk};
+ghost use Rattle.std.specs.Prelude.{◌≡◌, ◌<◌, ◌∷◌, [], position, Some, IsSome, IfOk};
 ghost use Rattle.pc_heap.specs.declared.value.Value.TheVariants.{At};
 ghost use Rattle.std.specs.FinMap.{insert, len};
 ghost use Rattle.std.specs.Str.{bytes_eq};

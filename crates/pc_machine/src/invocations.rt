@@ -45,8 +45,8 @@ fn plan_function(
     }))
 }
 
-// The actor whose own object a value is, where it is one of so many.
-fn receiver_of(value: &Value, actors: usize) -> Option<u32>
+/// The actor whose own object a value is, where it is one of so many.
+pub fn receiver_of(value: &Value, actors: usize) -> Option<u32>
     ensures { result ≡ receiver_in value.now actors }
 {
     match value {

@@ -2,14 +2,15 @@
 //! an actor is about to touch are those of `pc_semantics`, exactly.
 //!
 //! Proved: `start` is the definition's, `step` in outcome and configuration too, for every core, every configuration
-//! that steps reach and every actor; `access` and the counts are the configuration's, and take no memory. After want of
-//! memory the configuration is as it was.
+//! that steps reach and every actor; `access`, `ahead` and the counts are the configuration's, and take no memory. After want
+//! of memory the configuration is as it was.
 //!
 //! Only tested: that a million steps take about a second.
 #![tactic(auto)]
 
 mod access;
 mod actors;
+mod ahead;
 mod arguments;
 mod beginning;
 mod calls;
@@ -28,4 +29,5 @@ mod strings;
 mod take;
 
 pub use machine::{Machine, start};
+pub use pc_ahead::Ahead;
 pub use pc_semantics::{Access, Lack, Outcome};

@@ -2,6 +2,7 @@
 ghost use Rattle.std.specs.Prelude.{◌≡◌, ◌<◌, length, IfOk, OnErr};
 ghost use Rattle.std.specs.FinMap.{len};
 ghost use Rattle.pc_heap.specs.Heaps.{object_limit};
+ghost use Rattle.pc_ahead.specs.Ahead.{ahead_of as next_step};
 ghost use Rattle.pc_semantics.specs.Configurations as configurations;
 ghost use Rattle.pc_semantics.specs.Safety as safety;
 ghost use Rattle.pc_semantics.specs.Step as steps;
@@ -9,9 +10,11 @@ ghost use Rattle.pc_semantics.specs.Text as text;
 ghost use Rattle.pc_machine.specs.Machines.{message_limit};
 
 use crate::access::access_of;
+use crate::ahead::ahead_of;
 use crate::beginning::start_state;
 use crate::state::State;
 use crate::step::advance;
+use pc_ahead::Ahead;
 use pc_caps::List;
 use pc_core::Core;
 use pc_semantics::{Access, Outcome};
@@ -33,11 +36,11 @@ impl<'p> Model for Machine<'p> {
 
     ghost coded = { coded_machine };
 
-    ghost use Rattle.pc_machine.specs.States.{configuration_of, IsPeopled};
+    ghost use Rattle.pc_machine.specs.States.{configuration_of, IsSound};
 
     ghost view = { λ m. record { core = m.core.now; configuration = configuration_of m.state } };
 
-    ghost invariant = { λ m. IsPeopled (configuration_of m.state) };
+    ghost invariant = { λ m. IsSound m.core.now (configuration_of m.state) };
 }
 
 /// The machine of a core, where its program begins.
@@ -68,6 +71,13 @@ impl<'p> Machine<'p> {
         ensures { result ≡ safety.access self.now.core self.now.configuration actor }
     {
         access_of(self.core, &self.state, actor)
+    }
+
+    /// What an actor's next step is. It takes no memory.
+    pub fn ahead(&self, actor: u32) -> Ahead
+        ensures { result ≡ next_step self.now.core self.now.configuration actor }
+    {
+        ahead_of(self.core, &self.state, actor)
     }
 
     /// The texts that were printed, in order. It takes no memory, like the calls below.

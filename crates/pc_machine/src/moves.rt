@@ -2,8 +2,6 @@
 ghost use Rattle.std.specs.Prelude.{◌≡◌, ◌+◌, ◌<◌, ◌≤◌, ◌^◌, length, slice_get, IfOk, IfSome, OnOk, OnErr};
 ghost use Rattle.std.specs.FinMap.{len};
 ghost use Rattle.pc_heap.specs.Heaps.{object_limit, field_limit};
-ghost use Rattle.pc_heap.specs.Objects.{new_object};
-ghost use Rattle.pc_semantics.specs.Around.{pushed};
 ghost use Rattle.pc_machine.specs.Changed.{changed, framed, frames_of, messages_in};
 ghost use Rattle.pc_machine.specs.Plans.{given, frames_changed, planned, Fits, Reaches, Suits};
 ghost use Rattle.pc_machine.specs.States.{configuration_of, IsPeopled};
@@ -12,7 +10,7 @@ use crate::actors::{Actors, waiting_actor};
 use crate::frames::{change_frames, place_top};
 use crate::plan::{Change, Plan};
 use crate::state::State;
-use pc_heap::{Address, Value};
+use pc_heap::Value;
 use pc_semantics::{Frame, Message, Outcome, Stack};
 use std::alloc::{AllocError, Global};
 
@@ -54,13 +52,30 @@ fn place_for(alloc: Global, actors: &mut Actors, actor: usize, count: usize, val
     let _ = actors.swap_frames(actor, frames);
 }
 
+// The frames of a running actor change, and nothing else.
+fn change_only(
+    alloc: Global,
+    state: &mut State,
+    actor: u32,
+    change: Change,
+) -> Result<Outcome, AllocError>
+    requires running { 0 < length (frames_of state.old.actors actor) }
+    requires suits { IfSome (slice_get (frames_of state.old.actors actor) 0) (λ f. Suits change (length f.stack)) }
+    ensures ok { IfOk result (λ o. (o, configuration_of state.new)
+        ≡ planned (configuration_of state.old) actor (Plan.Changes change)) }
+    ensures err { OnErr result (configuration_of state.new ≡ configuration_of state.old) }
+{
+    change_actor(alloc, &mut state.actors, actor as usize, change)?;
+    Ok(Outcome::Moved)
+}
+
 // A message goes to an actor.
 fn send(
     alloc: Global,
     state: &mut State,
-    actor: usize,
+    actor: u32,
     count: usize,
-    receiver: usize,
+    receiver: u32,
     message: Message,
 ) -> Result<Outcome, AllocError>
     requires running { 0 < length (frames_of state.old.actors actor) }
@@ -72,7 +87,8 @@ fn send(
         ≡ planned (configuration_of state.old) actor (Plan.Sends count receiver message)) }
     ensures err { OnErr result (configuration_of state.new ≡ configuration_of state.old) }
 {
-    state.actors.deliver(receiver, message)?;
+    state.actors.deliver(receiver as usize, message)?;
+    let actor = actor as usize;
     place_for(alloc, &mut state.actors, actor, count, Value::Prim(0));
     Ok(Outcome::Moved)
 }
@@ -164,10 +180,7 @@ pub fn make_move(
 {
     match plan {
         Plan::Lacks(lack) => Ok(Outcome::Lacks(lack)),
-        Plan::Changes(change) => {
-            change_actor(alloc, &mut state.actors, actor as usize, change)?;
-            Ok(Outcome::Moved)
-        }
+        Plan::Changes(change) => change_only(alloc, state, actor, change),
         Plan::Makes {
             count,
             entity,
@@ -184,13 +197,6 @@ pub fn make_move(
             count,
             receiver,
             message,
-        } => send(
-            alloc,
-            state,
-            actor as usize,
-            count,
-            receiver as usize,
-            message,
-        ),
+        } => send(alloc, state, actor, count, receiver, message),
     }
 }

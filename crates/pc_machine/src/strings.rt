@@ -12,8 +12,8 @@ use pc_heap::Value;
 use pc_semantics::Lack;
 use std::alloc::{AllocError, Global};
 
-// Whether the call of this name with these arguments is that of `string`.
-fn is_string(core: &Core, name: u32, arguments: &[Value]) -> bool
+/// Whether the call of this name with these arguments is that of `string`.
+pub fn is_string(core: &Core, name: u32, arguments: &[Value]) -> bool
     ensures { result ≡ spec.is_string core.now name arguments.now }
 {
     if !arguments.is_empty() {

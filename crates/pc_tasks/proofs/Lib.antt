@@ -1,3 +1,4 @@
 mod Anyone
 pub mod Steps
 mod Tasks
+mod Written

@@ -1,2 +1,3 @@
 pub mod Inside
 pub mod Applied
+pub mod Fielded

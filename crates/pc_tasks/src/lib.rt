@@ -7,6 +7,7 @@
 //! leads from there to the definitions' `step` of an actor.
 #![tactic(auto)]
 
+mod ahead;
 mod apply;
 mod choices;
 mod evaluation;
@@ -17,6 +18,7 @@ mod inside;
 mod operators;
 mod values;
 
+pub use ahead::ahead_inside;
 pub use frames::push_value;
 pub use inside::{is_inside, run_inside};
 pub use values::none;

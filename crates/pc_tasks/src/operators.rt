@@ -11,7 +11,7 @@ use pc_tree::Op;
 use std::alloc::{AllocError, Global};
 
 /// How many bytes a text may have.
-const TEXT_LIMIT: usize = 4096;
+pub const TEXT_LIMIT: usize = 4096;
 
 /// What an operator makes of its operands.
 #[derive(Drop)]
@@ -37,8 +37,8 @@ fn remainder(left: u64, right: u64) -> u64
     if right == 0 { 0 } else { left % right }
 }
 
-// An operator on two numbers.
-fn of_numbers(op: Op, left: u64, right: u64) -> Option<Value>
+/// An operator on two numbers. `None` exactly where it asks for values of another kind.
+pub fn of_numbers(op: Op, left: u64, right: u64) -> Option<Value>
     ensures { result ≡ spec.of_numbers op left right }
 {
     match op {
@@ -57,8 +57,8 @@ fn of_numbers(op: Op, left: u64, right: u64) -> Option<Value>
     }
 }
 
-// An operator on two truth values.
-fn of_truths(op: Op, left: bool, right: bool) -> Option<Value>
+/// An operator on two truth values. `None` exactly where it asks for values of another kind.
+pub fn of_truths(op: Op, left: bool, right: bool) -> Option<Value>
     ensures { result ≡ spec.of_truths op left right }
 {
     match op {

@@ -13,3 +13,6 @@ invariant_of-self c =
     let same : before ≡ c.args.self.now.configuration = ap (λ (m : MachineData). m.configuration) c.self.view_is in
     let few = subst (λ (d : Configuration). len d.objects < object_limit) (sym same) c.requires.objects in
     machine_kept c.self.inside.core.now before (configuration_of c.advance.new.state) c.args.actor c.advance.result c.self.invariant few c.advance.ensures.ok c.advance.ensures.err
+
+pub advance-requires-clause-peopled : goal.advance-requires-clause-peopled
+advance-requires-clause-peopled c = c.self.invariant.peopled

@@ -1,0 +1,12 @@
+pub mod Changes
+pub mod Lists
+pub mod Maps
+pub mod Plain
+pub mod Right
+pub mod Stable
+pub mod Plans
+pub mod Told
+pub mod Pass
+pub mod Kept
+pub mod Reach
+pub mod Agrees

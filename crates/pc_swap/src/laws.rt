@@ -1,0 +1,20 @@
+//! What is proved of steps that are apart. Each call does nothing, and its contract is the law.
+ghost use Rattle.pc_swap.specs.Laws as law;
+
+/// In a safe program the next steps of two actors that are apart may be swapped: all four steps move, and both orders lead to
+/// one configuration.
+pub fn steps_swap()
+    ensures { law.StepsSwap }
+{}
+
+/// So the whole lists lead to one configuration, whatever follows.
+#[tactic(auto, using(crate::proofs::Orders::whole_lists_swap))]
+pub fn lists_swap()
+    ensures { law.ListsSwap }
+{}
+
+/// Steps that are kept for a reason are not apart.
+#[tactic(auto, using(crate::proofs::Telling::kept_never))]
+pub fn kept_are_not_apart()
+    ensures { law.KeptAreNotApart }
+{}

@@ -1,0 +1,86 @@
+//! Whether the next steps of two actors are apart.
+ghost use Rattle.std.specs.Prelude.{◌≡◌, ◌≢◌, ◌↔◌, IsOk, MatchResult};
+ghost use Rattle.pc_swap.specs.Apart.{Apart};
+ghost use Rattle.pc_swap.specs.Kept.{IsKept, is_moving, one_receiver, two_spawns};
+
+use crate::kept::Kept;
+use pc_ahead::Ahead;
+use pc_machine::Machine;
+
+// Whether a step moves.
+fn moves(step: Ahead) -> bool
+    ensures { result ≡ is_moving step }
+{
+    match step {
+        Ahead::Take => true,
+        Ahead::Spawn => true,
+        Ahead::Send(_) => true,
+        Ahead::Task => true,
+        Ahead::Skipped => false,
+        Ahead::Lacks => false,
+        Ahead::TooLong => false,
+    }
+}
+
+// Whether two steps send to one actor.
+fn send_to_one(one: Ahead, other: Ahead) -> bool
+    ensures { result ≡ one_receiver one other }
+{
+    match (one, other) {
+        (Ahead::Send(receiver), Ahead::Send(receiver_too)) => receiver == receiver_too,
+        (_, _) => false,
+    }
+}
+
+// Whether two steps make an actor each.
+fn both_spawn(one: Ahead, other: Ahead) -> bool
+    ensures { result ≡ two_spawns one other }
+{
+    match (one, other) {
+        (Ahead::Spawn, Ahead::Spawn) => true,
+        (_, _) => false,
+    }
+}
+
+// The first part that fails of two different actors being apart.
+#[tactic(auto, using(crate::proofs::Telling::first_stays, crate::proofs::Telling::second_stays, crate::proofs::Telling::to_one, crate::proofs::Telling::both_make, crate::proofs::Telling::are_apart))]
+fn apart_others(machine: &Machine<'_>, i: u32, j: u32) -> Result<(), Kept>
+    requires { i ≢ j }
+    ensures { MatchResult result
+        (λ _. Apart machine.now.core machine.now.configuration i j)
+        (IsKept machine.now.core machine.now.configuration i j) }
+{
+    let one = machine.ahead(i);
+    let other = machine.ahead(j);
+    if !moves(one) {
+        return Err(Kept::NotMoved);
+    }
+    if !moves(other) {
+        return Err(Kept::NotMoved);
+    }
+    if send_to_one(one, other) {
+        return Err(Kept::OneMailbox);
+    }
+    if both_spawn(one, other) {
+        return Err(Kept::BothSpawn);
+    }
+    Ok(())
+}
+
+/// Whether the next steps of two actors of a machine are apart, and so may be swapped. It takes no memory.
+///
+/// # Errors
+/// The first part of being apart that fails, in the order of `Kept`.
+#[tactic(auto, using(crate::proofs::Telling::exactly_apart))]
+pub fn apart(machine: &Machine<'_>, i: u32, j: u32) -> Result<(), Kept>
+    ensures exact { IsOk result ↔ Apart machine.now.core machine.now.configuration i j }
+    ensures first { MatchResult result
+        (λ _. Apart machine.now.core machine.now.configuration i j)
+        (IsKept machine.now.core machine.now.configuration i j) }
+{
+    if i == j {
+        Err(Kept::SameActor)
+    } else {
+        apart_others(machine, i, j)
+    }
+}

@@ -1,0 +1,68 @@
+-- A field that its object has may be written.
+use Rattle.std.proofs.Common.{◌≡◌, ℕ, ◌<◌, List, [], ◌∷◌, Option, Some, None, length, refl, sym, ap, ◌∙◌, arith}
+use Rattle.std.specs.Prelude.{slice_get}
+use Rattle.std.specs.FinMap.{get}
+use Rattle.std.proofs.lemmas.Option.{same_Some, none-some}
+use Rattle.pc_lists.proofs.Gets.{get_below, get_within}
+use Rattle.pc_lists.proofs.Lookup.{place_found}
+use Rattle.pc_lists.specs.Lookup.{place_of}
+use Rattle.pc_lists.specs.Options.{◌>>=◌}
+use Rattle.pc_heap.specs.Object.{Object}
+use Rattle.pc_heap.specs.Objects.{ObjectMap, class_in, class_at}
+use Rattle.pc_heap.specs.declared.value.Address.{Address}
+use Rattle.pc_heap.specs.declared.value.Value.{Value}
+use Rattle.pc_heap.specs.declared.value.Value.TheVariants.{At}
+use Rattle.pc_core.specs.CoreData.{CoreData}
+use Rattle.pc_core.specs.Lookup.{field_name, field_named}
+use Rattle.pc_core.specs.declared.declarations.EntityDef.{EntityDef}
+use Rattle.pc_semantics.specs.declared.frames.Frame.{Frame}
+use Rattle.pc_semantics.specs.Around.{with_stack, with_top, pop}
+use Rattle.pc_semantics.specs.Configurations.{fields_in}
+use Rattle.pc_semantics.specs.Fields.{put_value, put_field, put_of, put_into}
+use Rattle.pc_ahead.specs.declared.ahead.Ahead.TheVariants as ahead
+use Rattle.pc_ahead.specs.Ahead.{by_move}
+use Rattle.pc_tasks.specs.Fielded.{HasFields, Fielded}
+use Rattle.pc_tasks.specs.Inside.{seeing}
+
+-- ---- a place for the field
+
+place_in : (core : CoreData) (o : Object) (name i : ℕ) (x : Option EntityDef) → length o.fields ≡ fields_in x → (x >>= (λ e. place_of field_name name e.fields 0)) ≡ Some i → i < length o.fields
+place_in core o name i None count e = absurd (none-some i e)
+place_in core o name i (Some x) count e =
+    let r = place_found field_name name x.fields 0 i e in
+    let at = r.2 in
+    let below = get_below x.fields r.0 r.1 r.3 in
+    omega (arith, at, below, count)
+
+pub field_place : (core : CoreData) (o : Object) (name i : ℕ) → HasFields core o → field_named core o.entity name ≡ Some i → (old : Option Value) × (slice_get o.fields i ≡ Some old)
+field_place core o name i count e = get_within o.fields i (place_in core o name i (slice_get core.entities o.entity) count e)
+
+-- ---- the write
+
+module _ (core : CoreData) (objects : ObjectMap) (fielded : Fielded core objects) (name i e : ℕ) (a : Address) (named : field_named core e name ≡ Some i) where
+  value_written : (f : Frame) (v : Value) (old : Option (Option Value)) → (x : Option Value) × (old ≡ Some x) → ahead.Task ≡ by_move (put_value f a i v old)
+  value_written f v None x = absurd (none-some x.0 x.1)
+  value_written f v (Some old) x = refl
+
+  object_written : (f : Frame) (v : Value) (o : Option Object) → get objects a ≡ o → class_in o ≡ Some e → ahead.Task ≡ by_move (put_of core f name a v o)
+  object_written f v None is class = absurd (none-some e class)
+  object_written f v (Some o) is class =
+      let found : field_named core o.entity name ≡ Some i = ap (λ n. field_named core n name) (same_Some o.entity e class) ∙ named in
+      value_written f v (slice_get o.fields i) (field_place core o name i (fielded a o is) found)
+      ∙ ap (λ p. by_move (put_field f a o v p)) (sym found)
+
+  value_next : (f : Frame) (below : List Value) → 0 < length below → class_at objects a ≡ Some e → ahead.Task ≡ by_move (with_top f below (put_into core (seeing objects) name (At a)))
+  value_next f [] l class = absurd (omega (arith, l))
+  value_next f (w ∷ below) l class = object_written (with_stack f below) w (get objects a) refl class
+
+  top_written : (f : Frame) (vs : List Value) → 1 < length vs → slice_get vs 0 ≡ Some (At a) → class_at objects a ≡ Some e → ahead.Task ≡ by_move (with_top f vs (λ o g. pop g (put_into core (seeing objects) name o)))
+  top_written f [] l is class = absurd (omega (arith, l))
+  top_written f (v ∷ below) l is class =
+      let some : 0 < length below = omega (arith, l) in
+      value_next (with_stack f below) below some class
+      ∙ ap (λ o. by_move (pop (with_stack f below) (put_into core (seeing objects) name o))) (sym (same_Some v (At a) is))
+
+-- The object on top has a field of this name, and a value is below it.
+pub written : (core : CoreData) (objects : ObjectMap) (f : Frame) (name i e : ℕ) (a : Address) → Fielded core objects → 1 < length f.stack → slice_get f.stack 0 ≡ Some (At a) → class_at objects a ≡ Some e → field_named core e name ≡ Some i
+    → ahead.Task ≡ by_move (pop f (λ o g. pop g (put_into core (seeing objects) name o)))
+written core objects f name i e a fielded l is class named = top_written core objects fielded name i e a named f f.stack l is class

@@ -1,0 +1,16 @@
+-- Objects that have the fields of their entities.
+use Rattle.std.specs.Prelude.{◌≡◌, Some, length, slice_get}
+use Rattle.std.specs.FinMap.{get}
+use Rattle.pc_heap.specs.Object.{Object}
+use Rattle.pc_heap.specs.Objects.{ObjectMap}
+use Rattle.pc_heap.specs.declared.value.Address.{Address}
+use Rattle.pc_core.specs.CoreData.{CoreData}
+use Rattle.pc_semantics.specs.Configurations.{fields_in}
+
+-- The object has a place for each field of its entity.
+abbrev pub HasFields : CoreData → Object → Type 0
+HasFields core o = length o.fields ≡ fields_in (slice_get core.entities o.entity)
+
+-- So has every object.
+abbrev pub Fielded : CoreData → ObjectMap → Type 0
+Fielded core objects = (a : Address) (o : Object) → get objects a ≡ Some o → HasFields core o

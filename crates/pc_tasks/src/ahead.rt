@@ -1,0 +1,403 @@
+//! What the first task of a frame is, before it is done, where it concerns the frame and the objects alone. The functions only
+//! look, and take no memory.
+ghost use Rattle.std.specs.Prelude.{◌≡◌, ℕ, Bool, slice_get};
+ghost use Rattle.pc_ahead.specs.Ahead.{by_move};
+ghost use Rattle.pc_semantics.specs.Around.{pop};
+ghost use Rattle.pc_semantics.specs.Choices as choices;
+ghost use Rattle.pc_semantics.specs.Evaluation as evaluation;
+ghost use Rattle.pc_semantics.specs.Fields as fields;
+ghost use Rattle.pc_semantics.specs.Operators as operators;
+ghost use Rattle.pc_semantics.specs.Tasks.{at_node};
+ghost use Rattle.pc_semantics.specs.declared.frames.Frame.{Frame};
+ghost use Rattle.pc_semantics.specs.declared.frames.Task.{Task};
+ghost use Rattle.pc_semantics.specs.Around.{Goes};
+ghost use Rattle.std.specs.Prelude.{List as Sequence};
+ghost use Rattle.pc_tasks.specs.Fielded.{Fielded};
+ghost use Rattle.pc_tasks.specs.Inside.{IsInside, amid, first_move, relieved, seeing};
+
+use crate::operators::{TEXT_LIMIT, of_numbers, of_truths};
+use pc_ahead::Ahead;
+use pc_core::{Core, NodeKind};
+use pc_heap::{Heap, Value};
+use pc_semantics::{Frame, Task};
+use pc_tree::Op;
+
+// The value of a slot comes, or goes out of it.
+fn slot(frame: &Frame, slot: u32) -> Ahead
+    ensures read { result ≡ by_move (evaluation.push_slot (relieved frame.now) (slice_get frame.now.slots slot)) }
+    ensures taken { result ≡ by_move (evaluation.take_slot (relieved frame.now) slot (slice_get frame.now.slots slot)) }
+{
+    match frame.slots.get(slot as usize) {
+        Some(Some(_)) => Ahead::Task,
+        Some(None) => Ahead::Lacks,
+        None => Ahead::Lacks,
+    }
+}
+
+// The first of these nodes is evaluated.
+fn first_of(children: &[u32]) -> Ahead
+    ensures { (f : Frame) (then : Sequence Task) → result ≡ by_move (evaluation.first_then f children.now then) }
+{
+    match children.first() {
+        Some(_) => Ahead::Task,
+        None => Ahead::Lacks,
+    }
+}
+
+// The evaluation of a node of this kind, with these children.
+fn kind(frame: &Frame, children: &[u32], kind: &NodeKind) -> Ahead
+    ensures { (n : ℕ) → result ≡ by_move (evaluation.evaluate (relieved frame.now) n children.now kind.now) }
+{
+    match kind {
+        NodeKind::Number(_) => Ahead::Task,
+        NodeKind::Truth(_) => Ahead::Task,
+        NodeKind::Text(_) => Ahead::Task,
+        NodeKind::Prim(_) => Ahead::Task,
+        NodeKind::This => slot(frame, 0),
+        NodeKind::Local(place) => slot(frame, *place),
+        NodeKind::Consume(place) => slot(frame, *place),
+        NodeKind::Field(_) => Ahead::Task,
+        NodeKind::SetField(_) => Ahead::Task,
+        NodeKind::Define(_) => Ahead::Task,
+        NodeKind::Assign(_) => Ahead::Task,
+        NodeKind::New(_) => Ahead::Task,
+        NodeKind::Spawn(_) => Ahead::Task,
+        NodeKind::Call(_) => Ahead::Task,
+        NodeKind::Binary(_) => Ahead::Task,
+        NodeKind::Not => Ahead::Task,
+        NodeKind::Same(_) => Ahead::Task,
+        NodeKind::And => first_of(children),
+        NodeKind::Or => first_of(children),
+        NodeKind::If => first_of(children),
+        NodeKind::While => first_of(children),
+        NodeKind::Seq => Ahead::Task,
+        NodeKind::Recover(_) => first_of(children),
+        NodeKind::Body => first_of(children),
+    }
+}
+
+// The task Eval of node n.
+fn evaluate(core: &Core, frame: &Frame, n: u32) -> Ahead
+    ensures { result ≡ by_move (evaluation.evaluate_node (relieved frame.now) n (slice_get core.now.nodes n)) }
+{
+    match core.node_at(n) {
+        Some(node) => kind(frame, node.children.as_slice(), &node.kind),
+        None => Ahead::Lacks,
+    }
+}
+
+// The field of this name of the object on top is read.
+fn read(core: &Core, heap: &Heap, frame: &Frame, name: u32) -> Ahead
+    ensures { result ≡ by_move (pop (relieved frame.now) (fields.get_from core.now (seeing heap.now.objects) name)) }
+{
+    let Some(Value::At(address)) = frame.stack.top() else {
+        return Ahead::Lacks;
+    };
+    let Some(entity) = heap.class_of(*address) else {
+        return Ahead::Lacks;
+    };
+    let Some(field) = core.field(entity, name) else {
+        return Ahead::Lacks;
+    };
+    match heap.get(*address, field) {
+        Some(_) => Ahead::Task,
+        None => Ahead::Lacks,
+    }
+}
+
+// The task Get of node n.
+fn get(core: &Core, heap: &Heap, frame: &Frame, n: u32) -> Ahead
+    ensures { result ≡ by_move (at_node (slice_get core.now.nodes n) (λ x. fields.get_task core.now (seeing heap.now.objects) (relieved frame.now) x.kind)) }
+{
+    let Some(node) = core.node_at(n) else {
+        return Ahead::Lacks;
+    };
+    match &node.kind {
+        NodeKind::Field(name) => read(core, heap, frame, *name),
+        _ => Ahead::Lacks,
+    }
+}
+
+// The field of this name of the object on top gets the value below it.
+#[tactic(auto, using(crate::proofs::Written::written))]
+fn write(core: &Core, heap: &Heap, frame: &Frame, name: u32) -> Ahead
+    requires { Fielded core.now heap.now.objects }
+    ensures { result ≡ by_move (pop (relieved frame.now) (λ o g. pop g (fields.put_into core.now (seeing heap.now.objects) name o))) }
+{
+    if frame.stack.len() < 2 {
+        return Ahead::Lacks;
+    }
+    let Some(Value::At(address)) = frame.stack.top() else {
+        return Ahead::Lacks;
+    };
+    let Some(entity) = heap.class_of(*address) else {
+        return Ahead::Lacks;
+    };
+    match core.field(entity, name) {
+        Some(_) => Ahead::Task,
+        None => Ahead::Lacks,
+    }
+}
+
+// The task Put of node n.
+fn put(core: &Core, heap: &Heap, frame: &Frame, n: u32) -> Ahead
+    requires { Fielded core.now heap.now.objects }
+    ensures { result ≡ by_move (at_node (slice_get core.now.nodes n) (λ x. fields.put_task core.now (seeing heap.now.objects) (relieved frame.now) x.kind)) }
+{
+    let Some(node) = core.node_at(n) else {
+        return Ahead::Lacks;
+    };
+    match &node.kind {
+        NodeKind::SetField(name) => write(core, heap, frame, *name),
+        _ => Ahead::Lacks,
+    }
+}
+
+// A value is wanted on top.
+fn top(frame: &Frame) -> Ahead
+    ensures stored { (slot : ℕ) → result ≡ by_move (pop (relieved frame.now) (fields.store slot)) }
+    ensures dropped { result ≡ by_move (pop (relieved frame.now) (λ v g. Goes g)) }
+{
+    match frame.stack.top() {
+        Some(_) => Ahead::Task,
+        None => Ahead::Lacks,
+    }
+}
+
+// The task Store of node n.
+fn store(core: &Core, frame: &Frame, n: u32) -> Ahead
+    ensures { result ≡ by_move (at_node (slice_get core.now.nodes n) (λ x. fields.store_task (relieved frame.now) x.kind)) }
+{
+    let Some(node) = core.node_at(n) else {
+        return Ahead::Lacks;
+    };
+    match &node.kind {
+        NodeKind::Define(_) => top(frame),
+        NodeKind::Assign(_) => top(frame),
+        _ => Ahead::Lacks,
+    }
+}
+
+// What an operator gives, where it gives something.
+fn given(value: Option<Value>) -> Ahead
+    ensures { (f : Frame) → result ≡ by_move (operators.gives f value) }
+{
+    match value {
+        Some(_) => Ahead::Task,
+        None => Ahead::Lacks,
+    }
+}
+
+// An operator on two texts.
+fn of_texts(op: Op, left: &[u8], right: &[u8]) -> Ahead
+    ensures { (f : Frame) → result ≡ by_move (operators.of_texts f op left.now right.now) }
+{
+    match op {
+        Op::Add => {
+            if left.len() + right.len() > TEXT_LIMIT {
+                Ahead::TooLong
+            } else {
+                Ahead::Task
+            }
+        }
+        Op::Eq => Ahead::Task,
+        Op::Ne => Ahead::Task,
+        _ => Ahead::Lacks,
+    }
+}
+
+// A binary operator on two values.
+fn binary(op: Op, left: &Value, right: &Value) -> Ahead
+    ensures { (f : Frame) → result ≡ by_move (operators.binary f op left.now right.now) }
+{
+    match (left, right) {
+        (Value::Num(left), Value::Num(right)) => given(of_numbers(op, *left, *right)),
+        (Value::Truth(left), Value::Truth(right)) => given(of_truths(op, *left, *right)),
+        (Value::Text(left), Value::Text(right)) => of_texts(op, left.as_slice(), right.as_slice()),
+        (_, _) => Ahead::Lacks,
+    }
+}
+
+// A binary operator: the right operand is on top.
+fn apply_binary(frame: &Frame, op: Op) -> Ahead
+    ensures { result ≡ by_move (pop (relieved frame.now) (λ w g. pop g (λ v h. operators.binary h op v w))) }
+{
+    let Some(right) = frame.stack.top() else {
+        return Ahead::Lacks;
+    };
+    match frame.stack.peek(1) {
+        Some(left) => binary(op, left, right),
+        None => Ahead::Lacks,
+    }
+}
+
+// `is` or `isnt`.
+fn apply_same(frame: &Frame) -> Ahead
+    ensures { (wanted : Bool) → result ≡ by_move (pop (relieved frame.now) (λ w g. pop g (λ v h. operators.compared h wanted v w))) }
+{
+    if frame.stack.len() < 2 {
+        Ahead::Lacks
+    } else {
+        Ahead::Task
+    }
+}
+
+// `not`.
+fn apply_not(frame: &Frame) -> Ahead
+    ensures { result ≡ by_move (pop (relieved frame.now) (λ v g. operators.negated g v)) }
+{
+    match frame.stack.top() {
+        Some(Value::Truth(_)) => Ahead::Task,
+        _ => Ahead::Lacks,
+    }
+}
+
+// The task Apply of node n.
+fn apply(core: &Core, frame: &Frame, n: u32) -> Ahead
+    ensures { result ≡ by_move (at_node (slice_get core.now.nodes n) (λ x. choices.apply_task (relieved frame.now) x.kind)) }
+{
+    let Some(node) = core.node_at(n) else {
+        return Ahead::Lacks;
+    };
+    match &node.kind {
+        NodeKind::Binary(op) => apply_binary(frame, *op),
+        NodeKind::Same(_) => apply_same(frame),
+        NodeKind::Not => apply_not(frame),
+        _ => Ahead::Lacks,
+    }
+}
+
+// The right side of an `and` or `or` is evaluated.
+fn right_side(children: &[u32]) -> Ahead
+    ensures { (f : Frame) → result ≡ by_move (choices.right_side f children.now) }
+{
+    match children {
+        [_, _] => Ahead::Task,
+        _ => Ahead::Lacks,
+    }
+}
+
+// The left side of an `and`.
+fn test_and(frame: &Frame, children: &[u32]) -> Ahead
+    ensures { result ≡ by_move (pop (relieved frame.now) (choices.truth (choices.test_and children.now))) }
+{
+    let Some(Value::Truth(truth)) = frame.stack.top() else {
+        return Ahead::Lacks;
+    };
+    if *truth {
+        right_side(children)
+    } else {
+        Ahead::Task
+    }
+}
+
+// The left side of an `or`.
+fn test_or(frame: &Frame, children: &[u32]) -> Ahead
+    ensures { result ≡ by_move (pop (relieved frame.now) (choices.truth (choices.test_or children.now))) }
+{
+    let Some(Value::Truth(truth)) = frame.stack.top() else {
+        return Ahead::Lacks;
+    };
+    if *truth {
+        Ahead::Task
+    } else {
+        right_side(children)
+    }
+}
+
+// The task Test of node n.
+fn test(core: &Core, frame: &Frame, n: u32) -> Ahead
+    ensures { result ≡ by_move (at_node (slice_get core.now.nodes n) (λ x. choices.test_task (relieved frame.now) x.children x.kind)) }
+{
+    let Some(node) = core.node_at(n) else {
+        return Ahead::Lacks;
+    };
+    match &node.kind {
+        NodeKind::And => test_and(frame, node.children.as_slice()),
+        NodeKind::Or => test_or(frame, node.children.as_slice()),
+        _ => Ahead::Lacks,
+    }
+}
+
+// One of two branches is evaluated.
+fn take_branch(frame: &Frame, children: &[u32]) -> Ahead
+    ensures { result ≡ by_move (choices.branch_task (relieved frame.now) children.now) }
+{
+    let Some(Value::Truth(_)) = frame.stack.top() else {
+        return Ahead::Lacks;
+    };
+    match children {
+        [_, _, _] => Ahead::Task,
+        _ => Ahead::Lacks,
+    }
+}
+
+// The task Branch of node n.
+fn branch(core: &Core, frame: &Frame, n: u32) -> Ahead
+    ensures { result ≡ by_move (at_node (slice_get core.now.nodes n) (λ x. choices.branch_task (relieved frame.now) x.children)) }
+{
+    match core.node_at(n) {
+        Some(node) => take_branch(frame, node.children.as_slice()),
+        None => Ahead::Lacks,
+    }
+}
+
+// A turn of a `while` with these children, or its end.
+fn turn(frame: &Frame, children: &[u32]) -> Ahead
+    ensures { (n : ℕ) → result ≡ by_move (choices.loop_task (relieved frame.now) n children.now) }
+{
+    let Some(Value::Truth(_)) = frame.stack.top() else {
+        return Ahead::Lacks;
+    };
+    match children {
+        [_, _] => Ahead::Task,
+        _ => Ahead::Lacks,
+    }
+}
+
+// The task Loop of node n.
+fn go_round(core: &Core, frame: &Frame, n: u32) -> Ahead
+    ensures { result ≡ by_move (at_node (slice_get core.now.nodes n) (λ x. choices.loop_task (relieved frame.now) n x.children)) }
+{
+    match core.node_at(n) {
+        Some(node) => turn(frame, node.children.as_slice()),
+        None => Ahead::Lacks,
+    }
+}
+
+// What the first task of a frame is, said of a task that looks at the objects alone.
+fn first_ahead(core: &Core, heap: &Heap, frame: &Frame) -> Ahead
+    requires inside { IsInside (slice_get frame.now.tasks 0) }
+    requires fielded { Fielded core.now heap.now.objects }
+    ensures { result ≡ by_move (first_move core.now (seeing heap.now.objects) frame.now (slice_get frame.now.tasks 0)) }
+{
+    let Some(task) = frame.tasks.top() else {
+        unreachable!()
+    };
+    match *task {
+        Task::Eval(n) => evaluate(core, frame, n),
+        Task::Get(n) => get(core, heap, frame, n),
+        Task::Put(n) => put(core, heap, frame, n),
+        Task::Store(n) => store(core, frame, n),
+        Task::Apply(n) => apply(core, frame, n),
+        Task::Test(n) => test(core, frame, n),
+        Task::Branch(n) => branch(core, frame, n),
+        Task::Loop(n) => go_round(core, frame, n),
+        Task::Discard => top(frame),
+        Task::Make(_) => unreachable!(),
+        Task::Spawn(_) => unreachable!(),
+        Task::Invoke(_) => unreachable!(),
+        Task::Return => unreachable!(),
+    }
+}
+
+/// What the first task of a frame is, where it concerns the frame and the objects alone and every object has the fields of its
+/// entity. It takes no memory.
+#[tactic(auto, using(crate::proofs::Anyone::for_anyone))]
+pub fn ahead_inside(core: &Core, heap: &Heap, frame: &Frame) -> Ahead
+    requires inside { IsInside (slice_get frame.now.tasks 0) }
+    requires fielded { Fielded core.now heap.now.objects }
+    ensures { (i k : ℕ) → result ≡ by_move (first_move core.now (amid heap.now.objects i k) frame.now (slice_get frame.now.tasks 0)) }
+{
+    first_ahead(core, heap, frame)
+}
