@@ -1,9 +1,9 @@
 -- A derivation's text is within the limit of a derivation.
-use Rattle.std.proofs.Common.{◌≡◌, ◌≤◌, ◌<◌, ◌+◌, ◌*◌, ◌/◌, ◌%◌, ◌^◌, ℕ, zero, suc, cond, false, length, List, [], ◌∷◌, ◌++◌, Option, Some, None, inl, inr, ap, arith}
+use Rattle.std.proofs.Common.{◌≤◌, ◌<◌, ◌+◌, ◌*◌, ◌/◌, ◌^◌, ℕ, zero, suc, length, List, [], ◌∷◌, ◌++◌, Option, Some, None, inl, inr, ap, arith}
 use Rattle.std.specs.Prelude.{codes, decimal}
 use Rattle.std.specs.List.{AllByRecursion}
-use Rattle.std.specs.Fmt.{digit_glyph, digits_onto, digits}
-use Rattle.std.proofs.lemmas.Bool.{cases_lt, eq-eqb, ne_eqb}
+use Rattle.std.specs.Fmt.{digits}
+use Rattle.std.proofs.lemmas.Bool.{cases_lt}
 use Rattle.std.proofs.Math.Nat.{mul-suc}
 use Rattle.std.proofs.lemmas.Fmt.{length-decimal-le}
 use Rattle.std.proofs.lemmas.List.{length-append}
@@ -16,6 +16,7 @@ use Rattle.pc_ann.specs.declared.annotation.Note.{Note}
 use Rattle.pc_ann.specs.declared.annotation.Ann.{Ann}
 use Rattle.pc_ann.specs.declared.annotation.Rule.{Rule}
 use Rattle.pc_ann.specs.declared.annotation.Rule.TheVariants as rule
+use Rattle.pc_deriv.proofs.Digits.{spell, last_glyph, spell_last, spell_next}
 use Rattle.pc_deriv.specs.Faults.{IsText}
 use Rattle.pc_deriv.specs.Names.{rule_name, cap_name, form_name}
 use Rattle.pc_deriv.specs.Text.{head_line, slot_line, type_text, mask_text, masks_text, note_line, lines, line_end, blank, SlotFits, TypeFits, MaskFits, MasksFit, NoteFits}
@@ -75,18 +76,6 @@ form_size form.Tag = omega arith
 
 number_size : (n : ℕ) → n < 2 ^ 32 → length (decimal n) ≤ 10
 number_size n l = length-decimal-le 10 n (omega arith) (omega (arith, l)) (omega (arith, l))
-
-abbrev spell : ℕ → ℕ → List ℕ → List ℕ
-spell k n acc = digits_onto k 16 false n acc
-
-abbrev last_glyph : ℕ → ℕ
-last_glyph n = digit_glyph false (n % 16)
-
-spell_last : (k n : ℕ) (acc : List ℕ) → n < 16 → spell (suc k) n acc ≡ last_glyph n ∷ acc
-spell_last k n acc h = ap (λ t. cond t (last_glyph n ∷ acc) (spell k (n / 16) (last_glyph n ∷ acc))) (eq-eqb (n / 16) 0 (omega arith))
-
-spell_next : (k n : ℕ) (acc : List ℕ) → 16 ≤ n → spell (suc k) n acc ≡ spell k (n / 16) (last_glyph n ∷ acc)
-spell_next k n acc h = ap (λ t. cond t (last_glyph n ∷ acc) (spell k (n / 16) (last_glyph n ∷ acc))) (ne_eqb (n / 16) 0 (λ e. omega arith))
 
 spell_size : (j k n : ℕ) (acc : List ℕ) → n < 16 ^ suc j → length (spell k n acc) ≤ suc j + length acc
 spell_size j zero n acc l = omega arith

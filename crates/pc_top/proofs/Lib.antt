@@ -3,6 +3,7 @@ mod Answers
 mod Deriving
 mod Exact
 mod Facts
+mod Failures
 mod Judged
 mod Lengths
 mod Made

@@ -9,6 +9,7 @@ pub mod CoreFaults
 pub mod CoreOf
 pub mod Ends
 pub mod Exact
+pub mod Failures
 pub mod Faults
 pub mod FromFile
 pub mod Judge

@@ -1,5 +1,5 @@
 //! `check SRC`.
-ghost use Rattle.std.specs.Prelude.{◌≡◌, ◌≤◌, ℕ, List as Sequence, [], ◌∷◌};
+ghost use Rattle.std.specs.Prelude.{◌≤◌, ℕ, List as Sequence, [], ◌∷◌};
 ghost use Rattle.pc_top.specs.Check.{IsCheck};
 ghost use Rattle.pc_io.specs.Change.{change};
 ghost use Rattle.pc_top.specs.Ends.{Ends};
@@ -9,7 +9,6 @@ use crate::accepting::accept_source;
 use crate::laws::cores_of_sources_are_formed;
 use crate::stop::Stop;
 use crate::writing::put_text;
-use pc_caps::List;
 use pc_deriv::write;
 use pc_io::{Files, Sink};
 use std::alloc::Global;

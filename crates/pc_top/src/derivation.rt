@@ -1,7 +1,5 @@
 //! The stages of a derivation: its length and its text.
 ghost use Rattle.std.specs.Prelude.{◌≡◌, ◌≤◌, ℕ, List as Sequence};
-ghost use Rattle.std.specs.Bool.{Decides};
-ghost use Rattle.pc_deriv.specs.declared.fault.DerivFault.TheVariants.{Memory as OutOfMemory};
 ghost use Rattle.pc_top.specs.Judge.{DerivationStage, Deriving, IsTextRefusal, derivation_limit};
 ghost use Rattle.pc_top.specs.Named.{file_at};
 ghost use Rattle.pc_top.specs.Stages.{PartEnds, StageEnds};

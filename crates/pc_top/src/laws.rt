@@ -2,6 +2,7 @@
 ghost use Rattle.pc_top.specs.Asked.{RefusedIsUnderivable};
 ghost use Rattle.pc_top.specs.CoreOf.{CoresAreFormed, DerivableIsSafe};
 ghost use Rattle.pc_top.specs.Exact.{StatusesAreExact};
+ghost use Rattle.pc_top.specs.Failures.{FailuresAreTold, NoVerdictIsAFailure};
 ghost use Rattle.pc_top.specs.OnOut.{WrittenIsAccepted};
 ghost use Rattle.pc_top.specs.One.{VerdictIsOne};
 
@@ -84,6 +85,17 @@ pub fn refused_sources_have_no_derivation()
     nothing_is_derivable_with_a_field_unset();
     nothing_is_derivable_with_a_declaration_that_fails();
 }
+
+/// No verdict has the status of a file or a stream that failed, or of want of memory.
+pub fn no_verdict_is_a_failure()
+    ensures { NoVerdictIsAFailure }
+{}
+
+/// What an answer of 9, 10 or 11 says of out and err: at 9 out is as it was and err has the line of the file, at 10 out or err
+/// got a part of what was to be written, and at 11 out may have a part of its text, and err nothing.
+pub fn failures_are_told()
+    ensures { FailuresAreTold }
+{}
 
 /// A source whose core has a derivation is safe: over every schedule no two actors race, what waits in messages is let alone,
 /// and no step lacks anything.

@@ -1,5 +1,5 @@
 //! `make SEED SIZE`.
-ghost use Rattle.std.specs.Prelude.{◌≡◌, ◌≤◌};
+ghost use Rattle.std.specs.Prelude.{◌≤◌};
 ghost use Rattle.pc_io.specs.Change.{change};
 ghost use Rattle.pc_top.specs.Accepting.{AcceptedStage};
 ghost use Rattle.pc_top.specs.Ends.{Ends};

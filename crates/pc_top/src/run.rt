@@ -1,5 +1,5 @@
 //! `run SRC SCHED`.
-ghost use Rattle.std.specs.Prelude.{◌≡◌, ◌≤◌, ℕ, List as Sequence, [], ◌∷◌};
+ghost use Rattle.std.specs.Prelude.{◌≤◌, ℕ, List as Sequence, [], ◌∷◌};
 ghost use Rattle.pc_run.specs.Ends.{NeverLacks};
 ghost use Rattle.pc_run.specs.Spreading.{spread};
 ghost use Rattle.pc_sched.specs.Limits.{turn_limit};
@@ -14,7 +14,6 @@ use crate::laws::cores_of_sources_are_formed;
 use crate::lines::make_too_long_line;
 use crate::schedule::read_schedule;
 use crate::stop::Stop;
-use pc_caps::List;
 use pc_core::Core;
 use pc_io::{Files, Sink};
 use pc_machine::start;

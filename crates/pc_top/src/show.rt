@@ -1,5 +1,5 @@
 //! `show SRC`.
-ghost use Rattle.std.specs.Prelude.{◌≡◌, ◌≤◌, ℕ, List as Sequence, [], ◌∷◌, length};
+ghost use Rattle.std.specs.Prelude.{◌≤◌, ℕ, List as Sequence, [], ◌∷◌, length};
 ghost use Rattle.pc_io.specs.Change.{change};
 ghost use Rattle.pc_lex.specs.Limits.{bytes_limit};
 ghost use Rattle.pc_tree.specs.View.{file_view};
@@ -13,7 +13,6 @@ use crate::source::{SOURCE_LIMIT, read_tokens};
 use crate::stop::Stop;
 use crate::tree::read_tree;
 use crate::writing::put_text;
-use pc_caps::List;
 use pc_io::{Files, Sink};
 use pc_order::tokens_are_in_order;
 use pc_print::print;

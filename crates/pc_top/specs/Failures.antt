@@ -1,0 +1,43 @@
+-- The statuses of failures and of want of memory are no verdict's.
+use Rattle.std.specs.Prelude.{ℕ, ◌≡◌, ◌≤◌, ◌⊎◌, List}
+use Rattle.std.specs.Io.KnownBytes.{Appends, Keeps}
+use Rattle.pc_args.specs.Asked.{Text}
+use Rattle.pc_io.specs.Change.{Change}
+use Rattle.pc_io.specs.Sink.{Rose, GrowsByPrefix}
+use Rattle.pc_top.specs.Answer.{Answer}
+use Rattle.pc_top.specs.Asked.{FailedIn, IsVerdict}
+use Rattle.pc_top.specs.Ends.{TellsPart}
+use Rattle.pc_top.specs.Lines.{unread_line}
+use Rattle.pc_top.specs.Named.{Files}
+use Rattle.pc_top.specs.Verdict.{Verdict}
+
+-- A verdict's status is at most 8, or it is 12.
+abbrev pub NoVerdictIsAFailure : Type 0
+NoVerdictIsAFailure = (files : Files) (words : List Text) (v : Verdict) → IsVerdict files words v → (v.status ≤ 8) ⊎ (v.status ≡ 12)
+
+-- What an answer says of the words and the files.
+abbrev pub Answers : Files → List Text → Change → Change → ℕ → Type 0
+Answers files words out err status = Answer (IsVerdict files words) (FailedIn files words) out err status
+
+-- 9: out is as it was, and err grew by the line of a name of the command whose failures rose.
+abbrev pub Unread : Files → List Text → Change → Change → Type 0
+Unread files words out err = (name : Text) × FailedIn files words name × Keeps out.before out.now × Appends err.before err.now (unread_line name)
+
+-- 10: out failed after a part of a verdict's text, and err is as it was; or err failed after a part of its line.
+abbrev pub OutFailed : Files → List Text → Change → Change → Type 0
+OutFailed files words out err = Rose out.faults_before out.faults_now × TellsPart (IsVerdict files words) out × Keeps err.before err.now
+
+abbrev pub ErrFailed : Files → List Text → Change → Change → Type 0
+ErrFailed files words out err = Rose err.faults_before err.faults_now
+    × (((v : Verdict) × IsVerdict files words v × Appends out.before out.now v.out × GrowsByPrefix err.before err.now v.err)
+    ⊎ ((name : Text) × FailedIn files words name × Keeps out.before out.now × GrowsByPrefix err.before err.now (unread_line name)))
+
+-- 11: out is as it was or grew by a part of a verdict's text, and err is as it was.
+abbrev pub WantsMemory : Files → List Text → Change → Change → Type 0
+WantsMemory files words out err = (Keeps out.before out.now ⊎ TellsPart (IsVerdict files words) out) × Keeps err.before err.now
+
+-- What out and err got where the answer is the status of a failure.
+pub record FailuresAreTold : Type 0 where
+  pub unread : (files : Files) (words : List Text) (out err : Change) → Answers files words out err 9 → Unread files words out err
+  pub sink : (files : Files) (words : List Text) (out err : Change) → Answers files words out err 10 → OutFailed files words out err ⊎ ErrFailed files words out err
+  pub memory : (files : Files) (words : List Text) (out err : Change) → Answers files words out err 11 → WantsMemory files words out err
