@@ -5,7 +5,7 @@ use std::alloc::{AllocError, Global};
 use std::test::Fail;
 
 /// The annotation of a class, and of an actor whose constructor defines a local of it.
-const EXAMPLE: [&[u8]; 12] = [
+pub const EXAMPLE: [&[u8]; 12] = [
     b"rcap-derivation 1 4 7\n",
     b"s 6 ref\n",
     b"s 7 ref\n",
@@ -21,7 +21,7 @@ const EXAMPLE: [&[u8]; 12] = [
 ];
 
 /// The example with other bytes for one line, counted from 1.
-fn variant(alloc: Global, number: usize, line: &[u8]) -> Result<List<u8>, AllocError> {
+pub fn variant(alloc: Global, number: usize, line: &[u8]) -> Result<List<u8>, AllocError> {
     let mut text: Vec<u8> = Vec::new(alloc);
     for at in 0..EXAMPLE.len() {
         let is_changed = at + 1 == number;
@@ -38,7 +38,8 @@ fn reads_as(alloc: Global, bytes: &[u8], wanted: Option<DerivFault>) -> bool {
     }
 }
 
-fn note(rule: Rule, ty: Option<(u32, Form)>, before: u64, after: u64) -> Note {
+/// A note that sets nothing.
+pub fn note(rule: Rule, ty: Option<(u32, Form)>, before: u64, after: u64) -> Note {
     Note {
         rule,
         ty,
@@ -75,7 +76,8 @@ fn the_example_is_read_and_written(rt: HostRuntime) -> Result<(), Fail> {
     Ok(())
 }
 
-const VARIANTS: [(usize, &[u8], Option<DerivFault>); 34] = [
+/// A line of the example with other bytes, and what is wrong then.
+pub const VARIANTS: [(usize, &[u8], Option<DerivFault>); 34] = [
     (9, b"n new 6 ref 3 0 3 0\n", None),
     (5, b"s 6 val\n", None),
     (5, b"s 4294967295 iso\n", None),

@@ -4,6 +4,8 @@
 #[cfg(test)]
 mod derivations;
 #[cfg(test)]
+mod pieces;
+#[cfg(test)]
 mod readings;
 #[cfg(test)]
 mod schedules;

@@ -81,3 +81,38 @@ fn a_file_is_given_whole_or_refused_with_its_cause(rt: HostRuntime) -> Result<()
     assert!(rt; is_answer(too_long, Err(FileFault::TooLong)));
     Ok(())
 }
+
+#[test]
+fn a_part_is_given_from_its_place_up_to_the_limit(rt: HostRuntime) -> Result<(), Fail> {
+    let alloc = rt.alloc();
+    fs::write(&rt, "six", "abcdef")?;
+    let mut real = HostFiles::new(alloc, &rt);
+    let mut files = MemFiles::new(alloc, &[7])?;
+    let mut never = NeverFiles::new(alloc);
+    files.add("six", b"abcdef")?;
+    never.add("six", b"abcdef")?;
+    let rows = [
+        (0, 6, "abcdef"),
+        (0, 4, "abcd"),
+        (4, 4, "ef"),
+        (5, 1, "f"),
+        (6, 1, ""),
+        (4000000000, 1, ""),
+    ];
+    for (from, limit, wanted) in rows {
+        let real_part = real.part(alloc, "six", from, limit);
+        assert!(rt; is_answer(real_part, Ok(wanted)), "file, {from}");
+        let part = files.part(alloc, "six", from, limit);
+        assert!(rt; is_answer(part, Ok(wanted)), "memory, {from}");
+        let never_part = never.part(alloc, "six", from, limit);
+        assert!(rt; is_answer(never_part, Ok(wanted)), "never, {from}");
+    }
+    // The seventh call of all is told to fail, and a missing name fails where it is not an empty file.
+    assert!(rt; is_answer(files.part(alloc, "six", 0, 1), Err(FileFault::Failed)));
+    assert!(rt; is_answer(files.part(alloc, "six", 0, 1), Ok("a")));
+    assert!(rt; is_answer(files.part(alloc, "gone", 0, 1), Err(FileFault::Failed)));
+    assert!(rt; is_answer(never.part(alloc, "gone", 0, 1), Ok("")));
+    assert!(rt; is_answer(real.part(alloc, "gone", 0, 1), Err(FileFault::Failed)));
+    fs::remove_file(&rt, "six")?;
+    Ok(())
+}

@@ -1,4 +1,7 @@
 //! Tests of the program's commands on whole texts, with files and sinks in memory.
+//!
+//! Only tested, and said by no contract: that memory is there; that each text and each line is one call of `put`, and that
+//! none follows a call that failed.
 #![tactic(auto)]
 
 #[cfg(test)]
@@ -6,15 +9,27 @@ mod call_cases;
 #[cfg(test)]
 mod cases;
 #[cfg(test)]
+mod counted_sink;
+#[cfg(test)]
+mod failing_cases;
+#[cfg(test)]
 mod field_cases;
 #[cfg(test)]
 mod flow_cases;
+#[cfg(test)]
+mod hostile_cases;
+#[cfg(test)]
+mod interface_cases;
+#[cfg(test)]
+mod limit_cases;
 #[cfg(test)]
 mod make_cases;
 #[cfg(test)]
 mod name_cases;
 #[cfg(test)]
 mod programs;
+#[cfg(test)]
+mod put_cases;
 #[cfg(test)]
 mod run_cases;
 #[cfg(test)]

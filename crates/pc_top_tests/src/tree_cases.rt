@@ -10,7 +10,7 @@ use std::test::Fail;
 #[test]
 fn the_first_token_without_a_tree_is_named(rt: HostRuntime) -> Result<(), Fail> {
     let alloc = rt.alloc();
-    let rows: [(&[u8], u8, &str); 12] = [
+    let rows: [(&[u8], u8, &str); 13] = [
         (b"", 3, "a.pony:1:1: unexpected\n"),
         (b"class", 3, "a.pony:1:6: unexpected\n"),
         (b"class C fun f() => 1 - 2 - 3", 4, "a.pony: no Main\n"),
@@ -42,7 +42,8 @@ fn the_first_token_without_a_tree_is_named(rt: HostRuntime) -> Result<(), Fail> 
             "a.pony:1:13: unexpected\n",
         ),
         (b"class C is (A, B)", 3, "a.pony:1:14: unexpected\n"),
-        (b"interface I", 3, "a.pony:1:1: unexpected\n"),
+        (b"interface I", 4, "a.pony: no Main\n"),
+        (b"struct S", 3, "a.pony:1:1: unexpected\n"),
     ];
     for (source, status, err) in rows {
         ends(&rt, alloc, source, status, err)?;

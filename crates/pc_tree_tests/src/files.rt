@@ -89,7 +89,7 @@ const UNEXPECTED: [(&[u8], u32); 42] = [
     // A method alone.
     (b"fun f() => 1", 0),
     // Another word.
-    (b"interface I", 0),
+    (b"struct S", 0),
     // A name in the place of a type name.
     (b"class c", 6),
     // Two capabilities.
