@@ -9,6 +9,10 @@ TOP = pathlib.Path(__file__).resolve().parent.parent
 # The program that `rcap` at the top builds and then becomes. It is called itself, so that only its own time and memory are seen.
 BUILT = TOP / "crates" / "pc_cli" / "out" / "pc_cli"
 
+# The folder of the machine's tests, and the program of them that `rt test` makes there: it runs the test that its word names.
+TESTS_FOLDER = TOP / "crates" / "pc_machine_tests"
+TESTS_BUILT = TESTS_FOLDER / "out" / "pc_machine_tests_tests"
+
 # The status of a call without words.
 NO_WORDS = 2
 
@@ -16,6 +20,24 @@ NO_WORDS = 2
 def add_program(parser):
     """Adds the option that names another program."""
     parser.add_argument("--program", metavar="PATH", help="the built program; without it rcap at the top builds one")
+
+
+def add_tests(parser):
+    """Adds the option that names other tests of the machine."""
+    parser.add_argument("--tests", metavar="PATH", help="the built tests of the machine; without it rt test builds them")
+
+
+def tests_of(options):
+    """The path of the machine's tests, which are there. Builds them where no others are named."""
+    tests = TESTS_BUILT
+    if options.tests is not None:
+        tests = pathlib.Path(options.tests).resolve()
+    else:
+        # What it writes belongs to the build; a failed one shows below.
+        subprocess.run(["rt", "test"], cwd=TESTS_FOLDER, stdin=subprocess.DEVNULL, stdout=sys.stderr, check=False)
+    if not tests.is_file():
+        sys.exit(f"no tests {tests}")
+    return str(tests)
 
 
 def program_of(options):
