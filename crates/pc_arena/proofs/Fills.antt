@@ -8,15 +8,15 @@ use Rattle.pc_arena.specs.Ownership.{row_size, lent_from}
 pub within_word : (i s : ℕ) → i < row_size → row_size * s < 2 ^ 63 → (i * s < 2 ^ 64) × (s < 2 ^ 64)
 within_word i s lt short = let far : i * s ≤ row_size * s = mul-le-mul_right s (omega arith) in (omega arith, omega arith)
 
--- what an allocator is asked for, and what the code works out
+-- what an allocator is asked for
 pub row_bytes : (τ : Ty) → row_size * size τ < 2 ^ 63 → capped (size (bare (ty_array τ row_size))) ≡ row_size * size τ
 row_bytes τ short = ap capped (size-raw (ty_array τ row_size)) ∙ capped_is (row_size * size τ) (omega arith)
 
 pub row_aligned : (τ : Ty) → capped (align (bare (ty_array τ row_size))) ≡ capped (align τ)
 row_aligned τ = ap capped (align-raw (ty_array τ row_size))
 
-pub counted_bytes : (s : ℕ) → row_size * s < 2 ^ 63 → row_size * capped s ≡ row_size * s
-counted_bytes s short = ap (λ (k : ℕ). row_size * k) (capped_is s (omega arith))
+pub row_within_word : (s : ℕ) → row_size * s < 2 ^ 63 → (row_size * s < 2 ^ 64) × (s < 2 ^ 64)
+row_within_word s short = (omega arith, omega arith)
 
 pub found : {X : Type 0} (xs : List X) (i : ℕ) → i < length xs → (x : X) × (slice_get xs i ≡ Some x) × (get_or xs i x ≡ x)
 found [] i lt = absurd (omega arith)

@@ -1,6 +1,9 @@
 pub mod Arenas
+pub mod Blocks
 pub mod Chunked
 pub mod Fills
+pub mod Handles
 pub mod Lent
 pub mod Opened
+pub mod Results
 pub mod Steps

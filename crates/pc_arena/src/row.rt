@@ -12,7 +12,8 @@ pub(crate) const ROW_SIZE: usize = 256;
 
 /// Memory for 256 values, of which the first ones are written. It owns these values, the memory behind them, and the
 /// right to give all of it back to the allocator that it came from. It never moves, and can be neither copied nor
-/// dropped: whoever has it takes its values out and gives it back.
+/// dropped: whoever has it is to take its values out and to give it back. That memory does come back is not proved, as
+/// the logic lets what is owned be forgotten.
 pub struct Row<T, A: Allocator> {
     first: *mut T,
     count: usize,
