@@ -1,0 +1,5 @@
+pub mod Left
+pub mod LeftRules
+pub mod LeftFile
+pub mod Openers
+pub mod Answered

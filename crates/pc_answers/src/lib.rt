@@ -1,0 +1,12 @@
+//! The grammar always answers.
+//!
+//! Proved: Of every list of tokens that ends with `End`, exactly one of the grammar's answers holds; and the tokens that may
+//! be too deep are exactly those that open a level. So it is for sequences, expressions, expressions without `=`
+//! (`sequences_are_answered`, `expressions_are_answered`, `infixes_are_answered`) and files (`files_are_answered`).
+#![tactic(auto)]
+
+mod laws;
+
+pub use laws::{
+    expressions_are_answered, files_are_answered, infixes_are_answered, sequences_are_answered,
+};
