@@ -1,0 +1,17 @@
+pub mod Telling
+pub mod Meanings
+pub mod Uses
+pub mod Walks
+pub mod Lists
+pub mod Declarations
+pub mod Orders
+pub mod Firsts
+pub mod Counting
+pub mod Sizes
+pub mod Members
+pub mod Orderings
+pub mod Places
+pub mod Starts
+pub mod Told
+pub mod Joined
+pub mod Unknowns

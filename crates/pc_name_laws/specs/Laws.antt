@@ -1,0 +1,97 @@
+-- Which fault of a file is told.
+use Rattle.std.specs.Prelude.{◌≡◌, ◌⊎◌, ◌↔◌, ℕ, List, drop, slice_get, Some}
+use Rattle.pc_lists.specs.Places.{Has, Ascends}
+use Rattle.pc_caps.specs.declared.span.Span.{Span}
+use Rattle.pc_tree.specs.declared.names.Name.{Name}
+use Rattle.pc_tree.specs.Tree as t
+use Rattle.pc_token.specs.declared.kinds.Token.{Token}
+use Rattle.pc_lex.specs.Pieces.{Tokens}
+use Rattle.pc_grammar.specs.SpellsFile.{SpellsFile}
+use Rattle.pc_order.specs.Laws.{starts}
+use Rattle.pc_names.specs.declared.fault.NameFault.{NameFault}
+use Rattle.pc_names.specs.declared.fault.NameFault.TheVariants as fault
+use Rattle.pc_names.specs.Words.{built_in_names, entity_names as entity_names_of}
+use Rattle.pc_names.specs.Tables.{trait_names}
+use Rattle.pc_names.specs.Faults.{entity_name_faults, entity_faults}
+use Rattle.pc_names.specs.Chains.{Closes, first_own}
+use Rattle.pc_names.specs.Counts.{count_faults}
+use Rattle.pc_names.specs.Mains.{main_faults}
+use Rattle.pc_names.specs.Names.{IsNameFault}
+use Rattle.pc_names.specs.Laws.{OfFile}
+use Rattle.pc_body_spec.specs.Scopes.{Context}
+use Rattle.pc_body_spec.specs.Faults.{Fault, body_faults, initial_faults}
+use Rattle.pc_file_spec.specs.Members.{Owned, written, added}
+use Rattle.pc_file_spec.specs.Signatures.{context_of}
+use Rattle.pc_file_spec.specs.Cores.{IsElabFault}
+use Rattle.pc_name_laws.specs.Uses.{Spot, InMember}
+use Rattle.pc_name_laws.specs.Missing.{IsMissing, IsBodyFault, place}
+use Rattle.pc_name_laws.specs.Declared.{IsEntityFault, IsDeclarationFault, IsMissingName}
+use Rattle.pc_name_laws.specs.Turns.{Turn, entity_names, declarations, cycles, method_counts, main, body, slots, nodes, IsCountFault, IsMainFault, At, IsBefore, NotBehind, all_members}
+
+-- ---- what the passes look for
+
+-- The faults that each pass lists, of which it tells the first, are those that are said here, and no others: of the names of
+-- entities, of the declarations of an entity, of counts of methods, of `Main`, and of the body of a member.
+abbrev pub EntitiesAreListed : Type 0
+EntitiesAreListed = (file : t.File) (f : NameFault) → Has (entity_name_faults built_in_names file.entities) f ↔ IsEntityFault file f
+
+abbrev pub DeclarationsAreListed : Type 0
+DeclarationsAreListed = (file : t.File) (e : t.Entity) (f : NameFault) → Has (entity_faults (entity_names_of file) (trait_names file.entities) e) f ↔ IsDeclarationFault file e f
+
+abbrev pub CountsAreListed : Type 0
+CountsAreListed =
+    (file : t.File) (above : List (List ℕ)) (f : NameFault) → Closes file above → Has (count_faults file.entities 0 file.entities (drop first_own above)) f ↔ IsCountFault file f
+
+abbrev pub MainsAreListed : Type 0
+MainsAreListed = (file : t.File) (f : NameFault) → Has (main_faults file.entities) f ↔ IsMainFault file f
+
+abbrev pub BodiesAreListed : Type 0
+BodiesAreListed = (c : Context) (e : t.Entity) (m : t.Method) (f : Fault) → Has (body_faults c e.fields m) f ↔ IsBodyFault c e (written m) f
+
+abbrev pub AddedBodiesAreListed : Type 0
+AddedBodiesAreListed = (c : Context) (e : t.Entity) (f : Fault) → Has (initial_faults c e.fields) f ↔ IsBodyFault c e added f
+
+-- ---- the fault that is told
+
+-- The fault that is told of a file: the first fault of its names, or where they have none that of its members.
+abbrev pub IsTold : t.File → NameFault → Type 0
+IsTold file f = OfFile f × (IsNameFault file f ⊎ IsElabFault file f)
+
+-- The fault is one of this turn, and comes before all other faults of all turns.
+abbrev pub IsLeast : t.File → Turn → NameFault → Type 0
+IsLeast file t f = At file t f × ((u : Turn) (g : NameFault) → At file u g → IsBefore t f u g)
+
+-- Of a file that tokens spell in the order of a text, the fault that is told is the least of all.
+abbrev pub ToldIsLeast : Type 0
+ToldIsLeast = (file : t.File) (ts : List Token) (f : NameFault) → SpellsFile file ts → Ascends (starts ts) → IsTold file f → (t : Turn) × IsLeast file t f
+
+-- So it is with the tokens of every text.
+abbrev pub ToldOfTextIsLeast : Type 0
+ToldOfTextIsLeast = (text : List ℕ) (file : t.File) (ts : List Token) (f : NameFault) → Tokens text ts → SpellsFile file ts → IsTold file f → (t : Turn) × IsLeast file t f
+
+-- Where a file has a fault, one is told.
+abbrev pub FaultIsTold : Type 0
+FaultIsTold = (file : t.File) (t : Turn) (g : NameFault) → At file t g → (f : NameFault) × IsTold file f
+
+-- ---- unknown names
+
+-- The meaning of a name at this place is missing: in the declarations of an entity, or in the body of a member.
+abbrev pub IsMissingAt : t.File → Turn → Span → Type 0
+IsMissingAt file entity_names s = ⊥
+IsMissingAt file declarations s = (e : t.Entity) × (n : Name) × Has file.entities e × IsMissingName file e n × (s ≡ n.span)
+IsMissingAt file cycles s = ⊥
+IsMissingAt file method_counts s = ⊥
+IsMissingAt file main s = ⊥
+IsMissingAt file (body k) s = (o : Owned) × (x : Spot) × (slice_get (all_members file) k ≡ Some o) × InMember o.owner o.member x × IsMissing (context_of file o) x × (s ≡ place x.what)
+IsMissingAt file (slots k) s = ⊥
+IsMissingAt file (nodes k) s = ⊥
+
+-- A name that is told as unknown is one whose meaning is missing.
+abbrev pub UnknownIsMissing : Type 0
+UnknownIsMissing = (file : t.File) (s : Span) → IsTold file (fault.Unknown s) → (t : Turn) × IsMissingAt file t s
+
+-- Where the meaning of a name is missing, a fault is told that is not behind the name.
+abbrev pub MissingIsTold : Type 0
+MissingIsTold =
+    (file : t.File) (ts : List Token) (t : Turn) (s : Span) → SpellsFile file ts → Ascends (starts ts) → IsMissingAt file t s
+    → (f : NameFault) × (u : Turn) × IsTold file f × At file u f × NotBehind u f t s.start
