@@ -1,0 +1,15 @@
+pub mod Sayings
+pub mod Counting
+pub mod Beginnings
+pub mod Growing
+pub mod Lawful
+pub mod Places
+pub mod Openings
+pub mod Waitings
+pub mod NodeLines
+pub mod Taking
+pub mod Ending
+pub mod Piecewise
+pub mod Told
+pub mod Fed
+pub mod FileParts

@@ -1,0 +1,47 @@
+-- What a referee is asked of a derivation's text: its nodes in order, up to the first thing that is wrong.
+use Rattle.std.specs.Prelude.{◌≡◌, ◌↔◌, ℕ, ◌+◌, ◌<◌, ◌≤◌, List, [], ◌∷◌, ◌++◌, length, take, Option, Some, None, slice_get}
+use Rattle.pc_core.specs.declared.nodes.Slot.{Slot}
+use Rattle.pc_core.specs.CoreData.{CoreData}
+use Rattle.pc_ann.specs.declared.annotation.Note.{Note}
+use Rattle.pc_rules.specs.Rules.{MeetsRule}
+use Rattle.pc_judge.specs.Faults.{KeepsType, Passes}
+use Rattle.pc_referee.specs.Asked.{Pairs}
+use Rattle.pc_deriv.specs.declared.line.Line.{Line}
+use Rattle.pc_feed.specs.Lines.{counts_in, slots_in, notes_in, so_far}
+
+-- notes with the numbers of their nodes, from this number on
+abbrev pub numbered : ℕ → List Note → Pairs
+numbered n [] = []
+numbered n (t ∷ ts) = (n, t) ∷ numbered (n + 1) ts
+
+-- The counts are the core's, and each slot so far has the type that is written for it, if one is.
+pub record Opens (core : CoreData) (ls : List Line) : Type 0 where
+  pub counts : (c : ℕ × ℕ) → counts_in ls ≡ Some c → c ≡ (length core.slots, length core.nodes)
+  pub written : (k : ℕ) (y : Slot) → k < length (slots_in ls) → slice_get core.slots k ≡ Some y → KeepsType (so_far ls) k y
+
+-- Node k is found right: counts and slots are, nothing is wrong at the nodes before it, and it meets its rule. Where it is
+-- the body of a constructor that leaves a field unset, it is found right all the same, and is the last one.
+pub record IsFoundRight (core : CoreData) (ls : List Line) (k : ℕ) : Type 0 where
+  pub opens : Opens core ls
+  pub before : (j : ℕ) → j < k → Passes core (so_far ls) j
+  pub meets : MeetsRule core (so_far ls) k
+
+-- The nodes of these lines that are found right, which are the first ones, with their notes.
+pub record IsAsked (core : CoreData) (ls : List Line) (pairs : Pairs) : Type 0 where
+  pub count : ℕ
+  pub within : count ≤ length (notes_in ls)
+  pub exact : (k : ℕ) → k < length (notes_in ls) → (k < count) ↔ IsFoundRight core ls k
+  pub are : pairs ≡ take count (numbered 0 (notes_in ls))
+
+-- A referee's list, where it is told, grew by the nodes that are found right in the later lines.
+abbrev pub Grew : CoreData → (old new : List Line) → Option Pairs → Option Pairs → Type 0
+Grew core old new None after = after ≡ None
+Grew core old new (Some pairs) after =
+    (known : Pairs) × (more : Pairs) × IsAsked core old known × IsAsked core new (known ++ more) × (after ≡ Some (pairs ++ more))
+
+-- It grew by the first of these.
+abbrev pub GrewPart : CoreData → (old new : List Line) → Option Pairs → Option Pairs → Type 0
+GrewPart core old new None after = after ≡ None
+GrewPart core old new (Some pairs) after =
+    (known : Pairs) × (more : Pairs) × IsAsked core old known × (after ≡ Some (pairs ++ more))
+    × ((all : Pairs) → IsAsked core new all → (rest : Pairs) × (all ≡ (known ++ more) ++ rest))

@@ -1,0 +1,26 @@
+-- What holds of all bytes that are fed.
+use Rattle.std.specs.Prelude.{◌≡◌, ℕ, List, Option, Some}
+use Rattle.pc_core.specs.CoreData.{CoreData}
+use Rattle.pc_core.specs.Formed.{Formed}
+use Rattle.pc_ann.specs.declared.annotation.Ann.{Ann}
+use Rattle.pc_rules.specs.Valid.{Valid}
+use Rattle.pc_deriv.specs.declared.line.Line.{Line}
+use Rattle.pc_deriv.specs.Faults.{IsText}
+use Rattle.pc_referee.specs.Asked.{Pairs}
+use Rattle.pc_feed.specs.Lines.{lines_in}
+use Rattle.pc_feed.specs.Asked.{numbered, IsAsked}
+use Rattle.pc_feed.specs.Feeding.{Answer, EndsSo}
+
+-- At most one list of nodes is asked.
+abbrev pub OneIsAsked : Type 0
+OneIsAsked = (core : CoreData) (ls : List Line) (a b : Pairs) → IsAsked core ls a → IsAsked core ls b → a ≡ b
+
+-- The same bytes end in one way.
+abbrev pub OneEnd : Type 0
+OneEnd = (core : CoreData) (bytes : List ℕ) (a b : Answer) → Formed core → EndsSo core bytes a → EndsSo core bytes b → a ≡ b
+
+-- Of the text of a valid annotation every node is asked, with its note.
+abbrev pub ValidAsksAll : Type 0
+ValidAsksAll =
+    (core : CoreData) (bytes : List ℕ) (ann : Ann) (pairs : Pairs) → Formed core → IsText bytes ann → Valid core ann
+    → IsAsked core (lines_in bytes) pairs → pairs ≡ numbered 0 ann.notes

@@ -1,0 +1,106 @@
+-- A file that is judged in parts.
+use Rattle.std.specs.Prelude.{◌≡◌, ℕ, ◌+◌, ◌<◌, ◌≤◌, Bool, true, false, List, ◌++◌, length, take, drop, Option, Some, None, IfSome, Result, Ok, Err}
+use Rattle.pc_core.specs.CoreData.{CoreData}
+use Rattle.pc_ann.specs.declared.annotation.Ann.{Ann}
+use Rattle.pc_rules.specs.Valid.{Valid}
+use Rattle.pc_deriv.specs.Faults.{IsText, IsFault}
+use Rattle.pc_deriv.specs.Laws.{as_read}
+use Rattle.pc_judge.specs.Faults.{FirstFault}
+use Rattle.pc_referee.specs.Asked.{Pairs}
+use Rattle.pc_feed.specs.declared.parts.DerivationFault.{DerivationFault}
+use Rattle.pc_feed.specs.declared.parts.DerivationFault.TheVariants as fault
+use Rattle.pc_feed.specs.Lines.{lines_in}
+use Rattle.pc_feed.specs.Asked.{IsAsked}
+use Rattle.pc_feed.specs.Streams.{StreamData, IsFed}
+
+-- how many bytes a part has, and how many a derivation may have
+abbrev pub part_size : ℕ
+part_size = 65536
+
+abbrev pub file_limit : ℕ
+file_limit = 33554432
+
+-- A referee's list, where it is told, grew by the nodes that are found right in the text of these bytes.
+abbrev pub Asks : CoreData → List ℕ → Option Pairs → Option Pairs → Type 0
+Asks core bytes None after = after ≡ None
+Asks core bytes (Some pairs) after = (more : Pairs) × IsAsked core (lines_in bytes) more × (after ≡ Some (pairs ++ more))
+
+-- The file was read whole: these are all its bytes, where they are told, and not more than a derivation may have.
+pub record ReadWhole (told : Option (List ℕ)) (bytes : List ℕ) : Type 0 where
+  pub within : length bytes ≤ file_limit
+  pub all : IfSome told (λ t. bytes ≡ t)
+
+-- How the judging of a file ended, by what is told of it, by how often its reading had failed before and after the call, by
+-- how many bytes the last part had, and by the referee's list.
+abbrev pub FileJudged : CoreData → Option (List ℕ) → (before now taken : ℕ) → Option Pairs → Option Pairs → Result (Unit {0}) DerivationFault → Type 0
+FileJudged core told before now taken old new (Ok _) =
+    (bytes : List ℕ) × ReadWhole told bytes × ((ann : Ann) × IsText bytes ann × Valid core ann) × Asks core bytes old new
+FileJudged core told before now taken old new (Err (fault.Text f)) = (bytes : List ℕ) × ReadWhole told bytes × IsFault bytes (as_read f) × Asks core bytes old new
+FileJudged core told before now taken old new (Err (fault.Invalid f)) =
+    (bytes : List ℕ) × ReadWhole told bytes × ((ann : Ann) × IsText bytes ann × FirstFault core ann f) × Asks core bytes old new
+-- Its faults rose.
+FileJudged core told before now taken old new (Err fault.Failed) = before < now
+-- The part behind all bytes that a derivation may have is not empty.
+FileJudged core told before now taken old new (Err fault.TooLong) = (0 < taken) × IfSome told (λ t. file_limit < length t)
+FileJudged core told before now taken old new (Err fault.Memory) = Unit {0}
+
+-- ---- the parts
+
+-- The first bytes of a file were read and fed.
+pub record PartsRead (core : CoreData) (told : Option (List ℕ)) (from : ℕ) (stream : StreamData) (old new : Option Pairs) : Type 0 where
+  pub bytes : List ℕ
+  pub size : length bytes ≡ from
+  pub front : IfSome told (λ t. bytes ≡ take from t)
+  pub fed : IsFed core bytes stream
+  pub asks : Asks core bytes old new
+
+-- All of it was.
+pub record AllRead (core : CoreData) (told : Option (List ℕ)) (stream : StreamData) (old new : Option Pairs) : Type 0 where
+  pub bytes : List ℕ
+  pub read : ReadWhole told bytes
+  pub fed : IsFed core bytes stream
+  pub asks : Asks core bytes old new
+
+-- A part was fed, or memory ran out.
+abbrev pub PartFed : CoreData → (bytes part : List ℕ) → StreamData → Option Pairs → Option Pairs → Result (Unit {0}) DerivationFault → Type 0
+PartFed core bytes part new old after (Ok _) = IsFed core (bytes ++ part) new × ((before : Option Pairs) → Asks core bytes before old → Asks core (bytes ++ part) before after)
+PartFed core bytes part new old after (Err fault.Failed) = ⊥
+PartFed core bytes part new old after (Err fault.TooLong) = ⊥
+PartFed core bytes part new old after (Err (fault.Text f)) = ⊥
+PartFed core bytes part new old after (Err (fault.Invalid f)) = ⊥
+PartFed core bytes part new old after (Err fault.Memory) = Unit {0}
+
+-- What is read where a part begins at this place.
+abbrev pub IsPartAt : Option (List ℕ) → ℕ → List ℕ → Type 0
+IsPartAt told from part = (length part ≤ part_size) × IfSome told (λ t. part ≡ take part_size (drop from t))
+
+-- Why no part was read.
+abbrev pub NoPart : (before now : ℕ) → DerivationFault → Type 0
+NoPart before now fault.Failed = before < now
+NoPart before now fault.TooLong = ⊥
+NoPart before now (fault.Text f) = ⊥
+NoPart before now (fault.Invalid f) = ⊥
+NoPart before now fault.Memory = Unit {0}
+
+-- A full part, or the last one.
+abbrev pub Size : (from : ℕ) → List ℕ → Bool → Type 0
+Size from part true = (length part ≡ part_size) × (from < file_limit)
+Size from part false = (length part < part_size) × (from ≡ file_limit → length part ≡ 0)
+
+-- A part was read and fed behind these bytes.
+abbrev pub PartTaken : CoreData → Option (List ℕ) → (from : ℕ) → List ℕ → (before now taken : ℕ) → StreamData → Option Pairs → Option Pairs → Result Bool DerivationFault → Type 0
+PartTaken core told from bytes before now taken new old after (Ok full) = (part : List ℕ) × IsPartAt told from part × Size from part full × PartFed core bytes part new old after (Ok tt)
+PartTaken core told from bytes before now taken new old after (Err fault.Failed) = before < now
+PartTaken core told from bytes before now taken new old after (Err fault.TooLong) = (0 < taken) × IfSome told (λ t. file_limit < length t)
+PartTaken core told from bytes before now taken new old after (Err (fault.Text f)) = ⊥
+PartTaken core told from bytes before now taken new old after (Err (fault.Invalid f)) = ⊥
+PartTaken core told from bytes before now taken new old after (Err fault.Memory) = Unit {0}
+
+-- How the reading of all parts ended.
+abbrev pub PartsEnd : CoreData → Option (List ℕ) → (before now taken : ℕ) → StreamData → Option Pairs → Option Pairs → Result (Unit {0}) DerivationFault → Type 0
+PartsEnd core told before now taken new old after (Ok _) = AllRead core told new old after
+PartsEnd core told before now taken new old after (Err fault.Failed) = before < now
+PartsEnd core told before now taken new old after (Err fault.TooLong) = (0 < taken) × IfSome told (λ t. file_limit < length t)
+PartsEnd core told before now taken new old after (Err (fault.Text f)) = ⊥
+PartsEnd core told before now taken new old after (Err (fault.Invalid f)) = ⊥
+PartsEnd core told before now taken new old after (Err fault.Memory) = Unit {0}

@@ -1,0 +1,79 @@
+-- What a stream keeps, and when it is what it is to be behind some bytes.
+use Rattle.std.specs.Prelude.{◌≡◌, ◌⊎◌, ℕ, ◌<◌, ◌≤◌, true, false, List, [], ◌∷◌, ◌++◌, length, map, Option, Some, None, slice_get}
+use Rattle.pc_core.specs.declared.nodes.Slot.{Slot}
+use Rattle.pc_core.specs.CoreData.{CoreData}
+use Rattle.pc_ann.specs.declared.annotation.Note.{Note}
+use Rattle.pc_ann.specs.declared.annotation.Ann.{Ann}
+use Rattle.pc_sub.specs.Declarations.{DeclOk}
+use Rattle.pc_rules.specs.Parts.{Slots, notes_of}
+use Rattle.pc_judge.specs.declared.faults.JudgeFault.{JudgeFault}
+use Rattle.pc_judge.specs.Faults.{KeepsType, Passes, FirstFault}
+use Rattle.pc_deriv.specs.declared.line.Line.{Line}
+use Rattle.pc_deriv.specs.declared.line.Line.TheVariants as line
+use Rattle.pc_deriv.specs.Lines.{nothing_taken, fed, slot_of, lines_of}
+use Rattle.pc_stream.specs.Waiting.{Waits, Begins}
+use Rattle.pc_feed.specs.declared.judging.Judging.{Judging}
+use Rattle.pc_feed.specs.declared.reading.Reading.{Reading}
+use Rattle.pc_feed.specs.Lines.{lines_in, notes_in}
+use Rattle.pc_feed.specs.Asked.{IsFoundRight}
+
+-- The core that is judged, and what is known of the text and of its annotation.
+pub record StreamData : Type 0 where
+  pub core : CoreData
+  pub reading : Reading
+
+-- The lines are those of these slots and nodes: none yet, or the counts, and slots and nodes behind them.
+pub data Stands (core : CoreData) (ls : List Line) (slots : Slots) (notes : List Note) : Type 0 where
+  no_line : ls ≡ [] → slots ≡ [] → notes ≡ [] → Stands core ls slots notes
+  behind_head : ls ≡ line.Head (length core.slots) (length core.nodes) ∷ (map slot_of slots ++ map line.Node notes)
+      → length slots ≤ length core.slots → length notes ≤ length core.nodes
+      → (notes ≡ []) ⊎ (length slots ≡ length core.slots) → Stands core ls slots notes
+
+-- Nothing is wrong in these lines. What is kept are the types of the slots, the notes of the nodes whose parent has not come
+-- yet, and how many nodes were found right.
+pub record NothingWrong (core : CoreData) (ls : List Line) (j : Judging) : Type 0 where
+  pub notes : List Note
+  pub lines : Stands core ls j.slots notes
+  pub count : j.right ≡ length notes
+  pub numbers : List ℕ
+  pub waits : Waits core (length notes) numbers
+  pub waiting : notes_of notes numbers ≡ Some j.waiting
+  pub written : (k : ℕ) (y : Slot) → k < length j.slots → slice_get core.slots k ≡ Some y → KeepsType (record { slots = j.slots; notes = notes }) k y
+  pub passed : (ann : Ann) → Begins ann j.slots notes → (k : ℕ) → k < length notes → Passes core ann k
+
+-- The first so many nodes are found right, whatever lines follow.
+pub record Found (core : CoreData) (ls : List Line) (right : ℕ) : Type 0 where
+  pub few : right ≤ length (notes_in ls)
+  pub each : (more : List Line) (k : ℕ) → k < right → IsFoundRight core (ls ++ more) k
+
+-- This is wrong in these lines: it is the first fault of each annotation whose lines begin so, unless a declaration fails;
+-- and no further node is found right, whatever lines follow.
+pub record Wrong (core : CoreData) (ls : List Line) (right : ℕ) (f : JudgeFault) : Type 0 where
+  pub found : Found core ls right
+  pub stops : (more : List Line) (k : ℕ) → right ≤ k → IsFoundRight core (ls ++ more) k → ⊥
+  pub first : (ann : Ann) (more : List Line) → lines_of ann ≡ ls ++ more → DeclOk core → FirstFault core ann f
+
+abbrev pub JudgedBy : CoreData → List Line → Judging → Option JudgeFault → Type 0
+JudgedBy core ls j None = NothingWrong core ls j
+JudgedBy core ls j (Some f) = Wrong core ls j.right f
+
+abbrev pub Judged : CoreData → List Line → Judging → Type 0
+Judged core ls j = JudgedBy core ls j j.fault
+
+-- What is kept is what is to be kept of these bytes, and memory did not run out.
+pub record ReadSo (core : CoreData) (bytes : List ℕ) (r : Reading) : Type 0 where
+  pub enough : r.spent ≡ false
+  pub taken : r.lines ≡ (fed nothing_taken bytes).1
+  pub judged : Judged core (lines_in bytes) r.judging
+
+-- The stream judges this core, and these bytes were fed to it.
+abbrev pub IsFed : CoreData → List ℕ → StreamData → Type 0
+IsFed core bytes s = (s.core ≡ core) × ReadSo core bytes s.reading
+
+-- Memory ran out when a piece was fed.
+abbrev pub IsSpent : StreamData → Type 0
+IsSpent s = s.reading.spent ≡ true
+
+-- Bytes were fed, or memory ran out.
+abbrev pub MayFeed : CoreData → Reading → Type 0
+MayFeed core r = ((bytes : List ℕ) × ReadSo core bytes r) ⊎ (r.spent ≡ true)

@@ -1,0 +1,14 @@
+//! Why a derivation that is read in pieces is refused.
+use pc_deriv::LineFault;
+use pc_judge::JudgeFault;
+
+/// Why a derivation that is read in pieces is refused.
+#[derive(Clone, Copy, Debug, PartialEq, Eq)]
+pub enum StreamFault {
+    /// The bytes are no derivation's text.
+    Text(LineFault),
+    /// They are the text of an annotation that is not valid: this is the first thing that is wrong.
+    Invalid(JudgeFault),
+    /// Memory ran out.
+    Memory,
+}
