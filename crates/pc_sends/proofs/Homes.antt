@@ -1,0 +1,137 @@
+-- In a core that fits together the children of a node are of its method, and so is a method's body.
+use Rattle.std.specs.Prelude.{◌≡◌, ℕ, zero, suc, ◌+◌, ◌-◌, ◌<◌, ◌≤◌, List, [], ◌∷◌, ◌++◌, length, Option, Some, None, slice_get, refl}
+use Rattle.std.proofs.Common.{inl, inr, ap, sym, subst, ◌∙◌, arith}
+use Rattle.std.proofs.lemmas.Option.{same_Some, none-some}
+use Rattle.pc_lists.proofs.Gets.{get_below, get_front, get_push, get_append, get_map, map_get, get_range, range_get}
+use Rattle.pc_core.specs.declared.declarations.Method.{Method}
+use Rattle.pc_core.specs.declared.nodes.Node.{Node}
+use Rattle.pc_core.specs.CoreData.{CoreData}
+use Rattle.pc_lists.specs.Places.{Each}
+use Rattle.pc_core.specs.Lookup.{own_nodes, node_end}
+use Rattle.pc_core.specs.Methods.{PostOrder, BodyFits}
+use Rattle.pc_core.specs.Growing.{children_before}
+use Rattle.pc_lists.proofs.Ranges.{run_within, run_around}
+use Rattle.pc_core.specs.Formed.{Formed}
+
+-- Node n, if there is one, is of method m.
+abbrev pub NodeIn : CoreData → ℕ → ℕ → Type 0
+NodeIn core m n = (y : Node) → slice_get core.nodes n ≡ Some y → y.method ≡ m
+
+-- Those that wait come from a on, and so does one more.
+from_next : (a n : ℕ) (rest : List ℕ) → a ≤ n → Each (λ i c. a ≤ c) rest → Each (λ i c. a ≤ c) (rest ++ n ∷ [])
+from_next a n rest l b i c e =
+    elim (get_push rest n i c e) [
+      | inl h ↦ b i c h
+      | inr h ↦ let s = h.1 in omega (arith, l, s)
+    ]
+
+-- Children come from the method's first node on.
+children_from : (a n : ℕ) (xs : List Node) (waiting last : List ℕ) → PostOrder n xs waiting last → a ≤ n → Each (λ i c. a ≤ c) waiting → Each (λ i x. Each (λ k c. a ≤ c) x.children) xs
+children_from a n [] waiting last p l b i x e = absurd (none-some x e)
+children_from a n (y ∷ ys) waiting last p l b zero x e = λ k c h.
+    let own : slice_get y.children k ≡ Some c = subst (λ (z : Node). slice_get z.children k ≡ Some c) (sym (same_Some y x e)) h in
+    b (length p.0 + k) c (ap (λ ws. slice_get ws (length p.0 + k)) p.1 ∙ get_append p.0 y.children k ∙ own)
+children_from a n (y ∷ ys) waiting last p l b (suc i) x e =
+    let front : Each (λ i c. a ≤ c) p.0 = λ j d g. b j d (ap (λ ws. slice_get ws j) p.1 ∙ get_front p.0 y.children j d g) in
+    let next : a ≤ n + 1 = omega (arith, l) in
+    children_from a (n + 1) ys (p.0 ++ n ∷ []) last p.2 next (from_next a n p.0 l front) i x e
+
+-- The method with a body in which node n stands.
+record Home (core : CoreData) (n : ℕ) : Type 0 where
+  number : ℕ
+  method : Method
+  is_method : slice_get core.methods number ≡ Some method
+  body : ℕ
+  is_body : method.body ≡ Some body
+  fits : BodyFits core number method body
+  from : method.first_node ≤ n
+  to : n ≤ body
+
+home_in : (core : CoreData) (n i : ℕ) (f : Method) (o : Option ℕ) → Formed core → slice_get core.methods i ≡ Some f → f.body ≡ o → f.first_node ≤ n → n < f.first_node + (node_end f.first_node o - f.first_node) → Home core n
+home_in core n i f None formed g e l h = absurd (omega (arith, l, h))
+home_in core n i f (Some b) formed g e l h =
+    let fit = (formed.methods i f g).body b e in
+    let from = fit.from in
+    record { number = i; method = f; is_method = g; body = b; is_body = e; fits = fit; from = l; to = omega (arith, from, h) }
+
+home : (core : CoreData) (n : ℕ) → Formed core → n < length core.nodes → Home core n
+home core n formed l =
+    let r = run_around 0 _ (length core.nodes) n formed.nodes_follow (omega arith) l in
+    let q = map_get (λ (x : Method). (x.first_node, node_end x.first_node x.body - x.first_node)) core.methods r.0 r.1 r.2 in
+    let f = q.0 in
+    let low : f.first_node ≤ n = subst (λ (z : ℕ × ℕ). z.0 ≤ n) (sym q.2) r.3 in
+    let high : n < f.first_node + (node_end f.first_node f.body - f.first_node) = subst (λ (z : ℕ × ℕ). n < z.0 + z.1) (sym q.2) r.4 in
+    home_in core n r.0 f f.body formed q.1 refl low high
+
+-- A node between the first one of a method and its body is of the method.
+between : (core : CoreData) (m b n : ℕ) (f : Method) (y : Node) → f.body ≡ Some b → BodyFits core m f b → f.first_node ≤ n → n ≤ b → slice_get core.nodes n ≡ Some y → y.method ≡ m
+between core m b n f y has fits from to at =
+    let end : node_end f.first_node f.body ≡ b + 1 = ap (node_end f.first_node) has in
+    let last : n < node_end f.first_node f.body = omega (arith, end, to) in
+    fits.own (n - f.first_node) y (range_get core.nodes f.first_node (node_end f.first_node f.body) n y from last at)
+
+home_children : (core : CoreData) (n : ℕ) (x : Node) (h : Home core n) → slice_get core.nodes n ≡ Some x → Each (λ i c. NodeIn core x.method c) x.children
+home_children core n x h at i c e y is =
+    let first : ℕ = h.method.first_node in
+    let end : node_end first h.method.body ≡ h.body + 1 = ap (node_end first) h.is_body in
+    let from = h.from in
+    let to = h.to in
+    let last : n < node_end first h.method.body = omega (arith, end, to) in
+    let here : slice_get (own_nodes core h.method) (n - first) ≡ Some x = range_get core.nodes first (node_end first h.method.body) n x from last at in
+    let order = h.fits.post_order in
+    let low : first ≤ c = children_from first first (own_nodes core h.method) [] (h.body ∷ []) order (omega arith) (λ j d g. absurd (none-some d g)) (n - first) x here i c e in
+    let high : c < first + (n - first) = children_before first (own_nodes core h.method) [] (h.body ∷ []) order (λ j d g. absurd (none-some d g)) (n - first) x here i c e in
+    let within : c ≤ h.body = omega (arith, high, from, to) in
+    between core h.number h.body c h.method y h.is_body h.fits low within is ∙ sym (between core h.number h.body n h.method x h.is_body h.fits from to at)
+
+pub children_in : (core : CoreData) (n : ℕ) (x : Node) → Formed core → slice_get core.nodes n ≡ Some x → Each (λ i c. NodeIn core x.method c) x.children
+children_in core n x formed at = home_children core n x (home core n formed (get_below core.nodes n x at)) at
+
+pub body_in : (core : CoreData) (m b : ℕ) (f : Method) → Formed core → slice_get core.methods m ≡ Some f → f.body ≡ Some b → NodeIn core m b
+body_in core m b f formed is has y at =
+    let fits = (formed.methods m f is).body b has in
+    between core m b b f y has fits fits.from (omega arith) at
+
+-- A node of a method stands in the method's range.
+node_at : (core : CoreData) (m n : ℕ) (f : Method) (y : Node) (h : Home core n) → slice_get core.methods m ≡ Some f → slice_get core.nodes n ≡ Some y → y.method ≡ m → (f.first_node ≤ n) × (n < node_end f.first_node f.body)
+node_at core m n f y h is at own =
+    let number : m ≡ h.number = sym own ∙ between core h.number h.body n h.method y h.is_body h.fits h.from h.to at in
+    let same : h.method ≡ f = same_Some h.method f (sym h.is_method ∙ ap (slice_get core.methods) (sym number) ∙ is) in
+    let end : node_end h.method.first_node h.method.body ≡ h.body + 1 = ap (node_end h.method.first_node) h.is_body in
+    let from = h.from in
+    let to = h.to in
+    subst (λ (g : Method). (g.first_node ≤ n) × (n < node_end g.first_node g.body)) same (from, omega (arith, end, to))
+
+pub node_range : (core : CoreData) (m n : ℕ) (f : Method) (y : Node) → Formed core → slice_get core.methods m ≡ Some f → slice_get core.nodes n ≡ Some y → y.method ≡ m → (f.first_node ≤ n) × (n < node_end f.first_node f.body)
+node_range core m n f y formed is at own = node_at core m n f y (home core n formed (get_below core.nodes n y at)) is at own
+
+-- ---- the nodes of a method
+
+own_of : (core : CoreData) (m k : ℕ) (f : Method) (y : Node) (o : Option ℕ) → Formed core → slice_get core.methods m ≡ Some f → f.body ≡ o → slice_get (own_nodes core f) k ≡ Some y → y.method ≡ m
+own_of core m k f y None formed is has at =
+    let none : node_end f.first_node f.body ≡ f.first_node = ap (node_end f.first_node) has in
+    let within = (get_range core.nodes f.first_node (node_end f.first_node f.body) k y at).0 in
+    absurd (omega (arith, none, within))
+own_of core m k f y (Some b) formed is has at = ((formed.methods m f is).body b has).own k y at
+
+pub own_node : (core : CoreData) (m k : ℕ) (f : Method) (y : Node) → Formed core → slice_get core.methods m ≡ Some f → slice_get (own_nodes core f) k ≡ Some y → y.method ≡ m
+own_node core m k f y formed is at = own_of core m k f y f.body formed is refl at
+
+ends_behind : (core : CoreData) (m : ℕ) (f : Method) (o : Option ℕ) → Formed core → slice_get core.methods m ≡ Some f → f.body ≡ o → f.first_node ≤ node_end f.first_node o
+ends_behind core m f None formed is has = omega arith
+ends_behind core m f (Some b) formed is has = let from = ((formed.methods m f is).body b has).from in omega (arith, from)
+
+pub nodes_from : (core : CoreData) (m : ℕ) (f : Method) → Formed core → slice_get core.methods m ≡ Some f → f.first_node ≤ node_end f.first_node f.body
+nodes_from core m f formed is = ends_behind core m f f.body formed is refl
+
+pub nodes_to : (core : CoreData) (m : ℕ) (f : Method) → Formed core → slice_get core.methods m ≡ Some f → node_end f.first_node f.body ≤ length core.nodes
+nodes_to core m f formed is =
+    let to : f.first_node + (node_end f.first_node f.body - f.first_node) ≤ length core.nodes = (run_within 0 _ (length core.nodes) m (f.first_node, node_end f.first_node f.body - f.first_node) formed.nodes_follow (get_map (λ (x : Method). (x.first_node, node_end x.first_node x.body - x.first_node)) core.methods m f is)).1 in
+    let from = nodes_from core m f formed is in
+    omega (arith, to, from)
+
+-- The method that a node names is there.
+pub method_there : (core : CoreData) (n : ℕ) (y : Node) → Formed core → slice_get core.nodes n ≡ Some y → (f : Method) × (slice_get core.methods y.method ≡ Some f)
+method_there core n y formed at =
+    let h = home core n formed (get_below core.nodes n y at) in
+    (h.method, ap (slice_get core.methods) (between core h.number h.body n h.method y h.is_body h.fits h.from h.to at) ∙ h.is_method)

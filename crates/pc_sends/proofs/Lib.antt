@@ -1,0 +1,16 @@
+pub mod Grows
+pub mod Sorted
+pub mod Filtered
+pub mod Listed
+pub mod Pairs
+pub mod Homes
+pub mod Walking
+pub mod Moves
+pub mod Tasks
+pub mod Covers
+pub mod There
+pub mod Closing
+pub mod Named
+pub mod Sent
+pub mod Tabled
+pub mod Small

@@ -1,0 +1,126 @@
+-- What a walk over methods finds, step by step.
+use Rattle.std.specs.Prelude.{◌≡◌, ◌⊎◌, ◌↔◌, ℕ, ◌+◌, ◌-◌, Bool, List, Option, Some, None, slice_get, if◌then◌else◌}
+use Rattle.std.proofs.Common.{inl, inr, ap, sym, subst, ◌∙◌, arith}
+use Rattle.std.proofs.lemmas.Option.{same_Some, none-some}
+use Rattle.pc_core.specs.declared.declarations.Method.{Method}
+use Rattle.pc_core.specs.declared.nodes.Node.{Node}
+use Rattle.pc_core.specs.declared.nodes.NodeKind.{NodeKind}
+use Rattle.pc_core.specs.declared.nodes.NodeKind.TheVariants as nodes
+use Rattle.pc_core.specs.CoreData.{CoreData}
+use Rattle.pc_core.specs.Formed.{Formed}
+use Rattle.pc_core.specs.Lookup.{method_named, own_nodes, node_end}
+use Rattle.pc_lists.specs.Options.{◌>>=◌}
+use Rattle.pc_lists.specs.Places.{Has}
+use Rattle.pc_lists.proofs.Options.{bind_some, bind_is, kept}
+use Rattle.pc_lists.proofs.Gets.{get_within, get_range, range_get}
+use Rattle.pc_sends.specs.Entities.{MayBe, ListsMayBe}
+use Rattle.pc_sends.specs.Growth.{Grown, OfSome}
+use Rattle.pc_sends.specs.Uses.{is_called, MayCall, called_in, Known, noted_receiver, Aims, Uses}
+use Rattle.pc_sends.proofs.Grows.{grown_same, grown_there, grown_kept}
+use Rattle.pc_sends.proofs.Homes.{node_range, own_node, method_there}
+use Rattle.pc_sends.proofs.Listed.{known_below}
+
+-- ---- calls
+
+abbrev pub CalledIn : CoreData → ℕ → ℕ → ℕ → Type 0
+CalledIn core name d t = called_in core name d ≡ Some t
+
+-- What is called of the entities of a list is what may be called.
+called_may : (core : CoreData) (name e : ℕ) (ds : List ℕ) → ((d : ℕ) → (Has ds d) ↔ (MayBe core d e)) → (t : ℕ) → OfSome (CalledIn core name) ds t → MayCall core name e t
+called_may core name e ds same t k =
+    let a = bind_some (method_named core k.1 name) (λ (m : ℕ). slice_get core.methods m >>= λ (y : Method). if is_called y.kind then Some m else None) t k.3 in
+    let b = bind_some (slice_get core.methods a.0) (λ (y : Method). if is_called y.kind then Some a.0 else None) t a.2 in
+    let c = kept (is_called b.0.kind) (Some a.0) t b.2 in
+    let is : a.0 ≡ t = same_Some a.0 t c.1 in
+    record {
+      entity = k.1;
+      may_be = (same k.1).0 (k.0, k.2);
+      found = a.1 ∙ c.1;
+      method = b.0;
+      is_method = ap (slice_get core.methods) (sym is) ∙ b.1;
+      called = c.0;
+    }
+
+may_called : (core : CoreData) (name e : ℕ) (ds : List ℕ) → ((d : ℕ) → (Has ds d) ↔ (MayBe core d e)) → (t : ℕ) → MayCall core name e t → OfSome (CalledIn core name) ds t
+may_called core name e ds same t m =
+    let h = (same m.entity).1 m.may_be in
+    let found : called_in core name m.entity ≡ Some t =
+    bind_is (method_named core m.entity name) (λ (k : ℕ). slice_get core.methods k >>= λ (y : Method). if is_called y.kind then Some k else None) t m.found
+    ∙ bind_is (slice_get core.methods t) (λ (y : Method). if is_called y.kind then Some t else None) m.method m.is_method
+    ∙ ap (λ (b : Bool). if b then Some t else None) m.called
+    in
+    (h.0, m.entity, h.1, found)
+
+pub targets_found : (core : CoreData) (lists : List (List ℕ)) (name e : ℕ) (ds a b : List ℕ) → ListsMayBe core lists → slice_get lists e ≡ Some ds → Grown (OfSome (CalledIn core name) ds) a b → Grown (MayCall core name e) a b
+targets_found core lists name e ds a b l is g = grown_same (OfSome (CalledIn core name) ds) (MayCall core name e) a b (called_may core name e ds (l.each e ds is)) (may_called core name e ds (l.each e ds is)) g
+
+-- What is known to be of no entity is not called.
+pub targets_none : (core : CoreData) (lists : List (List ℕ)) (name e : ℕ) (a : List ℕ) → ListsMayBe core lists → slice_get lists e ≡ None → Grown (MayCall core name e) a a
+targets_none core lists name e a l is =
+    grown_there (MayCall core name e) a (λ t m.
+    let low = known_below core m.entity e m.may_be in
+    let whole = l.whole in
+    let there = get_within lists e (omega (arith, low, whole)) in
+    absurd (none-some there.0 (sym is ∙ there.1)))
+
+-- ---- calls that were looked at
+
+pub known_grown : (core : CoreData) (calls : List (ℕ × ℕ)) (P : ℕ → Type 0) (a b : List ℕ) → Grown P a b → Known core calls a → Known core calls b
+known_grown core calls P a b g k name e t h m = grown_kept P a b t g (k name e t h m)
+
+-- One call more.
+pub known_call : (core : CoreData) (old new : List (ℕ × ℕ)) (name e : ℕ) (a b : List ℕ) → Grown (MayCall core name e) a b → Known core old a → ((call : ℕ × ℕ) → Has new call → Has old call ⊎ (call ≡ (name, e))) → Known core new b
+known_call core old new name e a b g k more n d t h m =
+    elim (more (n, d) h) [
+      | inl before ↦ grown_kept (MayCall core name e) a b t g (k n d t before m)
+      | inr same ↦ g.all t (subst (λ (p : ℕ × ℕ). MayCall core p.0 p.1 t) same m)
+    ]
+
+-- ---- methods
+
+-- The nodes of a method are those that name it.
+abbrev pub NodeAims : CoreData → List (Option ℕ) → Node → ℕ → Type 0
+NodeAims core ents y t = Aims core ents y.kind y.children t
+
+method_to : (core : CoreData) (ents : List (Option ℕ)) (m : ℕ) (x : Method) → Formed core → slice_get core.methods m ≡ Some x → (t : ℕ) → OfSome (NodeAims core ents) (own_nodes core x) t → Uses core ents m t
+method_to core ents m x formed is t k =
+    let r = get_range core.nodes x.first_node (node_end x.first_node x.body) k.0 k.1 k.2 in
+    record { number = x.first_node + k.0; node = k.1; is_node = r.1; own = own_node core m k.0 x k.1 formed is k.2; aims = k.3 }
+
+method_from : (core : CoreData) (ents : List (Option ℕ)) (m : ℕ) (x : Method) → Formed core → slice_get core.methods m ≡ Some x → (t : ℕ) → Uses core ents m t → OfSome (NodeAims core ents) (own_nodes core x) t
+method_from core ents m x formed is t u =
+    let r = node_range core m u.number x u.node formed is u.is_node u.own in
+    (u.number - x.first_node, u.node, range_get core.nodes x.first_node (node_end x.first_node x.body) u.number u.node r.0 r.1 u.is_node, u.aims)
+
+pub method_uses : (core : CoreData) (ents : List (Option ℕ)) (m : ℕ) (x : Method) (ns : List Node) (a b : List ℕ) → Formed core → slice_get core.methods m ≡ Some x → ns ≡ own_nodes core x → Grown (OfSome (NodeAims core ents) ns) a b → Grown (Uses core ents m) a b
+method_uses core ents m x ns a b formed is own g =
+    grown_same (OfSome (NodeAims core ents) (own_nodes core x)) (Uses core ents m) a b (method_to core ents m x formed is) (method_from core ents m x formed is)
+    (subst (λ (ys : List Node). Grown (OfSome (NodeAims core ents) ys) a b) own g)
+
+-- Where there is no such method, no node names it.
+pub no_uses : (core : CoreData) (ents : List (Option ℕ)) (m : ℕ) (a : List ℕ) → Formed core → slice_get core.methods m ≡ None → Grown (Uses core ents m) a a
+no_uses core ents m a formed is =
+    grown_there (Uses core ents m) a (λ t u.
+    let there = method_there core u.number u.node formed u.is_node in
+    absurd (none-some there.0 (sym is ∙ ap (slice_get core.methods) (sym u.own) ∙ there.1)))
+
+-- ---- nodes
+
+-- A node that makes an object or an actor.
+made_is : (core : CoreData) (ents : List (Option ℕ)) (k : NodeKind) (cs : List ℕ) (n : ℕ) → (k ≡ nodes.New n) ⊎ (k ≡ nodes.Spawn n) → (t : ℕ) → (Aims core ents k cs t) ↔ (n ≡ t)
+made_is core ents k cs n (inl is) t = subst (λ (j : NodeKind). (Aims core ents j cs t) ↔ (n ≡ t)) (sym is) (λ e. e, λ e. e)
+made_is core ents k cs n (inr is) t = subst (λ (j : NodeKind). (Aims core ents j cs t) ↔ (n ≡ t)) (sym is) (λ e. e, λ e. e)
+
+pub aims_made : (core : CoreData) (ents : List (Option ℕ)) (k : NodeKind) (cs : List ℕ) (n : ℕ) (a b : List ℕ) → (k ≡ nodes.New n) ⊎ (k ≡ nodes.Spawn n) → Grown (λ t. n ≡ t) a b → Grown (Aims core ents k cs) a b
+aims_made core ents k cs n a b is g = grown_same (λ t. n ≡ t) (Aims core ents k cs) a b (λ t e. (made_is core ents k cs n is t).1 e) (λ t e. (made_is core ents k cs n is t).0 e) g
+
+-- What a call calls, where its receiver's entity is noted.
+pub aims_call : (core : CoreData) (ents : List (Option ℕ)) (k : NodeKind) (name : ℕ) (cs : List ℕ) (e : ℕ) (a b : List ℕ) → k ≡ nodes.Call name → noted_receiver ents cs ≡ Some e → Grown (MayCall core name e) a b → Grown (Aims core ents k cs) a b
+aims_call core ents k name cs e a b call is g =
+    subst (λ (j : NodeKind). Grown (Aims core ents j cs) a b) (sym call)
+    (grown_same (MayCall core name e) (Aims core ents (nodes.Call name) cs) a b (λ t m. (e, is, m))
+    (λ t q. subst (λ (d : ℕ). MayCall core name d t) (same_Some q.0 e (sym q.1 ∙ is)) q.2) g)
+
+pub aims_unknown : (core : CoreData) (ents : List (Option ℕ)) (k : NodeKind) (name : ℕ) (cs : List ℕ) (a : List ℕ) → k ≡ nodes.Call name → noted_receiver ents cs ≡ None → Grown (Aims core ents k cs) a a
+aims_unknown core ents k name cs a call is =
+    subst (λ (j : NodeKind). Grown (Aims core ents j cs) a a) (sym call) (grown_there (Aims core ents (nodes.Call name) cs) a (λ t k. absurd (none-some k.0 (sym is ∙ k.1))))

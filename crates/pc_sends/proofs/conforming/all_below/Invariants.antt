@@ -1,0 +1,6 @@
+use Rattle.pc_sends.specs.Entities.{MayBe}
+use Rattle.pc_sends.proofs.Filtered.{Filtered}
+use Rattle.pc_sends.proofs.conforming.all_below.Given as goal
+
+abbrev pub invariant-loop-entity : goal.invariant-loop-entity
+invariant-loop-entity l = Filtered (λ d. MayBe l.core d l.known) l.entity l.entities

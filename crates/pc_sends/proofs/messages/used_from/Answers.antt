@@ -1,0 +1,21 @@
+use Rattle.std.proofs.Common.{◌≡◌, ℕ, [], subst, arith}
+use Rattle.pc_sends.specs.Growth.{Grown, Turns}
+use Rattle.pc_sends.specs.Reached.{ReachedUses}
+use Rattle.pc_sends.proofs.Grows.{grown_turn}
+use Rattle.pc_sends.proofs.messages.used_from.Goals as goal
+
+pub loop-number-preserved : goal.loop-number-preserved
+loop-number-preserved c = record {
+  grown =
+      grown_turn (ReachedUses c.args.noted.now.core.now c.args.noted.now.entities.now) c.args.first c.loop-number.number [] c.loop-number.walk.found c.see_reached.new.walk.found
+      c.loop-number.auto.number c.loop-number.invariant.grown c.in_ok-see_reached.ensures.grown;
+  known = c.in_ok-see_reached.ensures.known;
+}
+
+pub returns : goal.returns
+returns c =
+    let high = c.loop-number-test.false in
+    let low = c.loop-number.auto.number-end in
+    let ordered = c.requires.ordered in
+    let same : c.loop-number.number ≡ c.args.end = omega (arith, high, low ordered) in
+    subst (λ (n : ℕ). Grown (Turns (ReachedUses c.args.noted.now.core.now c.args.noted.now.entities.now) c.args.first n) [] c.loop-number.walk.found) same c.loop-number.invariant.grown

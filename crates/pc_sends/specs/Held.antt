@@ -1,0 +1,69 @@
+-- When entities that are noted at nodes tell the truth: over every list of actors, what is called is of the entity that is
+-- noted at the receiver's node.
+use Rattle.std.specs.Prelude.{◌≡◌, ℕ, List, Option, Some, None, slice_get}
+use Rattle.pc_heap.specs.Objects.{ObjectMap}
+use Rattle.pc_heap.specs.declared.value.Value.{Value}
+use Rattle.pc_core.specs.declared.nodes.NodeKind.{NodeKind}
+use Rattle.pc_core.specs.declared.nodes.NodeKind.TheVariants as node
+use Rattle.pc_core.specs.CoreData.{CoreData}
+use Rattle.pc_lists.specs.Options.{◌>>=◌}
+use Rattle.pc_semantics.specs.declared.frames.Frame.{Frame}
+use Rattle.pc_semantics.specs.declared.frames.Task.{Task}
+use Rattle.pc_semantics.specs.declared.frames.Task.TheVariants as task
+use Rattle.pc_semantics.specs.Configurations.{Configuration}
+use Rattle.pc_semantics.specs.Around.{entity_of}
+use Rattle.pc_semantics.specs.Runs.{run_from, after}
+use Rattle.pc_sends.specs.Entities.{MayBe}
+use Rattle.pc_sends.specs.Uses.{last_of, noted_at}
+
+-- ---- the call that comes next
+
+abbrev pub invoked : Task → Option ℕ
+invoked (task.Invoke n) = Some n
+invoked t = None
+
+abbrev pub receiver_of : NodeKind → List ℕ → Option ℕ
+receiver_of (node.Call name) children = last_of children
+receiver_of k children = None
+
+-- The receiver's node and value, where the first of these tasks is a call. The value is on top of the stack.
+abbrev pub call_in : CoreData → List Task → List Value → Option (ℕ × Value)
+call_in core tasks stack = do
+  t ← slice_get tasks 0
+  n ← invoked t
+  x ← slice_get core.nodes n
+  r ← receiver_of x.kind x.children
+  v ← slice_get stack 0
+  Some (r, v)
+
+abbrev pub call_of : CoreData → Frame → Option (ℕ × Value)
+call_of core f = call_in core f.tasks f.stack
+
+-- The frame of actor i that runs.
+abbrev pub running : Configuration → ℕ → Option Frame
+running c i = do
+  a ← slice_get c.actors i
+  slice_get a.frames 0
+
+-- ---- Held
+
+-- The value may be behind node r: its own entity is the noted one, or conforms to it.
+pub record IsNoted (core : CoreData) (ents : List (Option ℕ)) (objects : ObjectMap) (r : ℕ) (v : Value) : Type 0 where
+  pub noted : ℕ
+  pub is_noted : noted_at ents r ≡ Some noted
+  pub own : ℕ
+  pub is_own : entity_of objects v ≡ Some own
+  pub may_be : MayBe core own noted
+
+-- So it is for each actor whose next task is a call.
+abbrev pub HeldAt : CoreData → List (Option ℕ) → Configuration → Type 0
+HeldAt core ents c =
+    (i : ℕ) (f : Frame) (r : ℕ) (v : Value) → running c i ≡ Some f → call_of core f ≡ Some (r, v) → IsNoted core ents c.objects r v
+
+-- At each configuration that is met from c on.
+abbrev pub HeldFrom : CoreData → List (Option ℕ) → Configuration → Type 0
+HeldFrom core ents c = (list : List ℕ) → HeldAt core ents (run_from core c list)
+
+-- Over every list of actors.
+abbrev pub Held : CoreData → List (Option ℕ) → Type 0
+Held core ents = (list : List ℕ) → HeldAt core ents (after core list)

@@ -1,0 +1,9 @@
+pub mod Entities
+pub mod Uses
+pub mod Held
+pub mod Reach
+pub mod Laws
+pub mod Tables
+pub mod Growth
+pub mod Reached
+pub mod Example

@@ -1,0 +1,42 @@
+-- Which methods may ever begin or be sent, and which entity's methods may send which message.
+use Rattle.std.specs.Prelude.{◌≡◌, ◌⊎◌, ℕ, List, Option, Some, slice_get}
+use Rattle.pc_core.specs.declared.declarations.Method.{Method}
+use Rattle.pc_core.specs.declared.declarations.MethodKind.TheVariants as method
+use Rattle.pc_core.specs.declared.nodes.NodeKind.{NodeKind}
+use Rattle.pc_core.specs.declared.nodes.NodeKind.TheVariants as nodes
+use Rattle.pc_core.specs.CoreData.{CoreData}
+use Rattle.pc_core.specs.Nodes.{NamesMethod}
+use Rattle.pc_semantics.specs.Configurations.{main_create}
+use Rattle.pc_sends.specs.Uses.{Uses}
+
+-- ---- Reach
+
+-- The least set of methods with Main's `create` and, with each method, those that its nodes may make, spawn or call.
+pub data Reach (core : CoreData) (ents : List (Option ℕ)) : ℕ → Type 0 where
+  first : {e t : ℕ} → main_create core ≡ Some (e, t) → Reach core ents t
+  next : {m t : ℕ} → Reach core ents m → Uses core ents m t → Reach core ents t
+
+-- ---- Sends
+
+-- What a node of this kind may do with method t is a message: the node is a Spawn, or a Call and t a behaviour.
+abbrev pub IsSent : CoreData → NodeKind → ℕ → Type 0
+IsSent core (nodes.Spawn k) t = Unit {0}
+IsSent core (nodes.Call name) t = NamesMethod core method.Be t
+IsSent core k t = ⊥
+
+-- A node of method m may send method t.
+abbrev pub Posts : CoreData → List (Option ℕ) → ℕ → ℕ → Type 0
+Posts core ents m t = (u : Uses core ents m t) × IsSent core u.node.kind t
+
+-- A method of entity e that is in Reach may send method t.
+pub record Sends (core : CoreData) (ents : List (Option ℕ)) (e t : ℕ) : Type 0 where
+  pub from : ℕ
+  pub reached : Reach core ents from
+  pub method : Method
+  pub is_method : slice_get core.methods from ≡ Some method
+  pub entity : method.entity ≡ e
+  pub posts : Posts core ents from t
+
+-- What may wait in a mailbox: the message with which a program begins, or one that something sends.
+abbrev pub MayWait : CoreData → List (Option ℕ) → ℕ → Type 0
+MayWait core ents t = ((e : ℕ) × (main_create core ≡ Some (e, t))) ⊎ ((e : ℕ) × Sends core ents e t)

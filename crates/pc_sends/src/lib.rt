@@ -1,0 +1,26 @@
+//! Which entity's methods may send which message, over every run at once: the metatheory of accepted programs, run as a check.
+//! For each node it is given the entity that is noted of its value, and goes through the methods that may ever begin.
+//!
+//! Proved: `sends` gives exactly the pairs of the definitions (`specs/Reach.antt`), what is never sent and what is reached, each
+//! once and in order. Where what is noted is held (`specs/Held.antt`), over every list of actors each frame is of a method that is
+//! reached, each message that is sent has its row, and nothing that is never sent waits in a mailbox (`held_covers`). At a call
+//! on a trait or an interface the methods of all that conform to it are looked at, and no others.
+#![tactic(auto)]
+
+mod calls;
+mod conforming;
+mod first;
+mod found;
+mod laws;
+mod messages;
+mod never;
+mod reaching;
+mod rows;
+mod sending;
+mod sorting;
+mod table;
+mod walk;
+
+pub use laws::{held_covers, what_is_never_sent};
+pub use sending::sends;
+pub use table::{Row, Table};

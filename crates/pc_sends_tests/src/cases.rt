@@ -1,0 +1,171 @@
+//! Who sends what in small programs. Each is tried once more where memory was wanting.
+use crate::tables::lines_of;
+use std::alloc::Global;
+
+/// Whether the table of a program has these lines.
+fn tells(alloc: Global, program: &[u8], lines: &[u8]) -> bool {
+    for _ in 0..2 {
+        if let Some(text) = lines_of(alloc, program) {
+            return text.as_slice() == lines;
+        }
+    }
+    false
+}
+
+/// An actor that is told to go, and never to stop.
+#[test]
+fn never_stops(rt: HostRuntime) {
+    let program = b"actor A
+  be go() => None
+  be stop() => None
+actor Main
+  new create(env: Env) => A().go()
+";
+    let lines = b"Main sends A.go
+Main sends A.create
+never A.stop
+";
+    assert!(rt; tells(rt.alloc(), program, lines));
+}
+
+const BANK: &[u8] = b"trait Report
+  fun line(): String
+
+class Account is Report
+  let _name: String
+  var _sum: U64 = 0
+
+  new iso create(name: String) =>
+    _name = name
+
+  fun ref add(n: U64): U64 =>
+    _sum = _sum + n
+    _sum
+
+  fun ref take(n: U64): Bool =>
+    if n <= _sum then
+      _sum = _sum - n
+      true
+    else
+      false
+    end
+
+  fun line(): String => _name + \": \" + _sum.string()
+
+actor Teller
+  let _out: OutStream
+  var _account: Account iso
+
+  new create(out: OutStream, account: Account iso) =>
+    _out = out
+    _account = consume account
+
+  be deposit(n: U64) =>
+    _account.add(n)
+
+  be withdraw(n: U64, to: Teller) =>
+    if _account.take(n) then
+      to.deposit(n)
+    else
+      _out.print(\"refused \" + n.string())
+    end
+
+  be report() =>
+    _out.print(_account.line())
+
+actor Main
+  new create(env: Env) =>
+    let ann: Teller = Teller(env.out, Account(\"ann\"))
+    let bob: Teller = Teller(env.out, Account(\"bob\"))
+    ann.deposit(100)
+    ann.withdraw(30, bob)
+    bob.withdraw(500, ann)
+    ann.report()
+    bob.report()
+";
+
+/// A bank: each behaviour is sent, by its tellers and by Main.
+#[test]
+fn bank(rt: HostRuntime) {
+    let lines = b"Teller sends OutStream.print
+Teller sends Teller.deposit
+Main sends Teller.create
+Main sends Teller.deposit
+Main sends Teller.withdraw
+Main sends Teller.report
+";
+    assert!(rt; tells(rt.alloc(), BANK, lines));
+}
+
+/// A call on an interface may be one of each actor that conforms to it, also of one that is never made.
+#[test]
+fn an_interface_is_called(rt: HostRuntime) {
+    let program = b"interface Sink
+  be take(n: U64)
+actor Counter
+  be take(n: U64) => None
+  be spare() => None
+actor Other
+  be take(n: U64) => None
+actor Apart
+  be take(n: Bool) => None
+actor Main
+  new create(env: Env) =>
+    let sink: Sink tag = Counter
+    sink.take(1)
+";
+    let lines = b"Main sends Counter.take
+Main sends Counter.create
+Main sends Other.take
+never Counter.spare
+never Other.create
+never Apart.take
+never Apart.create
+";
+    assert!(rt; tells(rt.alloc(), program, lines));
+}
+
+/// So may a call on a trait: an actor conforms to it by its methods, also where it does not name it.
+#[test]
+fn a_trait_is_called(rt: HostRuntime) {
+    let program = b"trait Sink
+  be take(n: U64)
+actor Counter is Sink
+  be take(n: U64) => None
+actor Other
+  be take(n: U64) => None
+actor Main
+  new create(env: Env) =>
+    let sink: Sink tag = Counter
+    sink.take(1)
+";
+    let lines = b"Main sends Counter.take
+Main sends Counter.create
+Main sends Other.take
+never Other.create
+";
+    assert!(rt; tells(rt.alloc(), program, lines));
+}
+
+/// What a function sends that nobody calls is not sent; what is sent by a function that is called is sent by its entity.
+#[test]
+fn a_function_is_never_called(rt: HostRuntime) {
+    let program = b"class Idle
+  fun tell(a: A) => a.stop()
+class Busy
+  fun tell(a: A) => a.go()
+actor A
+  be go() => None
+  be stop() => None
+actor Main
+  new create(env: Env) =>
+    let idle: Idle = Idle
+    let busy: Busy = Busy
+    busy.tell(A)
+";
+    let lines = b"Busy sends A.go
+Main sends A.create
+never A.stop
+";
+    assert!(rt; tells(rt.alloc(), program, lines));
+}

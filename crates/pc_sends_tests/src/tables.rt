@@ -1,0 +1,63 @@
+//! From the text of a program to the lines of its table.
+use pc_check::check;
+use pc_core::Core;
+use pc_noted::entities;
+use pc_sends::{Row, Table, sends};
+use pc_test_sources::core_of;
+use std::alloc::Global;
+
+/// The table of a core, by the derivation that is found for it. There is none where there is no derivation, and at want of
+/// memory.
+fn table_of(alloc: Global, core: &Core) -> Option<Table> {
+    let Ok(ann) = check(alloc, core) else {
+        return None;
+    };
+    let Ok(noted) = entities(alloc, core, &ann) else {
+        return None;
+    };
+    sends(alloc, core, noted.as_slice()).ok()
+}
+
+fn push_entity(text: &mut Vec<u8>, core: &Core, number: u32) -> Option<()> {
+    let entity = core.entity_at(number)?;
+    text.extend_from_slice(entity.name.as_slice()).ok()
+}
+
+fn push_method(text: &mut Vec<u8>, core: &Core, number: u32) -> Option<()> {
+    let method = core.method_at(number)?;
+    let name = core.name_at(method.name)?;
+    push_entity(text, core, method.entity)?;
+    text.push(b'.').ok()?;
+    text.extend_from_slice(name.as_slice()).ok()?;
+    text.push(b'\n').ok()
+}
+
+fn push_row(text: &mut Vec<u8>, core: &Core, row: &Row) -> Option<()> {
+    push_entity(text, core, row.from)?;
+    text.extend_from_slice(b" sends ").ok()?;
+    push_method(text, core, row.target)
+}
+
+fn push_never(text: &mut Vec<u8>, core: &Core, number: u32) -> Option<()> {
+    text.extend_from_slice(b"never ").ok()?;
+    push_method(text, core, number)
+}
+
+fn push_table(text: &mut Vec<u8>, core: &Core, table: &Table) -> Option<()> {
+    for row in table.rows.as_slice() {
+        push_row(text, core, row)?;
+    }
+    for number in table.never.as_slice() {
+        push_never(text, core, *number)?;
+    }
+    Some(())
+}
+
+/// A line for each row, and then one for each method that is never sent.
+pub fn lines_of(alloc: Global, program: &[u8]) -> Option<Vec<u8>> {
+    let core = core_of(alloc, program)?;
+    let table = table_of(alloc, &core)?;
+    let mut text = Vec::new(alloc);
+    push_table(&mut text, &core, &table)?;
+    Some(text)
+}
