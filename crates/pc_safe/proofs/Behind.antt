@@ -5,17 +5,17 @@ use Rattle.pc_core.specs.CoreData.{CoreData}
 use Rattle.pc_machine.specs.Machines.{MachineData}
 use Rattle.pc_semantics.specs.Configurations.{Configuration}
 use Rattle.pc_semantics.specs.Safety.{Race, Quiet, Safe}
-use Rattle.pc_safe.specs.declared.fault.SafeFault.{SafeFault}
-use Rattle.pc_safe.specs.declared.fault.SafeFault.TheVariants.{TooLong, Memory}
+use Rattle.pc_steps.specs.declared.fault.StepsFault.{StepsFault}
+use Rattle.pc_steps.specs.declared.fault.StepsFault.TheVariants.{TooLong, Memory}
 use Rattle.pc_safe.specs.Apart.{IsApart, EndsApart}
-use Rattle.pc_safe.specs.Ends.{IsBehind, RunEnds}
+use Rattle.pc_steps.specs.Ends.{IsBehind, RunEnds}
 
 behind_apart : (core : CoreData) (list : List ℕ) (machine : MachineData) → Safe core → IsBehind core list machine → IsApart core machine
 behind_apart core list machine safe is =
     subst (λ (c : Configuration). (Race core c → ⊥) × Quiet core c) (sym is.1) ((safe list).no_race, (safe list).quiet)
 
 -- How a run of a safe core ends.
-pub ends_apart : (core : CoreData) (list : List ℕ) (result : Result MachineData SafeFault) → Safe core → RunEnds core list result → EndsApart core result
+pub ends_apart : (core : CoreData) (list : List ℕ) (result : Result MachineData StepsFault) → Safe core → RunEnds core list result → EndsApart core result
 ends_apart core list (Ok machine) safe ends = behind_apart core list machine safe ends.1
 ends_apart core list (Err (TooLong step machine)) safe ends = behind_apart core list machine safe ends.1
 ends_apart core list (Err Memory) safe ends = tt

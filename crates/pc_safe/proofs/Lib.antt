@@ -1,3 +1,1 @@
 mod Behind
-mod Stepping
-mod Underway

@@ -3,17 +3,17 @@ use Rattle.std.specs.Prelude.{Result, MatchResult}
 use Rattle.pc_core.specs.CoreData.{CoreData}
 use Rattle.pc_machine.specs.Machines.{MachineData}
 use Rattle.pc_semantics.specs.Safety.{Race, Quiet}
-use Rattle.pc_safe.specs.declared.fault.SafeFault.{SafeFault}
-use Rattle.pc_safe.specs.declared.fault.SafeFault.TheVariants.{TooLong, Memory}
+use Rattle.pc_steps.specs.declared.fault.StepsFault.{StepsFault}
+use Rattle.pc_steps.specs.declared.fault.StepsFault.TheVariants.{TooLong, Memory}
 
 -- The machine's configuration has no race, and is quiet.
 abbrev pub IsApart : CoreData → MachineData → Type 0
 IsApart core machine = (Race core machine.configuration → ⊥) × Quiet core machine.configuration
 
 -- So is that of the machine before a step that is too long.
-abbrev pub StopsApart : CoreData → SafeFault → Type 0
+abbrev pub StopsApart : CoreData → StepsFault → Type 0
 StopsApart core (TooLong step machine) = IsApart core machine
 StopsApart core Memory = Unit {0}
 
-abbrev pub EndsApart : CoreData → Result MachineData SafeFault → Type 0
+abbrev pub EndsApart : CoreData → Result MachineData StepsFault → Type 0
 EndsApart core result = MatchResult result (IsApart core) (StopsApart core)

@@ -1,15 +1,14 @@
-//! The steps of a list of actors, in a machine whose core has a valid annotation.
-ghost use Rattle.std.specs.Prelude.{◌≡◌, ◌≤◌, length, List as Sequence, ℕ};
+//! The run of a list of actors, of a core that has a valid annotation.
+ghost use Rattle.std.specs.Prelude.{◌≤◌, length, List as Sequence, ℕ};
 ghost use Rattle.pc_rules.specs.Valid.{Valid};
-ghost use Rattle.pc_semantics.specs.Configurations.{start as beginning};
 ghost use Rattle.pc_semantics.specs.Runs.{after};
 ghost use Rattle.pc_semantics.specs.Safety.{LacksNothing};
-ghost use Rattle.pc_safe.specs.Ends.{RunEnds, list_limit};
+ghost use Rattle.pc_steps.specs.Ends.{RunEnds, list_limit};
 
-use crate::fault::SafeFault;
 use pc_ann::Ann;
 use pc_core::Core;
-use pc_machine::{Machine, Outcome, start};
+use pc_machine::{Machine, start};
+use pc_steps::{StepsFault, take_steps};
 use pc_types::accepted_never_lacks;
 use std::alloc::Global;
 
@@ -27,7 +26,7 @@ pub fn accepted_runs<'p>(
     core: &'p Core,
     ann: &Ann,
     actors: &[u32],
-) -> Result<Machine<'p>, SafeFault<'p>>
+) -> Result<Machine<'p>, StepsFault<'p>>
     requires valid { Valid core.now ann.now }
     requires few { length actors.now ≤ list_limit }
 
@@ -42,26 +41,4 @@ pub fn accepted_runs<'p>(
     let _notes = &ann.notes;
     let machine = start(alloc, core)?;
     take_steps(machine, actors)
-}
-
-// Takes the steps of a list, in a machine that was just started.
-fn take_steps<'p>(machine: Machine<'p>, actors: &[u32]) -> Result<Machine<'p>, SafeFault<'p>>
-    requires started { machine.configuration ≡ beginning machine.core }
-    requires never_lacks { (list : Sequence ℕ) → LacksNothing machine.core (after machine.core list) }
-    requires few { length actors.now ≤ list_limit }
-    ensures ends { RunEnds machine.entry.core actors.now result }
-{
-    let mut machine = machine;
-    for at in 0..actors.len() {
-        match machine.step(actors[at])? {
-            Outcome::Moved => {}
-            Outcome::Skipped => {}
-            Outcome::TooLong => {
-                let step = at as u64 + 1;
-                return Err(SafeFault::TooLong { step, machine });
-            }
-            Outcome::Lacks(_) => unreachable!(),
-        }
-    }
-    Ok(machine)
 }

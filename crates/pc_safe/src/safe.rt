@@ -3,14 +3,14 @@ ghost use Rattle.std.specs.Prelude.{◌≤◌, length};
 ghost use Rattle.pc_rules.specs.Valid.{Valid, Derivable};
 ghost use Rattle.pc_semantics.specs.Safety.{Safe};
 ghost use Rattle.pc_safe.specs.Apart.{EndsApart};
-ghost use Rattle.pc_safe.specs.Ends.{RunEnds, list_limit};
+ghost use Rattle.pc_steps.specs.Ends.{RunEnds, list_limit};
 
-use crate::fault::SafeFault;
 use crate::runs::accepted_runs;
 use pc_ann::Ann;
 use pc_core::Core;
 use pc_machine::Machine;
 use pc_regions::valid_is_safe;
+use pc_steps::StepsFault;
 use std::alloc::Global;
 
 /// Runs an accepted core: the steps of these actors, one after the other, from its start. The list has at most 4,000,000
@@ -27,7 +27,7 @@ pub fn accepted_is_safe<'p>(
     core: &'p Core,
     ann: &Ann,
     actors: &[u32],
-) -> Result<Machine<'p>, SafeFault<'p>>
+) -> Result<Machine<'p>, StepsFault<'p>>
     requires valid { Valid core.now ann.now }
     requires few { length actors.now ≤ list_limit }
 
