@@ -1,0 +1,16 @@
+pub mod Like
+pub mod LikeBasic
+pub mod LikeTasks
+pub mod Sim
+pub mod SimHeaps
+pub mod SimBoth
+pub mod SimOne
+pub mod SimEvent
+pub mod Outcomes
+pub mod Closed
+pub mod Order
+pub mod Links
+pub mod Events
+pub mod Boxes
+pub mod Totals
+pub mod Pasts

@@ -1,0 +1,4 @@
+pub mod Before
+pub mod Conflict
+pub mod Clock
+pub mod Laws

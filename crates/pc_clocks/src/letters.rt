@@ -1,0 +1,48 @@
+//! The clocks of the messages that wait for an actor.
+ghost use Rattle.std.specs.Prelude.{◌≡◌, ◌++◌, ◌∷◌, [], length, drop, slice_get, OnOk};
+
+use pc_caps::List;
+use std::alloc::{AllocError, Global};
+use std::collections::VecDeque;
+use std::marker::Model;
+
+/// The clocks of the messages that wait for an actor, that of the oldest first.
+#[derive(Drop)]
+pub struct Letters {
+    waiting: VecDeque<List<u64>>,
+}
+
+impl Model for Letters {
+    ghost use Rattle.std.specs.Prelude.{ℕ, List as Sequence};
+
+    ghost Value = { Sequence (Sequence ℕ) };
+
+    ghost view = { λ l. l.waiting.items };
+}
+
+impl Letters {
+    /// No message waits. It takes no memory.
+    pub fn new(alloc: Global) -> Letters
+        ensures { result ≡ [] }
+    {
+        Letters {
+            waiting: VecDeque::new(alloc),
+        }
+    }
+
+    /// One more message, behind the others.
+    pub fn put(&mut self, clock: List<u64>) -> Result<(), AllocError>
+        ensures { OnOk result (self.new ≡ self.old ++ clock ∷ []) }
+    {
+        self.waiting.push_back(clock)?;
+        Ok(())
+    }
+
+    /// The oldest message goes. `None` exactly where none waits.
+    pub fn take(&mut self) -> Option<List<u64>>
+        ensures clock { result ≡ slice_get self.old 0 }
+        ensures rest { self.new ≡ drop 1 self.old }
+    {
+        self.waiting.pop_front()
+    }
+}

@@ -1,0 +1,11 @@
+pub mod Keeping
+pub mod Rests
+pub mod Ends
+pub mod Clashing
+pub mod Verdicts
+pub mod Recording
+pub mod Spots
+pub mod Covering
+pub mod Stepping
+pub mod Turning
+pub mod Whole

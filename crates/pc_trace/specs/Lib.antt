@@ -1,0 +1,9 @@
+pub mod Traces
+pub mod Turns
+pub mod Keeps
+pub mod Clashes
+pub mod Noted
+pub mod Reached
+pub mod Lasts
+pub mod Covers
+pub mod Rows

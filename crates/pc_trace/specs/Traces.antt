@@ -1,0 +1,103 @@
+-- What is told of a run: its accesses with their clocks, and whether they are ordered.
+use Rattle.std.specs.Prelude.{◌≡◌, ◌<◌, ◌≤◌, ℕ, suc, List, length, Some, None, slice_get}
+use Rattle.pc_lists.specs.Places.{Each}
+use Rattle.pc_core.specs.CoreData.{CoreData}
+use Rattle.pc_ahead.specs.Ahead.{ahead_of}
+use Rattle.pc_ahead.specs.declared.ahead.Ahead.TheVariants as ahead
+use Rattle.pc_semantics.specs.declared.access.Access.{Access}
+use Rattle.pc_semantics.specs.declared.outcome.Lack.{Lack}
+use Rattle.pc_semantics.specs.declared.outcome.Outcome.TheVariants as outcome
+use Rattle.pc_semantics.specs.Runs.{after, outcomes}
+use Rattle.pc_semantics.specs.Safety.{access}
+use Rattle.pc_semantics.specs.Text.{end_of}
+use Rattle.pc_before.specs.Before.{at_place, Event, Before}
+use Rattle.pc_before.specs.Clock.{Clocks}
+use Rattle.pc_before.specs.Conflict.{Conflict}
+use Rattle.pc_trace.specs.declared.touch.Touch.{Touch}
+use Rattle.pc_trace.specs.declared.touch.Trace.{Trace}
+use Rattle.pc_trace.specs.declared.touch.Verdict.{Verdict}
+use Rattle.pc_trace.specs.declared.touch.Verdict.TheVariants as verdict
+use Rattle.pc_trace.specs.declared.fault.TraceFault.{TraceFault}
+use Rattle.pc_trace.specs.declared.fault.TraceFault.TheVariants as fault
+use Rattle.pc_trace.specs.declared.fault.AcceptedFault.{AcceptedFault}
+use Rattle.pc_trace.specs.declared.fault.AcceptedFault.TheVariants as accepted
+
+-- how many actors a clock may speak of, and how many places a list may have
+abbrev pub actor_limit : ℕ
+actor_limit = 64
+
+abbrev pub list_limit : ℕ
+list_limit = 4000000
+
+-- ---- accesses
+
+-- The access is that of the event at place p, and the clock is the clock of this event.
+pub record TouchAt (core : CoreData) (list : List ℕ) (p : ℕ) (t : Touch) : Type 0 where
+  pub event : Event core list p t.actor
+  pub touches : access core (at_place core list p) t.actor ≡ Some (record { address = t.address; field = t.field; write = t.write })
+  pub clock : Clocks core list p t.clock
+
+-- All accesses of the run, in order.
+pub record AllTouches (core : CoreData) (list : List ℕ) (touches : List Touch) : Type 0 where
+  pub each : Each (λ k t. (p : ℕ) × (t.place ≡ suc p) × TouchAt core list p t) touches
+  pub order : (k m : ℕ) (t u : Touch) → k < m → slice_get touches k ≡ Some t → slice_get touches m ≡ Some u → t.place < u.place
+  pub all : (p i : ℕ) (x : Access) → Event core list p i → access core (at_place core list p) i ≡ Some x → (k : ℕ) × (t : Touch) × (slice_get touches k ≡ Some t) × (t.place ≡ suc p)
+
+-- ---- the verdict
+
+-- The earlier event q conflicts with p, and is not before it.
+pub record Unordered (core : CoreData) (list : List ℕ) (q p : ℕ) : Type 0 where
+  pub earlier : q < p
+  pub conflict : Conflict core list q p
+  pub not_before : Before core list q p → ⊥
+
+-- Of the places in a list, before p and behind q, all that conflict with p are before it.
+abbrev pub OrderedBetween : CoreData → List ℕ → ℕ → ℕ → Type 0
+OrderedBetween core list q p = (r : ℕ) → q < r → r < p → Conflict core list r p → Before core list r p
+
+-- All events that conflict with one that is earlier than p.
+abbrev pub OrderedUpTo : CoreData → List ℕ → ℕ → Type 0
+OrderedUpTo core list p = (q r : ℕ) → q < r → r < p → Conflict core list q r → Before core list q r
+
+-- Nothing is unordered; or p is the first event with an earlier one that is not ordered with it, and q the latest of these.
+abbrev pub VerdictIs : CoreData → List ℕ → Verdict → Type 0
+VerdictIs core list verdict.Ordered = (q p : ℕ) → q < p → Conflict core list q p → Before core list q p
+VerdictIs core list (verdict.Conflict first second) =
+    (q : ℕ) × (p : ℕ) × (first ≡ suc q) × (second ≡ suc p) × Unordered core list q p × OrderedUpTo core list p × OrderedBetween core list q p
+
+-- ---- the end of a trace
+
+-- The run was not ended by a step, and made no more actors than a clock may speak of.
+pub record RanOn (core : CoreData) (list : List ℕ) : Type 0 where
+  pub goes_on : end_of (outcomes core list) ≡ None
+  pub few : length (after core list).actors ≤ actor_limit
+
+abbrev pub IsTrace : CoreData → List ℕ → Trace → Type 0
+IsTrace core list t = RanOn core list × AllTouches core list t.touches × VerdictIs core list t.verdict
+
+-- The step at this place makes an actor, and there are as many as there may be.
+pub record TooManyAt (core : CoreData) (list : List ℕ) (n : ℕ) : Type 0 where
+  pub p : ℕ
+  pub i : ℕ
+  pub place : n ≡ suc p
+  pub event : Event core list p i
+  pub spawns : ahead_of core (at_place core list p) i ≡ ahead.Spawn
+  pub full : length (at_place core list p).actors ≡ actor_limit
+
+-- The run ends at this place, and made no more actors than there may be.
+abbrev pub TooLongAt : CoreData → List ℕ → ℕ → Type 0
+TooLongAt core list n = (end_of (outcomes core list) ≡ Some (n, outcome.TooLong)) × (length (after core list).actors ≤ actor_limit)
+
+abbrev pub LacksAt : CoreData → List ℕ → ℕ → Type 0
+LacksAt core list n = (l : Lack) × (end_of (outcomes core list) ≡ Some (n, outcome.Lacks l)) × (length (after core list).actors ≤ actor_limit)
+
+abbrev pub TraceStops : CoreData → List ℕ → TraceFault → Type 0
+TraceStops core list (fault.TooLong n) = TooLongAt core list n
+TraceStops core list (fault.Lacks n) = LacksAt core list n
+TraceStops core list (fault.TooMany n) = TooManyAt core list n
+TraceStops core list fault.Memory = Unit {0}
+
+abbrev pub AcceptedStops : CoreData → List ℕ → AcceptedFault → Type 0
+AcceptedStops core list (accepted.TooLong n) = TooLongAt core list n
+AcceptedStops core list (accepted.TooMany n) = TooManyAt core list n
+AcceptedStops core list accepted.Memory = Unit {0}

@@ -1,0 +1,57 @@
+-- What an event does to the clocks that are kept.
+use Rattle.std.specs.Prelude.{◌≡◌, ◌+◌, ◌<◌, ◌≤◌, ◌^◌, ℕ, Bool, true, false, List, [], ◌∷◌, ◌++◌, length, drop, IfSome, IsSomeAnd, Result, Ok, Err, slice_get}
+use Rattle.pc_clocks.specs.declared.seat.Seat.{Seat}
+use Rattle.pc_clocks.specs.Seats.{Advanced, ChangedAt, clock_of, number}
+use Rattle.pc_semantics.specs.declared.outcome.Lack.{Lack}
+use Rattle.pc_semantics.specs.declared.outcome.Outcome.{Outcome}
+use Rattle.pc_semantics.specs.declared.outcome.Outcome.TheVariants as outcome
+use Rattle.pc_trace.specs.declared.fault.TraceFault.{TraceFault}
+use Rattle.pc_trace.specs.declared.fault.TraceFault.TheVariants as fault
+use Rattle.pc_ahead.specs.declared.ahead.Ahead.{Ahead}
+use Rattle.pc_ahead.specs.declared.ahead.Ahead.TheVariants as ahead
+
+-- An actor does something, where there are so many actors.
+abbrev pub Acts : ℕ → ℕ → List Seat → List Seat → Type 0
+Acts count actor old new = ChangedAt old new actor (λ s t. Advanced count actor s.clock [] t.clock × (t.letters ≡ s.letters))
+
+-- It takes its oldest message.
+abbrev pub Receives : ℕ → ℕ → List Seat → List Seat → Type 0
+Receives count actor old new = ChangedAt old new actor (λ s t. IfSome (slice_get s.letters 0) (λ l. Advanced count actor s.clock l t.clock) × (t.letters ≡ drop 1 s.letters))
+
+-- A message with its clock is put into a mailbox.
+abbrev pub Posts : ℕ → ℕ → List Seat → List Seat → Type 0
+Posts sender receiver old new = ChangedAt old new receiver (λ s t. (t.clock ≡ s.clock) × (t.letters ≡ s.letters ++ clock_of old sender ∷ []))
+
+-- A new actor is there, with a message that has its maker's clock.
+abbrev pub Born : ℕ → List Seat → List Seat → Type 0
+Born maker old new = new ≡ old ++ record { clock = []; letters = clock_of old maker ∷ [] } ∷ []
+
+-- Behind an event of this kind.
+abbrev pub Follows : Ahead → ℕ → ℕ → List Seat → List Seat → Type 0
+Follows ahead.Take count actor old new = Receives count actor old new
+Follows ahead.Task count actor old new = Acts count actor old new
+Follows (ahead.Send receiver) count actor old new = (mid : List Seat) × Acts count actor old mid × Posts actor receiver mid new
+Follows ahead.Spawn count actor old new = (mid : List Seat) × Acts count actor old mid × Born actor mid new
+Follows x count actor old new = Unit {0}
+
+-- What an event of this kind needs, where there are so many actors: the actor, whose clock has no number that is too large; the
+-- message that it takes, with such a clock too; and the receiver of a message.
+pub record Ready (kind : Ahead) (count actor : ℕ) (seats : List Seat) : Type 0 where
+  pub there : actor < count
+  pub seat : IsSomeAnd (slice_get seats actor) (λ s. (length s.clock ≤ count) × (number s.clock actor + 1 < 2 ^ 64))
+  pub letter : kind ≡ ahead.Take → IsSomeAnd (slice_get seats actor) (λ s. IsSomeAnd (slice_get s.letters 0) (λ l. (length l ≤ count) × (number l actor + 1 < 2 ^ 64)))
+  pub receiver : (r : ℕ) → kind ≡ ahead.Send r → r < length seats
+
+-- What is said of the outcome of a step: it moved; it was skipped; or it ends the run at this place.
+abbrev pub Says : Outcome → ℕ → Result Bool TraceFault → Type 0
+Says o place (Ok true) = o ≡ outcome.Moved
+Says o place (Ok false) = o ≡ outcome.Skipped
+Says o place (Err (fault.TooLong n)) = (n ≡ place) × (o ≡ outcome.TooLong)
+Says o place (Err (fault.Lacks n)) = (n ≡ place) × ((l : Lack) × (o ≡ outcome.Lacks l))
+Says o place (Err (fault.TooMany n)) = ⊥
+Says o place (Err fault.Memory) = ⊥
+
+-- A step of this kind makes no actor where there are as many as there may be; or it does, and that is the answer.
+abbrev pub Room : Ahead → ℕ → ℕ → Result (Unit {0}) TraceFault → Type 0
+Room kind count place (Ok u) = kind ≡ ahead.Spawn → count < 64
+Room kind count place (Err f) = (f ≡ fault.TooMany place) × (kind ≡ ahead.Spawn) × (count ≡ 64)

@@ -1,0 +1,24 @@
+//! The accesses of a run with their clocks, and whether those that conflict are ordered.
+//!
+//! `specs/Traces.antt` says what is told. Two accesses conflict where they are of different actors, touch one field of one object,
+//! and one of them writes (`pc_before`). The clock of an event says of each actor how many of its events are this one or come before
+//! it: one event comes before another where both are one actor's and it is the earlier one, where it puts a message into a mailbox
+//! and the other takes this message, or by a chain of these.
+//!
+//! Proved: `trace` tells exactly the accesses of the run, with these clocks, for any core; its verdict names the first event that is
+//! not ordered with an earlier one that it conflicts with, and the latest such, or there is none. `accepted_trace` tells the same of
+//! a safe core, and there is none.
+#![tactic(auto)]
+
+mod clash;
+mod fault;
+mod follow;
+mod lasts;
+mod recorder;
+mod row;
+mod touch;
+mod tracing;
+
+pub use fault::{AcceptedFault, TraceFault};
+pub use touch::{Touch, Trace, Verdict};
+pub use tracing::{accepted_trace, trace};

@@ -1,0 +1,150 @@
+//! The accesses of a run, with their clocks.
+ghost use Rattle.std.specs.Prelude.{◌≡◌, ◌+◌, ◌<◌, ◌≤◌, [], IfErr, IfOk, MatchResult, OnErr, OnOk, length};
+ghost use Rattle.pc_clocks.specs.Seats.{clock_of};
+ghost use Rattle.pc_trace.specs.Keeps.{first_seats as seats_at_start};
+ghost use Rattle.pc_trace.specs.Noted.{Noted};
+ghost use Rattle.pc_trace.specs.Reached.{Reached, noted_with};
+ghost use Rattle.pc_trace.specs.Traces.{RanOn, TraceStops, list_limit};
+ghost use Rattle.pc_trace.specs.Turns.{Room, Says};
+
+use crate::fault::TraceFault;
+use crate::follow::follow;
+use crate::touch::Touch;
+use pc_ahead::Ahead;
+use pc_caps::List;
+use pc_clocks::Seats;
+use pc_core::Core;
+use pc_machine::{Machine, start};
+use pc_semantics::{Access, Outcome};
+use std::alloc::{AllocError, Global};
+
+// How many actors a clock may speak of.
+const ACTORS: u32 = 64;
+
+// The clocks where a program begins: nobody, or the stream and Main, for whom a message waits that no event sent.
+fn first_seats(alloc: Global, actors: u32) -> Result<Seats, AllocError>
+    ensures { IfOk result (λ seats. seats ≡ seats_at_start actors) }
+{
+    let mut seats = Seats::new(alloc);
+    if actors > 0 {
+        seats.add_idle(alloc)?;
+        seats.add_waiting(alloc, List::new(alloc))?;
+    }
+    Ok(seats)
+}
+
+// There is room for another actor, where a step makes one.
+fn room(ahead: Ahead, actors: u32, place: u64) -> Result<(), TraceFault>
+    requires { actors ≤ 64 }
+    ensures { Room ahead actors place result }
+{
+    match ahead {
+        Ahead::Spawn => {
+            if actors < ACTORS {
+                Ok(())
+            } else {
+                Err(TraceFault::TooMany(place))
+            }
+        }
+        Ahead::Skipped => Ok(()),
+        Ahead::Lacks => Ok(()),
+        Ahead::TooLong => Ok(()),
+        Ahead::Take => Ok(()),
+        Ahead::Send(_) => Ok(()),
+        Ahead::Task => Ok(()),
+    }
+}
+
+// Whether a step moved, where it did not end the run.
+fn moved(outcome: Outcome, place: u64) -> Result<bool, TraceFault>
+    ensures { Says outcome place result }
+{
+    match outcome {
+        Outcome::Moved => Ok(true),
+        Outcome::Skipped => Ok(false),
+        Outcome::Lacks(_) => Err(TraceFault::Lacks(place)),
+        Outcome::TooLong => Err(TraceFault::TooLong(place)),
+    }
+}
+
+// One more access, where an event has one.
+fn note(
+    alloc: Global,
+    seats: &Seats,
+    touches: &mut List<Touch>,
+    access: Option<Access>,
+    actor: u32,
+    place: u64,
+) -> Result<(), AllocError>
+    ensures { OnOk result (touches.new ≡ noted_with access place actor (clock_of seats.now actor) touches.old) }
+{
+    match access {
+        Some(access) => {
+            let clock = seats.clock(alloc, actor as usize)?;
+            touches.push(Touch {
+                place,
+                actor,
+                address: access.address,
+                field: access.field,
+                write: access.write,
+                clock,
+            })
+        }
+        None => Ok(()),
+    }
+}
+
+// One turn of a run.
+fn turn(
+    alloc: Global,
+    machine: &mut Machine<'_>,
+    seats: &mut Seats,
+    touches: &mut List<Touch>,
+    list: &[u32],
+    at: usize,
+) -> Result<(), TraceFault>
+    requires within { at < length list.now }
+    requires few { length list.now ≤ list_limit }
+    requires reached { Reached machine.old.core list.now at machine.old.configuration seats.old touches.old }
+    ensures ok { OnOk result (Reached machine.old.core list.now (at + 1) machine.new.configuration seats.new touches.new) }
+    ensures err { IfErr result (TraceStops machine.old.core list.now) }
+    ensures core { machine.new.core ≡ machine.old.core }
+{
+    let actor = list[at];
+    let place = at as u64 + 1;
+    let ahead = machine.ahead(actor);
+    let actors = machine.actors();
+    let access = machine.access(actor);
+    match room(ahead, actors, place) {
+        Ok(()) => {}
+        Err(fault) => return Err(fault),
+    }
+    let outcome = machine.step(actor)?;
+    match moved(outcome, place) {
+        Ok(true) => {}
+        Ok(false) => return Ok(()),
+        Err(fault) => return Err(fault),
+    }
+    follow(alloc, seats, ahead, actors as usize, actor as usize)?;
+    note(alloc, seats, touches, access, actor, place)?;
+    Ok(())
+}
+
+/// The accesses of a run of a core, in order, with their clocks.
+///
+/// # Errors
+/// - `TooLong` and `Lacks` exactly where a step of the list ends the run so, with its place, counted from 1.
+/// - `TooMany` exactly where a step would make the 65th actor, with its place; the first of these three.
+/// - `Memory` at want of memory.
+pub fn recorded(alloc: Global, core: &Core, list: &[u32]) -> Result<List<Touch>, TraceFault>
+    requires { length list.now ≤ list_limit }
+    ensures { MatchResult result (λ touches. RanOn core.now list.now × Noted core.now list.now (length list.now) touches) (TraceStops core.now list.now) }
+{
+    let mut machine = start(alloc, core)?;
+    let mut seats = first_seats(alloc, machine.actors())?;
+    let mut touches = List::new(alloc);
+    for at in 0..list.len() {
+        turn(alloc, &mut machine, &mut seats, &mut touches, list, at)?;
+    }
+    Ok(touches)
+}
