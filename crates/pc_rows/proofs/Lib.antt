@@ -1,0 +1,4 @@
+mod Grouping
+mod OneLine
+mod Spelling
+pub mod Spreads

@@ -1,0 +1,25 @@
+-- Steps in rows: turns that are as long as they can be.
+use Rattle.std.specs.Prelude.{◌≡◌, ◌≢◌, ℕ, ◌<◌, ◌^◌, List, [], ◌∷◌, ⊤}
+use Rattle.std.specs.List.{AllByRecursion}
+use Rattle.pc_sched.specs.declared.turns.Turn.{Turn}
+use Rattle.pc_run.specs.Spreading.{spread}
+
+-- The turn is of another actor than the first of these.
+abbrev pub Differs : Turn → List Turn → Type 0
+Differs turn [] = ⊤
+Differs turn (next ∷ more) = turn.actor ≢ next.actor
+
+-- Each turn has a step, and no two that follow one another are of one actor. So none of them could be longer.
+abbrev pub AreRows : List Turn → Type 0
+AreRows [] = ⊤
+AreRows (turn ∷ turns) = (0 < turn.times) × Differs turn turns × AreRows turns
+
+-- Its numbers are such as a schedule may have.
+abbrev pub Fits : Turn → Type 0
+Fits turn = (turn.actor < 2 ^ 32) × (turn.times < 2 ^ 32)
+
+-- The steps of a list in rows.
+pub record RowsOf (list : List ℕ) (turns : List Turn) : Type 0 where
+  pub steps : spread turns ≡ list
+  pub rows : AreRows turns
+  pub fit : AllByRecursion Fits turns

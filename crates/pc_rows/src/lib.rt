@@ -1,0 +1,14 @@
+//! Schedules from lists of steps: the steps of a schedule's turns as one list, and a list as the line of a schedule.
+//!
+//! Proved: `steps_of` gives the actors of all steps of some turns. `line_of` writes one line that is a schedule of exactly the
+//! steps of a list, in which each longest row of steps of one actor is one word; a list has one such line (`lines_are_one`).
+#![tactic(auto)]
+
+mod laws;
+mod lines;
+mod rows;
+mod spreading;
+
+pub use laws::lines_are_one;
+pub use lines::line_of;
+pub use spreading::steps_of;

@@ -1,0 +1,28 @@
+//! The steps of turns as one list.
+ghost use Rattle.std.specs.Prelude.{◌≡◌, ◌++◌, replicate, IfOk, OnOk};
+ghost use Rattle.pc_run.specs.Spreading.{spread};
+
+use pc_caps::List;
+use pc_sched::Turn;
+use std::alloc::{AllocError, Global};
+
+// Puts the steps of a turn behind a list.
+fn push_steps(list: &mut List<u32>, turn: Turn) -> Result<(), AllocError>
+    ensures { OnOk result (list.new ≡ list.old ++ replicate turn.times turn.actor) }
+{
+    for _step in 0..turn.times {
+        list.push(turn.actor)?;
+    }
+    Ok(())
+}
+
+/// The actors of all steps that turns are, one after the other.
+pub fn steps_of(alloc: Global, turns: &[Turn]) -> Result<List<u32>, AllocError>
+    ensures { IfOk result (λ list. list ≡ spread turns.now) }
+{
+    let mut list = List::new(alloc);
+    for turn in turns {
+        push_steps(&mut list, *turn)?;
+    }
+    Ok(list)
+}
