@@ -1,9 +1,10 @@
 -- The written forms are taken, and their matches are the names.
-use Rattle.std.proofs.Common.{◌≡◌, ℕ, [], ◌∷◌, Some, true, false, refl, nat_eq}
-use Rattle.clap.specs.Words.{takes}
+use Rattle.std.proofs.Common.{◌≡◌, ◌∙◌, ℕ, List, [], ◌∷◌, Some, None, true, false, not, ◌&&◌, refl, ap, nat_eq}
+use Rattle.std.specs.Prelude.{if◌then◌else◌, option_and_then}
+use Rattle.clap.specs.Words.{fault_of, subcommand_of, takes}
 use Rattle.clap.proofs.OnLiterals.{clap_on_literals}
-use Rattle.pc_args.specs.Asked.{Text, check, command_of, is_refused, judge, make, run, show}
-use Rattle.pc_args.specs.Forms.{AskFor, WrittenFormsAreTaken, check_words, is_plain, judge_words, make_words, run_words, show_words}
+use Rattle.pc_args.specs.Asked.{Asked, Text, check, command_of, has_fault, is_refused, judge, make, named, run, sends, show, swap, trace}
+use Rattle.pc_args.specs.Forms.{AskFor, WrittenFormsAreTaken, check_words, is_plain, judge_words, make_words, run_words, sends_words, show_words, swap_words, trace_words}
 use Rattle.pc_args.specs.Line.{rcap}
 use Rattle.std.proofs.lemmas.Bool.{not-true}
 
@@ -50,6 +51,58 @@ make_read : (c d : ℕ) (rest more : Text) → nat_eq c 45 ≡ false → nat_eq 
 unfolding clap_on_literals command_of is_refused
 make_read c d rest more plain also = simp (plain, also) refl
 
+swap_taken : (c d b : ℕ) (rest more last : Text) → nat_eq c 45 ≡ false → nat_eq d 45 ≡ false → nat_eq b 45 ≡ false
+    → takes rcap (swap_words (c ∷ rest) (d ∷ more) (b ∷ last)) ≡ true
+unfolding clap_on_literals
+swap_taken c d b rest more last plain also behind = simp plain (simp also (simp behind refl))
+
+swap_found : (c d b : ℕ) (rest more last : Text) → nat_eq c 45 ≡ false → nat_eq d 45 ≡ false → nat_eq b 45 ≡ false
+    → option_and_then named (subcommand_of rcap (swap_words (c ∷ rest) (d ∷ more) (b ∷ last))) ≡ Some (swap (c ∷ rest) (d ∷ more) (b ∷ last))
+unfolding clap_on_literals
+swap_found c d b rest more last plain also behind = simp plain (simp also (simp behind refl))
+
+trace_taken : (c d : ℕ) (rest more : Text) → nat_eq c 45 ≡ false → nat_eq d 45 ≡ false → takes rcap (trace_words (c ∷ rest) (d ∷ more)) ≡ true
+unfolding clap_on_literals
+trace_taken c d rest more plain also = simp plain (simp also refl)
+
+trace_found : (c d : ℕ) (rest more : Text) → nat_eq c 45 ≡ false → nat_eq d 45 ≡ false
+    → option_and_then named (subcommand_of rcap (trace_words (c ∷ rest) (d ∷ more))) ≡ Some (trace (c ∷ rest) (d ∷ more))
+unfolding clap_on_literals
+trace_found c d rest more plain also = simp plain (simp also refl)
+
+sends_taken : (c : ℕ) (rest : Text) → nat_eq c 45 ≡ false → takes rcap (sends_words (c ∷ rest)) ≡ true
+unfolding clap_on_literals
+sends_taken c rest plain = simp plain refl
+
+sends_found : (c : ℕ) (rest : Text) → nat_eq c 45 ≡ false → option_and_then named (subcommand_of rcap (sends_words (c ∷ rest))) ≡ Some (sends (c ∷ rest))
+unfolding clap_on_literals
+sends_found c rest plain = simp plain refl
+
+-- Words that are taken are not refused.
+unrefused : (words : List Text) → takes rcap words ≡ true → is_refused words ≡ false
+unfolding is_refused
+unrefused words t = ap (λ b. not b && has_fault (fault_of rcap words)) t
+
+read_from : (words : List Text) (asked : Asked) → takes rcap words ≡ true → option_and_then named (subcommand_of rcap words) ≡ Some asked → command_of words ≡ Some asked
+unfolding command_of
+read_from words asked t e = ap (λ b. if b then None else option_and_then named (subcommand_of rcap words)) (unrefused words t) ∙ e
+
+swap_asks : (c d b : ℕ) (rest more last : Text) → nat_eq c 45 ≡ false → nat_eq d 45 ≡ false → nat_eq b 45 ≡ false
+    → AskFor (swap_words (c ∷ rest) (d ∷ more) (b ∷ last)) (swap (c ∷ rest) (d ∷ more) (b ∷ last))
+swap_asks c d b rest more last plain also behind =
+    let t = swap_taken c d b rest more last plain also behind in
+    (t, read_from (swap_words (c ∷ rest) (d ∷ more) (b ∷ last)) (swap (c ∷ rest) (d ∷ more) (b ∷ last)) t (swap_found c d b rest more last plain also behind))
+
+trace_asks : (c d : ℕ) (rest more : Text) → nat_eq c 45 ≡ false → nat_eq d 45 ≡ false → AskFor (trace_words (c ∷ rest) (d ∷ more)) (trace (c ∷ rest) (d ∷ more))
+trace_asks c d rest more plain also =
+    let t = trace_taken c d rest more plain also in
+    (t, read_from (trace_words (c ∷ rest) (d ∷ more)) (trace (c ∷ rest) (d ∷ more)) t (trace_found c d rest more plain also))
+
+sends_asks : (c : ℕ) (rest : Text) → nat_eq c 45 ≡ false → AskFor (sends_words (c ∷ rest)) (sends (c ∷ rest))
+sends_asks c rest plain =
+    let t = sends_taken c rest plain in
+    (t, read_from (sends_words (c ∷ rest)) (sends (c ∷ rest)) t (sends_found c rest plain))
+
 checks : (source : Text) → is_plain source ≡ true → AskFor (check_words source) (check source)
 checks [] e = let bad : false ≡ true = e in cc
 checks (c ∷ rest) e =
@@ -86,5 +139,30 @@ makes (c ∷ rest) (d ∷ more) e f =
     let also : nat_eq d 45 ≡ false = not-true (nat_eq d 45) f in
     (make_taken c d rest more plain also, make_read c d rest more plain also)
 
+swaps : (source schedule place : Text) → is_plain source ≡ true → is_plain schedule ≡ true → is_plain place ≡ true
+    → AskFor (swap_words source schedule place) (swap source schedule place)
+swaps [] schedule place e f g = let bad : false ≡ true = e in cc
+swaps (c ∷ rest) [] place e f g = let bad : false ≡ true = f in cc
+swaps (c ∷ rest) (d ∷ more) [] e f g = let bad : false ≡ true = g in cc
+swaps (c ∷ rest) (d ∷ more) (b ∷ last) e f g =
+    let plain : nat_eq c 45 ≡ false = not-true (nat_eq c 45) e in
+    let also : nat_eq d 45 ≡ false = not-true (nat_eq d 45) f in
+    let behind : nat_eq b 45 ≡ false = not-true (nat_eq b 45) g in
+    swap_asks c d b rest more last plain also behind
+
+traces : (source schedule : Text) → is_plain source ≡ true → is_plain schedule ≡ true → AskFor (trace_words source schedule) (trace source schedule)
+traces [] schedule e f = let bad : false ≡ true = e in cc
+traces (c ∷ rest) [] e f = let bad : false ≡ true = f in cc
+traces (c ∷ rest) (d ∷ more) e f =
+    let plain : nat_eq c 45 ≡ false = not-true (nat_eq c 45) e in
+    let also : nat_eq d 45 ≡ false = not-true (nat_eq d 45) f in
+    trace_asks c d rest more plain also
+
+sendings : (source : Text) → is_plain source ≡ true → AskFor (sends_words source) (sends source)
+sendings [] e = let bad : false ≡ true = e in cc
+sendings (c ∷ rest) e =
+    let plain : nat_eq c 45 ≡ false = not-true (nat_eq c 45) e in
+    sends_asks c rest plain
+
 pub forms_taken : WrittenFormsAreTaken
-forms_taken = record { checks = checks; judges = judges; runs = runs; shows = shows; makes = makes }
+forms_taken = record { checks = checks; judges = judges; runs = runs; shows = shows; makes = makes; swaps = swaps; traces = traces; sendings = sendings }

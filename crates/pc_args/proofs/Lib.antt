@@ -2,3 +2,4 @@ mod Forms
 mod Known
 mod Missing
 pub mod Refusals
+mod Simple

@@ -6,7 +6,7 @@ use Rattle.clap.specs.Kinds.{Kinds}
 use Rattle.clap.specs.Words.{Row, fault_of, first_of, subcommand_of, takes}
 use Rattle.pc_args.specs.Line.{rcap}
 use Rattle.pc_args.specs.declared.words.Command.{Command}
-use Rattle.pc_args.specs.declared.words.Command.TheVariants.{Check, Judge, Run, Show, Make}
+use Rattle.pc_args.specs.declared.words.Command.TheVariants.{Check, Judge, Run, Show, Make, Swap, Trace, Sends}
 
 abbrev pub Text : Type 0
 Text = List ℕ
@@ -22,6 +22,9 @@ pub data Asked : Type 0 where
   run : Text → Text → Asked
   show : Text → Asked
   make : Text → Text → Asked
+  swap : Text → Text → Text → Asked
+  trace : Text → Text → Asked
+  sends : Text → Asked
 
 abbrev pub asked_by : Command → Asked
 asked_by (Check source) = check source.now
@@ -29,6 +32,9 @@ asked_by (Judge source derivation) = judge source.now derivation.now
 asked_by (Run source schedule) = run source.now schedule.now
 asked_by (Show source) = show source.now
 asked_by (Make seed size) = make seed.now size.now
+asked_by (Swap source schedule place) = swap source.now schedule.now place.now
+asked_by (Trace source schedule) = trace source.now schedule.now
+asked_by (Sends source) = sends source.now
 
 -- the value of the argument of this name
 abbrev pub value : Text → List Row → Text
@@ -41,6 +47,9 @@ named p = if bytes_eq p.0 (codes "check") then Some (check (value (codes "SRC") 
     else if bytes_eq p.0 (codes "run") then Some (run (value (codes "SRC") p.1) (value (codes "SCHED") p.1))
     else if bytes_eq p.0 (codes "show") then Some (show (value (codes "SRC") p.1))
     else if bytes_eq p.0 (codes "make") then Some (make (value (codes "SEED") p.1) (value (codes "SIZE") p.1))
+    else if bytes_eq p.0 (codes "swap") then Some (swap (value (codes "SRC") p.1) (value (codes "SCHED") p.1) (value (codes "PLACE") p.1))
+    else if bytes_eq p.0 (codes "trace") then Some (trace (value (codes "SRC") p.1) (value (codes "SCHED") p.1))
+    else if bytes_eq p.0 (codes "sends") then Some (sends (value (codes "SRC") p.1))
     else None
 
 -- whether there is a fault among these

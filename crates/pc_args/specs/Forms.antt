@@ -1,7 +1,7 @@
 -- The written forms of commands.
 use Rattle.std.specs.Prelude.{◌≡◌, ◌==◌, Bool, true, false, not, List, [], ◌∷◌, Some, codes}
 use Rattle.clap.specs.Words.{takes}
-use Rattle.pc_args.specs.Asked.{Asked, Text, check, command_of, judge, make, run, show}
+use Rattle.pc_args.specs.Asked.{Asked, Text, check, command_of, judge, make, run, sends, show, swap, trace}
 use Rattle.pc_args.specs.Line.{rcap}
 
 -- A name or number that is not empty and does not begin with `-`.
@@ -24,6 +24,15 @@ show_words source = codes "show" ∷ source ∷ []
 abbrev pub make_words : Text → Text → List Text
 make_words seed size = codes "make" ∷ seed ∷ size ∷ []
 
+abbrev pub swap_words : Text → Text → Text → List Text
+swap_words source schedule place = codes "swap" ∷ source ∷ schedule ∷ place ∷ []
+
+abbrev pub trace_words : Text → Text → List Text
+trace_words source schedule = codes "trace" ∷ source ∷ schedule ∷ []
+
+abbrev pub sends_words : Text → List Text
+sends_words source = codes "sends" ∷ source ∷ []
+
 -- The command line takes the words, and this is what they ask for.
 abbrev pub AskFor : List Text → Asked → Type 0
 AskFor words asked = (takes rcap words ≡ true) × (command_of words ≡ Some asked)
@@ -37,3 +46,8 @@ pub record WrittenFormsAreTaken : Type 0 where
       → AskFor (run_words source schedule) (run source schedule)
   pub shows : (source : Text) → is_plain source ≡ true → AskFor (show_words source) (show source)
   pub makes : (seed size : Text) → is_plain seed ≡ true → is_plain size ≡ true → AskFor (make_words seed size) (make seed size)
+  pub swaps : (source schedule place : Text) → is_plain source ≡ true → is_plain schedule ≡ true → is_plain place ≡ true
+      → AskFor (swap_words source schedule place) (swap source schedule place)
+  pub traces : (source schedule : Text) → is_plain source ≡ true → is_plain schedule ≡ true
+      → AskFor (trace_words source schedule) (trace source schedule)
+  pub sendings : (source : Text) → is_plain source ≡ true → AskFor (sends_words source) (sends source)

@@ -26,6 +26,18 @@ show = with_rule (new_app (codes "show")) (positional (codes "SRC"))
 abbrev pub make : App
 make = with_rule (with_rule (new_app (codes "make")) (positional (codes "SEED"))) (positional (codes "SIZE"))
 
+-- `swap SRC SCHED PLACE`
+abbrev pub swap : App
+swap = with_rule (with_rule (with_rule (new_app (codes "swap")) (positional (codes "SRC"))) (positional (codes "SCHED"))) (positional (codes "PLACE"))
+
+-- `trace SRC SCHED`
+abbrev pub trace : App
+trace = with_rule (with_rule (new_app (codes "trace")) (positional (codes "SRC"))) (positional (codes "SCHED"))
+
+-- `sends SRC`
+abbrev pub sends : App
+sends = with_rule (new_app (codes "sends")) (positional (codes "SRC"))
+
 -- The words begin behind the program's name, and no `help` is added as a subcommand.
 abbrev pub bare : App
 bare = on_top (λ s. record s { no_binary_name = true; disable_help_subcommand = true; subcommand_required = true }) (new_app (codes "rcap"))
@@ -34,10 +46,14 @@ bare = on_top (λ s. record s { no_binary_name = true; disable_help_subcommand =
 abbrev pub judging : App
 judging = with_subcommand (with_subcommand bare check.top) judge.top
 
--- with all subcommands that read a source
+-- with those that run a source and show it
 abbrev pub reading : App
 reading = with_subcommand (with_subcommand judging run.top) show.top
 
+-- with those that make a program and exchange two turns
+abbrev pub changing : App
+changing = with_subcommand (with_subcommand reading make.top) swap.top
+
 -- with all subcommands
 abbrev pub rcap : App
-rcap = with_subcommand reading make.top
+rcap = with_subcommand (with_subcommand changing trace.top) sends.top

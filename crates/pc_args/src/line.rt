@@ -55,6 +55,30 @@ fn make_make<'a>(alloc: Global) -> Result<Command<'a>, AllocError>
     seed.arg(make_positional(alloc, "SIZE"))
 }
 
+fn make_swap<'a>(alloc: Global) -> Result<Command<'a>, AllocError>
+    ensures app { IfOk result (λ c. app_of c ≡ line.swap) }
+    ensures local { IfOk result (λ c. (fields_of c).has_globals ≡ false) }
+{
+    let source = Command::new(alloc, "swap").arg(make_positional(alloc, "SRC"))?;
+    let schedule = source.arg(make_positional(alloc, "SCHED"))?;
+    schedule.arg(make_positional(alloc, "PLACE"))
+}
+
+fn make_trace<'a>(alloc: Global) -> Result<Command<'a>, AllocError>
+    ensures app { IfOk result (λ c. app_of c ≡ line.trace) }
+    ensures local { IfOk result (λ c. (fields_of c).has_globals ≡ false) }
+{
+    let source = Command::new(alloc, "trace").arg(make_positional(alloc, "SRC"))?;
+    source.arg(make_positional(alloc, "SCHED"))
+}
+
+fn make_sends<'a>(alloc: Global) -> Result<Command<'a>, AllocError>
+    ensures app { IfOk result (λ c. app_of c ≡ line.sends) }
+    ensures local { IfOk result (λ c. (fields_of c).has_globals ≡ false) }
+{
+    Command::new(alloc, "sends").arg(make_positional(alloc, "SRC"))
+}
+
 // The command line without a subcommand.
 fn make_bare<'a>(alloc: Global) -> Command<'a>
     ensures app { app_of result ≡ line.bare }
@@ -76,7 +100,7 @@ fn make_judging<'a>(alloc: Global) -> Result<Command<'a>, AllocError>
         .subcommand(make_judge(alloc)?)
 }
 
-// With all subcommands that read a source.
+// With those that run a source and show it.
 fn make_reading<'a>(alloc: Global) -> Result<Command<'a>, AllocError>
     ensures app { IfOk result (λ c. app_of c ≡ line.reading) }
     ensures local { IfOk result (λ c. (fields_of c).has_globals ≡ false) }
@@ -86,12 +110,24 @@ fn make_reading<'a>(alloc: Global) -> Result<Command<'a>, AllocError>
         .subcommand(make_show(alloc)?)
 }
 
+// With those that make a program and exchange two turns.
+fn make_changing<'a>(alloc: Global) -> Result<Command<'a>, AllocError>
+    ensures app { IfOk result (λ c. app_of c ≡ line.changing) }
+    ensures local { IfOk result (λ c. (fields_of c).has_globals ≡ false) }
+{
+    make_reading(alloc)?
+        .subcommand(make_make(alloc)?)?
+        .subcommand(make_swap(alloc)?)
+}
+
 // The whole command line, its words not yet read.
 fn make_rcap<'a>(alloc: Global) -> Result<Command<'a>, AllocError>
     ensures app { IfOk result (λ c. app_of c ≡ line.rcap) }
     ensures local { IfOk result (λ c. (fields_of c).has_globals ≡ false) }
 {
-    make_reading(alloc)?.subcommand(make_make(alloc)?)
+    make_changing(alloc)?
+        .subcommand(make_trace(alloc)?)?
+        .subcommand(make_sends(alloc)?)
 }
 
 /// The matches of the words, or why clap refuses them.

@@ -35,6 +35,21 @@ pub enum Command<'a> {
         seed: &'a str,
         size: &'a str,
     },
+    /// To exchange two turns of a schedule of a source.
+    Swap {
+        source: &'a str,
+        schedule: &'a str,
+        place: &'a str,
+    },
+    /// To tell the accesses of a run of a source by a schedule, with their clocks.
+    Trace {
+        source: &'a str,
+        schedule: &'a str,
+    },
+    /// To tell which entity of a source may send which message.
+    Sends {
+        source: &'a str,
+    },
 }
 
 /// Why words ask for nothing.
@@ -84,6 +99,18 @@ fn command_in<'a>(matches: &ArgMatches<'a>) -> Option<Command<'a>>
         "make" => Some(Command::Make {
             seed: value_of(own, "SEED"),
             size: value_of(own, "SIZE"),
+        }),
+        "swap" => Some(Command::Swap {
+            source: value_of(own, "SRC"),
+            schedule: value_of(own, "SCHED"),
+            place: value_of(own, "PLACE"),
+        }),
+        "trace" => Some(Command::Trace {
+            source: value_of(own, "SRC"),
+            schedule: value_of(own, "SCHED"),
+        }),
+        "sends" => Some(Command::Sends {
+            source: value_of(own, "SRC"),
         }),
         _ => None,
     }
