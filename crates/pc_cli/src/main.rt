@@ -2,6 +2,7 @@
 #![tactic(auto)]
 
 use pc_io::{HostFiles, HostSink};
+use pc_referee::Rules;
 use pc_top::rcap;
 use std::alloc::Global;
 use std::process::ExitCode;
@@ -39,5 +40,13 @@ fn run(rt: &HostRuntime, alloc: Global, args: &[String]) -> u8 {
     let mut files = HostFiles::new(alloc, rt);
     let mut out = HostSink::new(rt.stdout());
     let mut err = HostSink::new(rt.stderr());
-    rcap(alloc, words.as_slice(), &mut files, &mut out, &mut err)
+    let mut referee = Rules;
+    rcap(
+        alloc,
+        words.as_slice(),
+        &mut files,
+        &mut out,
+        &mut err,
+        &mut referee,
+    )
 }

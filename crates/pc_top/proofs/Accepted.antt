@@ -5,7 +5,7 @@ use Rattle.std.specs.Io.KnownBytes.{Appends}
 use Rattle.pc_ann.specs.declared.annotation.Ann.{Ann}
 use Rattle.pc_rules.specs.Valid.{Valid}
 use Rattle.pc_regions.specs.Laws.{ValidIsSafe}
-use Rattle.pc_args.specs.Asked.{Text, Asked, check, judge, run, show, make, command_of}
+use Rattle.pc_args.specs.Asked.{Text, Asked, check, judge, run, show, make, swap, trace, sends, command_of}
 use Rattle.pc_top.specs.Accepting.{AcceptedStage}
 use Rattle.pc_top.specs.Answer.{Answer}
 use Rattle.pc_top.specs.Answer.Answer.{told as answer_told, file as answer_file, out_failed, err_failed, file_err_failed, no_memory}
@@ -15,13 +15,17 @@ use Rattle.pc_top.specs.CoreOf.{CoresAreFormed, IsDerivable, HasSafeCore, Deriva
 use Rattle.pc_io.specs.Change.{Change}
 use Rattle.pc_top.specs.FromFile.{FromFile}
 use Rattle.pc_top.specs.FromFile.FromFile.{refuses, goes_on}
-use Rattle.pc_top.specs.Judge.{DerivationStage, Judged, Judging, IsJudge, derivation_limit, judged}
+use Rattle.pc_top.specs.Judge.{DerivationStage, Judged, Judging, IsJudge, derivation_limit, in_parts, judged}
 use Rattle.pc_top.specs.Judge.Judging.{holds, fails}
 use Rattle.pc_top.specs.Make.{IsMade, IsMake, MadeRun, made_name, made_text}
 use Rattle.pc_top.specs.Make.IsMake.{made, no_numbers}
 use Rattle.pc_top.specs.Named.{Files, Named, Reading, whole, IsReadingOf, named, text_as}
 use Rattle.pc_top.specs.Run.{Scheduled}
+use Rattle.pc_top.specs.Sends.{Sent}
 use Rattle.pc_top.specs.Source.{SourceStage, source_limit}
+use Rattle.pc_top.specs.Swap.{IsSwap, SwapScheduled}
+use Rattle.pc_top.specs.Swap.IsSwap.{placed, no_number}
+use Rattle.pc_top.specs.Trace.{TraceScheduled}
 use Rattle.pc_top.specs.Verdict.{Verdict, IsAccepting}
 use Rattle.pc_top.specs.declared.accepting.Accepted.{Accepted}
 use Rattle.pc_top.specs.declared.source.Source.{Source}
@@ -61,9 +65,9 @@ judged_valid (fails f h) e = absurd (six_refuses e)
 
 judge_derivable : (file derivation : Named) (v : Verdict) → IsJudge file derivation v → IsAccepting v.status → IfSome file.told IsDerivable
 judge_derivable file derivation v is e =
-    let Next : Source → Verdict → Type 0 = λ s. FromFile derivation derivation_limit (DerivationStage derivation.name) (Judged file.name derivation.name s) in
+    let Next : Source → Verdict → Type 0 = λ s. FromFile (in_parts derivation) derivation_limit (DerivationStage derivation.name) (Judged file.name derivation.name s) in
     let p = passed file source_limit (SourceStage file.name) Next v (λ r h. other_refuses v.status (source_other h) e) is in
-    let d = passed derivation derivation_limit (DerivationStage derivation.name) (Judged file.name derivation.name p.1) v (λ r h. other_refuses v.status (derivation_other h) e) p.4 in
+    let d = passed (in_parts derivation) derivation_limit (DerivationStage derivation.name) (Judged file.name derivation.name p.1) v (λ r h. other_refuses v.status (derivation_other h) e) p.4 in
     derivable file p.0 p.1 d.1 p.2 p.3 (judged_valid d.4.1 (subst (λ (w : Verdict). IsAccepting w.status) d.4.2 e))
 
 pub words_refuse : (v : Verdict) → v.status ≡ 2 → IsAccepting v.status → ⊥
@@ -77,6 +81,10 @@ make_derivable : (seed size : Text) (v : Verdict) → IsMake seed size v → IsA
 make_derivable seed size v (made a b s t is) e = (a, b, s, t, made_derivable a b v is e)
 make_derivable seed size v (no_numbers n is) e = absurd (words_refuse v (ap (λ (x : Verdict). x.status) is) e)
 
+swap_derivable : (file schedule : Named) (place : Text) (v : Verdict) → IsSwap file schedule place v → IsAccepting v.status → IfSome file.told IsDerivable
+swap_derivable file schedule place v (placed n p is) e = accepted_derivable file (SwapScheduled schedule n) v is e
+swap_derivable file schedule place v (no_number none is) e = absurd (words_refuse v (ap (λ (x : Verdict). x.status) is) e)
+
 verdict_accepts : (files : Files) (asked : Option Asked) (v : Verdict) → IsVerdictOf files asked v → IsAccepting v.status → OfSource IsDerivable files.told asked
 verdict_accepts files None v is e = words_refuse v (ap (λ (x : Verdict). x.status) is) e
 verdict_accepts files (Some (check source)) v is e = accepted_derivable (named files source) Derived v is e
@@ -84,6 +92,9 @@ verdict_accepts files (Some (judge source derivation)) v is e = judge_derivable 
 verdict_accepts files (Some (run source schedule)) v is e = accepted_derivable (named files source) (Scheduled (named files schedule)) v is e
 verdict_accepts files (Some (show source)) v is e = tt
 verdict_accepts files (Some (make seed size)) v is e = make_derivable seed size v is e
+verdict_accepts files (Some (swap source schedule place)) v is e = swap_derivable (named files source) (named files schedule) place v is e
+verdict_accepts files (Some (trace source schedule)) v is e = accepted_derivable (named files source) (TraceScheduled (named files schedule)) v is e
+verdict_accepts files (Some (sends source)) v is e = accepted_derivable (named files source) Sent v is e
 
 -- no other answer than the verdict's accepts
 faults_refuse : (status n : ℕ) → status ≡ n → 9 ≤ n → n ≤ 11 → IsAccepting status → ⊥
@@ -126,6 +137,9 @@ asked_safe law told (Some (judge source derivation)) h = source_safe law (told s
 asked_safe law told (Some (run source schedule)) h = source_safe law (told source) h
 asked_safe law told (Some (show source)) h = tt
 asked_safe law told (Some (make seed size)) h = made_safe law seed size h
+asked_safe law told (Some (swap source schedule place)) h = source_safe law (told source) h
+asked_safe law told (Some (trace source schedule)) h = source_safe law (told source) h
+asked_safe law told (Some (sends source)) h = source_safe law (told source) h
 
 pub accepted_safe : DerivableIsSafe → (told : Text → Option Text) (words : List Text) → Accepts told words → IsMadeSafe told words
 accepted_safe law told words h = asked_safe law told (command_of words) h

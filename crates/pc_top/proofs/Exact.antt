@@ -6,28 +6,33 @@ use Rattle.pc_check.specs.Laws.{NoneWithoutRule, NoneWithUnset, NoneWithFault}
 use Rattle.pc_core.specs.CoreData.{CoreData}
 use Rattle.pc_gen.specs.Numbers.{IsSeed, IsSize}
 use Rattle.pc_rules.specs.Valid.{Derivable}
-use Rattle.pc_args.specs.Asked.{Text, Asked, check, judge, run, show, make}
+use Rattle.pc_args.specs.Asked.{Text, Asked, check, judge, run, show, make, swap, trace, sends}
 use Rattle.pc_top.specs.Accepting.{AcceptedStage}
 use Rattle.pc_top.specs.After.After.{stops, goes}
 use Rattle.pc_top.specs.Asked.{IsVerdictOf}
 use Rattle.pc_top.specs.Check.{Derived}
 use Rattle.pc_top.specs.Commands.{infers, source_of}
 use Rattle.pc_top.specs.CoreOf.{CoreOf, CoresAreFormed, IsDerivable, IsUnderivable}
-use Rattle.pc_top.specs.Exact.{StatusesAreExact}
+use Rattle.pc_top.specs.Exact.{HasNumber, StatusesAreExact}
 use Rattle.pc_top.specs.FromFile.{FromFile}
 use Rattle.pc_top.specs.FromFile.FromFile.{refuses, goes_on}
 use Rattle.pc_top.specs.Make.{IsMade, IsMake, MadeRun, made_name, made_text}
 use Rattle.pc_top.specs.Make.IsMake.{made, no_numbers}
 use Rattle.pc_top.specs.Named.{Files, Named, Reading, whole, longer, IsReadingOf, IsReading, named, text_as}
 use Rattle.pc_top.specs.Run.{Scheduled}
+use Rattle.pc_top.specs.Sends.{Sent}
 use Rattle.pc_top.specs.Source.{SourceStage, source_limit}
+use Rattle.pc_top.specs.Swap.{IsPlace, IsSwap, IsSwapAt, SwapScheduled}
+use Rattle.pc_top.specs.Swap.IsSwap.{placed, no_number}
+use Rattle.pc_top.specs.Trace.{TraceScheduled}
 use Rattle.pc_top.specs.Verdict.{Verdict}
 use Rattle.pc_top.specs.declared.accepting.Accepted.{Accepted}
 use Rattle.pc_top.specs.declared.source.Source.{Source}
 use Rattle.pc_top.proofs.Accepted.{accepted_derivable}
 use Rattle.pc_top.proofs.Deriving.{accepted_source, core_passes, source_formed}
 use Rattle.pc_top.proofs.OneSource.{SourceLaws, differ, ok_same, one_source}
-use Rattle.pc_top.proofs.Refused.{derived_not_one, made_not_one, scheduled_not_one, typing_refuses, underivable}
+use Rattle.pc_top.proofs.OneSwap.{one_place}
+use Rattle.pc_top.proofs.Refused.{derived_not_one, made_not_one, scheduled_not_one, sent_not_one, swap_not_one, trace_not_one, typing_refuses, underivable}
 use Rattle.pc_top.proofs.Statuses.{typing_one}
 
 -- A source that is told and within the limit is read whole.
@@ -94,15 +99,27 @@ module _ (laws : SourceLaws) (formed : CoresAreFormed) (ruleless : NoneWithoutRu
   unfailed_there : (files : Files) (name source : Text) → Some name ≡ Some source → files.now source ≡ files.before source → files.now name ≡ files.before name
   unfailed_there files name source e n = subst (λ (x : Text). files.now x ≡ files.before x) (sym (same_Some name source e)) n
 
+  -- the exchange at the place that is spelled
+  placed_at : (source schedule : Named) (place : Text) (n : ℕ) (v : Verdict) → IsPlace place n → IsSwap source schedule place v → IsSwapAt source schedule n v
+  placed_at source schedule place n v p (placed m q is) = subst (λ (k : ℕ). IsSwapAt source schedule k v) (one_place place m n q p) is
+  placed_at source schedule place n v p (no_number none is) = absurd (none n p)
+
   one_asked : (files : Files) (asked : Asked) (source bytes : Text) (v : Verdict) → source_of asked ≡ Some source → files.told source ≡ Some bytes → files.now source ≡ files.before source
-      → IsVerdictOf files (Some asked) v → IsTrue (infers asked) → (v.status ≡ 1) ↔ IsUnderivable bytes
-  one_asked files (check name) source bytes v e told n is i =
+      → HasNumber asked → IsVerdictOf files (Some asked) v → IsTrue (infers asked) → (v.status ≡ 1) ↔ IsUnderivable bytes
+  one_asked files (check name) source bytes v e told n p is i =
       exact_one (named files name) bytes (told_there files name source bytes e told) (unfailed_there files name source e n) Derived v (λ a l. derived_not_one a v l) is
-  one_asked files (judge name derivation) source bytes v e told n is i = let bad : false ≡ true = i in cc
-  one_asked files (run name schedule) source bytes v e told n is i =
+  one_asked files (judge name derivation) source bytes v e told n p is i = let bad : false ≡ true = i in cc
+  one_asked files (run name schedule) source bytes v e told n p is i =
       exact_one (named files name) bytes (told_there files name source bytes e told) (unfailed_there files name source e n) (Scheduled (named files schedule)) v (λ a l. scheduled_not_one (named files schedule) a v l) is
-  one_asked files (show name) source bytes v e told n is i = let bad : false ≡ true = i in cc
-  one_asked files (make seed size) source bytes v e told n is i = absurd (none-some source e)
+  one_asked files (show name) source bytes v e told n p is i = let bad : false ≡ true = i in cc
+  one_asked files (make seed size) source bytes v e told n p is i = absurd (none-some source e)
+  one_asked files (swap name schedule place) source bytes v e told n p is i =
+      exact_one (named files name) bytes (told_there files name source bytes e told) (unfailed_there files name source e n) (SwapScheduled (named files schedule) p.0) v (λ a l. swap_not_one (named files schedule) p.0 a v l)
+      (placed_at (named files name) (named files schedule) place p.0 v p.1 is)
+  one_asked files (trace name schedule) source bytes v e told n p is i =
+      exact_one (named files name) bytes (told_there files name source bytes e told) (unfailed_there files name source e n) (TraceScheduled (named files schedule)) v (λ a l. trace_not_one (named files schedule) a v l) is
+  one_asked files (sends name) source bytes v e told n p is i =
+      exact_one (named files name) bytes (told_there files name source bytes e told) (unfailed_there files name source e n) Sent v (λ a l. sent_not_one a v l) is
 
   -- the program that is made
   made_one : (seed size : Text) (a b : ℕ) (v : Verdict) → IsSeed seed a → IsSize size b → IsMake seed size v → (v.status ≡ 1) ↔ IsUnderivable (made_text a b)
@@ -116,6 +133,6 @@ module _ (laws : SourceLaws) (formed : CoresAreFormed) (ruleless : NoneWithoutRu
     accepted = λ files words source bytes v h.
         exact_zero (named files source) bytes h.tells h.unfailed v (subst (λ (o : Option Asked). IsVerdictOf files o v) h.asks h.verdict);
     refused = λ files words asked source bytes v h i.
-        one_asked files asked source bytes v h.is_source h.tells h.unfailed (subst (λ (o : Option Asked). IsVerdictOf files o v) h.asks h.verdict) i;
+        one_asked files asked source bytes v h.is_source h.tells h.unfailed h.has_number (subst (λ (o : Option Asked). IsVerdictOf files o v) h.asks h.verdict) i;
     made = λ files words seed size a b v asks s t is. made_one seed size a b v s t (subst (λ (o : Option Asked). IsVerdictOf files o v) asks is);
   }

@@ -3,7 +3,7 @@ use Rattle.std.proofs.Common.{◌≡◌, ◌≤◌, ℕ, List, Option, Some, Non
 use Rattle.std.specs.Prelude.{◌⊎◌, Result}
 use Rattle.pc_ann.specs.declared.annotation.Ann.{Ann}
 use Rattle.pc_core.specs.CoreData.{CoreData}
-use Rattle.pc_args.specs.Asked.{Text, Asked, check, judge, run, show, make, command_of}
+use Rattle.pc_args.specs.Asked.{Text, Asked, check, judge, run, show, make, swap, trace, sends, command_of}
 use Rattle.pc_io.specs.Change.{Change}
 use Rattle.pc_top.specs.After.After.{stops, goes}
 use Rattle.pc_top.specs.Accepting.{AcceptedStage}
@@ -20,8 +20,14 @@ use Rattle.pc_top.specs.Make.IsMake.{made, no_numbers}
 use Rattle.pc_top.specs.Named.{Files, Named, Reading, named, text_as}
 use Rattle.pc_top.specs.Run.{Ran, Scheduled}
 use Rattle.pc_top.specs.Run.Ran.{whole, cut}
+use Rattle.pc_top.specs.Sends.{Sent}
 use Rattle.pc_top.specs.Show.{IsShow}
 use Rattle.pc_top.specs.Source.{source_limit}
+use Rattle.pc_top.specs.Swap.{IsSwap, SwapScheduled, Swapping, swapped}
+use Rattle.pc_top.specs.Swap.IsSwap.{placed, no_number}
+use Rattle.pc_top.specs.Swap.Swapping.{tells, no_place, too_long}
+use Rattle.pc_top.specs.Trace.{TraceScheduled, Tracing, traced}
+use Rattle.pc_top.specs.Trace.Tracing.{tells as traced_text, too_long as traced_long, too_many}
 use Rattle.pc_top.specs.Verdict.{Verdict}
 use Rattle.pc_top.specs.declared.accepting.Accepted.{Accepted}
 use Rattle.pc_top.specs.declared.source.Source.{Source}
@@ -29,7 +35,7 @@ use Rattle.pc_top.proofs.Statuses.{derivation_other, file_other, schedule_other,
 
 -- The status of no failure.
 abbrev IsOwn : ℕ → Type 0
-IsOwn status = (status ≤ 8) ⊎ (status ≡ 12)
+IsOwn status = (status ≤ 8) ⊎ (status ≡ 12) ⊎ (status ≡ 15)
 
 -- A number below the failures', under another name.
 own_at : (status n : ℕ) → status ≡ n → n ≤ 8 → IsOwn status
@@ -44,13 +50,34 @@ accepted_own {v = v} (goes h t) = own_at v.status 1 (typing_one t) (omega arith)
 derived_own : (a : Accepted) (v : Verdict) → Derived a v → IsOwn v.status
 derived_own a v d = own_at v.status 0 (ap (λ (w : Verdict). w.status) d.2) (omega arith)
 
+sent_own : (a : Accepted) (v : Verdict) → Sent a v → IsOwn v.status
+sent_own a v s = own_at v.status 0 (ap (λ (w : Verdict). w.status) s.2) (omega arith)
+
 ran_own : {name : Text} {core : CoreData} {list : List ℕ} {v : Verdict} → Ran name core list v → IsOwn v.status
 ran_own (whole h) = inl (omega arith)
-ran_own (cut n h) = inr refl
+ran_own (cut n h) = inr (inl refl)
 
 scheduled_own : (schedule : Named) (a : Accepted) (v : Verdict) → Scheduled schedule a v → IsOwn v.status
 scheduled_own schedule a v (refuses r g h) = inl (schedule_other h).1
 scheduled_own schedule a v (goes_on r x g h l) = ran_own l
+
+swapping_own : {name : Text} {core : CoreData} {list : List ℕ} {place : ℕ} {end : Result Text Verdict} → Swapping name core list place end → IsOwn (swapped end).status
+swapping_own (tells t text a h) = inl (omega arith)
+swapping_own (no_place past) = inr (inr refl)
+swapping_own (too_long t n a h) = inr (inl refl)
+
+swap_scheduled_own : (schedule : Named) (place : ℕ) (a : Accepted) (v : Verdict) → SwapScheduled schedule place a v → IsOwn v.status
+swap_scheduled_own schedule place a v (refuses r g h) = inl (schedule_other h).1
+swap_scheduled_own schedule place a v (goes_on r x g h l) = subst IsOwn (sym (ap (λ (w : Verdict). w.status) l.2)) (swapping_own l.1)
+
+tracing_own : {name : Text} {core : CoreData} {list : List ℕ} {end : Result Text Verdict} → Tracing name core list end → IsOwn (traced end).status
+tracing_own (traced_text touches text h is) = inl (omega arith)
+tracing_own (traced_long n h) = inr (inl refl)
+tracing_own (too_many n h) = inl (omega arith)
+
+trace_scheduled_own : (schedule : Named) (a : Accepted) (v : Verdict) → TraceScheduled schedule a v → IsOwn v.status
+trace_scheduled_own schedule a v (refuses r g h) = inl (schedule_other h).1
+trace_scheduled_own schedule a v (goes_on r x g h l) = subst IsOwn (sym (ap (λ (w : Verdict). w.status) l.2)) (tracing_own l.1)
 
 made_own : (seed size : ℕ) (a : Accepted) (v : Verdict) → MadeRun seed size a v → IsOwn v.status
 made_own seed size a v (w, r, is) = subst IsOwn (sym (ap (λ (x : Verdict). x.status) is)) (ran_own r)
@@ -80,6 +107,10 @@ make_own : (seed size : Text) (v : Verdict) → IsMake seed size v → IsOwn v.s
 make_own seed size v (made a b s t is) = accepting_own (text_as made_name (made_text a b)) (MadeRun a b) v (λ x l. made_own a b x v l) is
 make_own seed size v (no_numbers n is) = own_at v.status 2 (ap (λ (x : Verdict). x.status) is) (omega arith)
 
+swap_own : (source schedule : Named) (place : Text) (v : Verdict) → IsSwap source schedule place v → IsOwn v.status
+swap_own source schedule place v (placed n p is) = accepting_own source (SwapScheduled schedule n) v (λ a l. swap_scheduled_own schedule n a v l) is
+swap_own source schedule place v (no_number none is) = own_at v.status 2 (ap (λ (x : Verdict). x.status) is) (omega arith)
+
 verdict_own : (files : Files) (asked : Option Asked) (v : Verdict) → IsVerdictOf files asked v → IsOwn v.status
 verdict_own files None v is = own_at v.status 2 (ap (λ (x : Verdict). x.status) is) (omega arith)
 verdict_own files (Some (check source)) v is = accepting_own (named files source) Derived v (λ a l. derived_own a v l) is
@@ -87,6 +118,9 @@ verdict_own files (Some (judge source derivation)) v is = judge_own (named files
 verdict_own files (Some (run source schedule)) v is = accepting_own (named files source) (Scheduled (named files schedule)) v (λ a l. scheduled_own (named files schedule) a v l) is
 verdict_own files (Some (show source)) v is = show_own (named files source) v is
 verdict_own files (Some (make seed size)) v is = make_own seed size v is
+verdict_own files (Some (swap source schedule place)) v is = swap_own (named files source) (named files schedule) place v is
+verdict_own files (Some (trace source schedule)) v is = accepting_own (named files source) (TraceScheduled (named files schedule)) v (λ a l. trace_scheduled_own (named files schedule) a v l) is
+verdict_own files (Some (sends source)) v is = accepting_own (named files source) Sent v (λ a l. sent_own a v l) is
 
 pub verdicts_own : NoVerdictIsAFailure
 verdicts_own files words v is = verdict_own files (command_of words) v is
@@ -96,7 +130,8 @@ verdicts_own files words v is = verdict_own files (command_of words) v is
 -- a status between 9 and 11 is no verdict's
 not_own : (status n : ℕ) → n ≡ status → 9 ≤ n → n ≤ 11 → IsOwn status → ⊥
 not_own status n e low high (inl small) = omega (arith, e, low, high, small)
-not_own status n e low high (inr twelve) = omega (arith, e, low, high, twelve)
+not_own status n e low high (inr (inl twelve)) = omega (arith, e, low, high, twelve)
+not_own status n e low high (inr (inr fifteen)) = omega (arith, e, low, high, fifteen)
 
 unread : (files : Files) (words : List Text) (out err : Change) → Answers files words out err 9 → Unread files words out err
 unread files words out err (answer_told v is s o l) = absurd (not_own v.status 9 s (omega arith) (omega arith) (verdicts_own files words v is))

@@ -1,6 +1,6 @@
 -- No two verdicts differ.
 use Rattle.std.proofs.Common.{◌≡◌, ℕ, List, Option, Some, None, Ok, Err, refl, sym, ◌∙◌, ap, ap₂, subst}
-use Rattle.std.specs.Prelude.{slice_get, codes}
+use Rattle.std.specs.Prelude.{IsSome, slice_get, codes}
 use Rattle.std.proofs.lemmas.Option.{same_Some, none-some}
 use Rattle.pc_ann.specs.declared.annotation.Ann.{Ann}
 use Rattle.pc_core.specs.declared.declarations.Method.{Method}
@@ -17,6 +17,7 @@ use Rattle.pc_deriv.specs.declared.fault.DerivFault.{DerivFault}
 use Rattle.pc_gen.specs.Schedule.{schedule}
 use Rattle.pc_judge.specs.Faults.{OneFirst, NotValid}
 use Rattle.pc_judge.specs.declared.faults.JudgeFault.{JudgeFault}
+use Rattle.pc_rows.specs.Lines.{LinesAreOne}
 use Rattle.pc_run.specs.Spreading.{spread}
 use Rattle.pc_sched.specs.Laws.{OneList, NotBoth, OneFault}
 use Rattle.pc_sched.specs.Limits.{schedule_limit}
@@ -26,7 +27,8 @@ use Rattle.pc_semantics.specs.Runs.{outcomes}
 use Rattle.pc_semantics.specs.Text.{end_of, run_text}
 use Rattle.pc_semantics.specs.declared.outcome.Outcome.{Outcome}
 use Rattle.pc_semantics.specs.declared.outcome.Outcome.TheVariants.{TooLong}
-use Rattle.pc_args.specs.Asked.{Text, Asked, check, judge, run, show, make, command_of}
+use Rattle.pc_swap.specs.Laws.{KeptAreNotApart}
+use Rattle.pc_args.specs.Asked.{Text, Asked, check, judge, run, show, make, swap, trace, sends, command_of}
 use Rattle.pc_top.specs.After.{IsOne}
 use Rattle.pc_top.specs.Accepting.{AcceptedStage, Typing}
 use Rattle.pc_top.specs.Accepting.Typing.{typed, declared, no_rule, unset}
@@ -35,7 +37,7 @@ use Rattle.pc_top.specs.Check.{Derived}
 use Rattle.pc_top.specs.CoreOf.{CoresAreFormed}
 use Rattle.pc_top.specs.CoreFaults.{decl_offset, decl_text}
 use Rattle.pc_top.specs.FromFile.{FromFile}
-use Rattle.pc_top.specs.Judge.{Deriving, DerivationStage, Judged, Judging, judged, judge_line, text_status, text_line, derivation_limit}
+use Rattle.pc_top.specs.Judge.{Deriving, DerivationStage, Judged, Judging, in_parts, judged, judge_line, text_status, text_line, derivation_limit}
 use Rattle.pc_top.specs.Judge.Deriving.{reads, garbled}
 use Rattle.pc_top.specs.Judge.Judging.{holds, fails}
 use Rattle.pc_top.specs.Lines.{too_long_line}
@@ -48,13 +50,20 @@ use Rattle.pc_top.specs.Run.{Ran, Scheduled}
 use Rattle.pc_top.specs.Run.Ran.{whole, cut}
 use Rattle.pc_top.specs.Schedule.{ScheduleStage, Scheduling}
 use Rattle.pc_top.specs.Schedule.Scheduling.{scheduled, bad_word, too_many}
+use Rattle.pc_top.specs.Sends.{Sent}
 use Rattle.pc_top.specs.Show.{FileStage, Shown}
 use Rattle.pc_top.specs.Source.{Length, SourceStage, source_limit}
+use Rattle.pc_top.specs.Swap.{IsSwap, IsSwapAt, SwapScheduled, Swapped}
+use Rattle.pc_top.specs.Swap.IsSwap.{placed, no_number}
+use Rattle.pc_top.specs.Trace.{TraceScheduled, TracedSo}
 use Rattle.pc_top.specs.Verdict.{Verdict, done, headed, refused, stopped}
 use Rattle.pc_top.specs.declared.accepting.Accepted.{Accepted}
 use Rattle.pc_top.specs.declared.source.Source.{Source}
 use Rattle.pc_top.proofs.Deriving.{source_formed}
 use Rattle.pc_top.proofs.OneSource.{SourceLaws, after_is_one, one_file, one_from, one_length, one_source}
+use Rattle.pc_top.proofs.OneSwap.{one_place, one_swapped}
+use Rattle.pc_top.proofs.OneTable.{one_sent}
+use Rattle.pc_top.proofs.OneTrace.{one_traced}
 
 -- What the verdicts rest on.
 pub record Laws : Type 0 where
@@ -76,6 +85,8 @@ pub record Laws : Type 0 where
   pub turns : OneList
   pub not_both : NotBoth
   pub word : OneFault
+  pub kept : KeptAreNotApart
+  pub line : LinesAreOne
 
 -- the place of a schedule's fault
 bad_same : (p q : ℕ) → BadWord p ≡ BadWord q → p ≡ q
@@ -200,14 +211,30 @@ module _ (laws : Laws) where
   -- ---- all
 
   module _ (files : Files) (unfailed : (n : Text) → files.now n ≡ files.before n) where
+    one_swap_at : (source schedule : Text) (place : ℕ) → IsSome (files.told source) → IsSome (files.told schedule) → (v w : Verdict)
+        → IsSwapAt (named files source) (named files schedule) place v → IsSwapAt (named files source) (named files schedule) place w → v ≡ w
+    one_swap_at source schedule place s t v w a b =
+        let last = λ (x : Accepted) (turns : List Turn). Swapped schedule x.source.core (spread turns) place in
+        one_from (named files source) source_limit (AcceptedStage source) (SwapScheduled (named files schedule) place) s (unfailed source) (one_accepted source)
+        (λ r x h. one_from (named files schedule) schedule_limit (ScheduleStage schedule) (last x) t (unfailed schedule) (one_schedule schedule)
+        (λ d turns k. one_swapped laws.kept laws.line schedule x.source.core (spread turns) place)) v w a b
+
+    one_swap : (source schedule place : Text) → IsSome (files.told source) → IsSome (files.told schedule) → (v w : Verdict)
+        → IsSwap (named files source) (named files schedule) place v → IsSwap (named files source) (named files schedule) place w → v ≡ w
+    one_swap source schedule place s t v w (placed n p a) (placed m q b) =
+        one_swap_at source schedule n s t v w a (subst (λ (k : ℕ). IsSwapAt (named files source) (named files schedule) k w) (one_place place m n q p) b)
+    one_swap source schedule place s t v w (placed n p a) (no_number none is) = absurd (none n p)
+    one_swap source schedule place s t v w (no_number none is) (placed m q b) = absurd (none m q)
+    one_swap source schedule place s t v w (no_number none is) (no_number other was) = is ∙ sym was
+
     one_of : (asked : Option Asked) (v w : Verdict) → TellsOf files.told asked → IsVerdictOf files asked v → IsVerdictOf files asked w → v ≡ w
     one_of None v w t a b = a ∙ sym b
     one_of (Some (check source)) v w t a b =
         one_from (named files source) source_limit (AcceptedStage source) Derived t.0 (unfailed source) (one_accepted source) (λ r x h. one_derived x) v w a b
     one_of (Some (judge source derivation)) v w t a b =
         let last = λ (s : Source). Judged source derivation s in
-        one_from (named files source) source_limit (SourceStage source) (λ s. FromFile (named files derivation) derivation_limit (DerivationStage derivation) (last s)) t.0 (unfailed source) (one_source laws.source source)
-        (λ r s h. one_from (named files derivation) derivation_limit (DerivationStage derivation) (last s) t.1.0 (unfailed derivation) (one_derivation derivation)
+        one_from (named files source) source_limit (SourceStage source) (λ s. FromFile (in_parts (named files derivation)) derivation_limit (DerivationStage derivation) (last s)) t.0 (unfailed source) (one_source laws.source source)
+        (λ r s h. one_from (in_parts (named files derivation)) derivation_limit (DerivationStage derivation) (last s) t.1.0 (unfailed derivation) (one_derivation derivation)
         (λ d ann k. one_judged source derivation s ann (formed_of h))) v w a b
     one_of (Some (run source schedule)) v w t a b =
         let last = λ (x : Accepted) (turns : List Turn). Ran schedule x.source.core (spread turns) in
@@ -217,6 +244,14 @@ module _ (laws : Laws) where
     one_of (Some (show source)) v w t a b =
         one_from (named files source) source_limit (FileStage source) Shown t.0 (unfailed source) (one_file laws.source source) (λ r x h v w l m. l ∙ sym m) v w a b
     one_of (Some (make seed size)) v w t a b = one_make seed size v w a b
+    one_of (Some (swap source schedule place)) v w t a b = one_swap source schedule place t.0 t.1.0 v w a b
+    one_of (Some (trace source schedule)) v w t a b =
+        let last = λ (x : Accepted) (turns : List Turn). TracedSo schedule x.source.core (spread turns) in
+        one_from (named files source) source_limit (AcceptedStage source) (TraceScheduled (named files schedule)) t.0 (unfailed source) (one_accepted source)
+        (λ r x h. one_from (named files schedule) schedule_limit (ScheduleStage schedule) (last x) t.1.0 (unfailed schedule) (one_schedule schedule)
+        (λ d turns k. one_traced schedule x.source.core (spread turns))) v w a b
+    one_of (Some (sends source)) v w t a b =
+        one_from (named files source) source_limit (AcceptedStage source) Sent t.0 (unfailed source) (one_accepted source) (λ r x h. one_sent x) v w a b
 
 pub verdict_one : Laws → VerdictIsOne
 verdict_one laws files words v w n t a b = one_of laws files n (command_of words) v w t a b

@@ -6,7 +6,7 @@ use Rattle.pc_check.specs.Laws.{NoneWithoutRule, NoneWithUnset, NoneWithFault}
 use Rattle.pc_core.specs.CoreData.{CoreData}
 use Rattle.pc_core.specs.Formed.{Formed}
 use Rattle.pc_rules.specs.Valid.{Derivable}
-use Rattle.pc_args.specs.Asked.{Text, Asked, check, judge, run, show, make, command_of}
+use Rattle.pc_args.specs.Asked.{Text, Asked, check, judge, run, show, make, swap, trace, sends, command_of}
 use Rattle.pc_top.specs.After.After.{stops, goes}
 use Rattle.pc_top.specs.Accepting.{AcceptedStage, Typing}
 use Rattle.pc_top.specs.Accepting.Typing.{declared, no_rule, unset}
@@ -25,8 +25,14 @@ use Rattle.pc_top.specs.Make.IsMake.{made, no_numbers}
 use Rattle.pc_top.specs.Named.{Files, Named, Reading, IsReadingOf, named, text_as}
 use Rattle.pc_top.specs.Run.{Ran, Scheduled}
 use Rattle.pc_top.specs.Run.Ran.{whole, cut}
+use Rattle.pc_top.specs.Sends.{Sent}
 use Rattle.pc_top.specs.Show.{IsShow}
 use Rattle.pc_top.specs.Source.{source_limit}
+use Rattle.pc_top.specs.Swap.{IsSwap, SwapScheduled, Swapping, swapped}
+use Rattle.pc_top.specs.Swap.IsSwap.{placed, no_number}
+use Rattle.pc_top.specs.Swap.Swapping.{tells, no_place, too_long}
+use Rattle.pc_top.specs.Trace.{TraceScheduled, Tracing, traced}
+use Rattle.pc_top.specs.Trace.Tracing.{tells as traced_text, too_long as traced_long, too_many}
 use Rattle.pc_top.specs.Verdict.{Verdict}
 use Rattle.pc_top.specs.declared.accepting.Accepted.{Accepted}
 use Rattle.pc_top.specs.declared.source.Source.{Source}
@@ -50,9 +56,30 @@ ran_not_one (cut n h) e = omega arith
 pub derived_not_one : (a : Accepted) (v : Verdict) → Derived a v → v.status ≡ 1 → ⊥
 derived_not_one a v d e = let zero : v.status ≡ 0 = ap (λ (w : Verdict). w.status) d.2 in omega (arith, zero, e)
 
+pub sent_not_one : (a : Accepted) (v : Verdict) → Sent a v → v.status ≡ 1 → ⊥
+sent_not_one a v s e = let zero : v.status ≡ 0 = ap (λ (w : Verdict). w.status) s.2 in omega (arith, zero, e)
+
 pub scheduled_not_one : (schedule : Named) (a : Accepted) (v : Verdict) → Scheduled schedule a v → v.status ≡ 1 → ⊥
 scheduled_not_one schedule a v (refuses r g h) e = other_not_one v.status (schedule_other h) e
 scheduled_not_one schedule a v (goes_on r x g h l) e = ran_not_one l e
+
+swapping_not_one : {name : Text} {core : CoreData} {list : List ℕ} {place : ℕ} {end : Result Text Verdict} → Swapping name core list place end → (swapped end).status ≡ 1 → ⊥
+swapping_not_one (tells t text a h) e = omega arith
+swapping_not_one (no_place past) e = omega arith
+swapping_not_one (too_long t n a h) e = omega arith
+
+pub swap_not_one : (schedule : Named) (place : ℕ) (a : Accepted) (v : Verdict) → SwapScheduled schedule place a v → v.status ≡ 1 → ⊥
+swap_not_one schedule place a v (refuses r g h) e = other_not_one v.status (schedule_other h) e
+swap_not_one schedule place a v (goes_on r x g h l) e = swapping_not_one l.1 (ap (λ (w : Verdict). w.status) (sym l.2) ∙ e)
+
+tracing_not_one : {name : Text} {core : CoreData} {list : List ℕ} {end : Result Text Verdict} → Tracing name core list end → (traced end).status ≡ 1 → ⊥
+tracing_not_one (traced_text touches text h is) e = omega arith
+tracing_not_one (traced_long n h) e = omega arith
+tracing_not_one (too_many n h) e = omega arith
+
+pub trace_not_one : (schedule : Named) (a : Accepted) (v : Verdict) → TraceScheduled schedule a v → v.status ≡ 1 → ⊥
+trace_not_one schedule a v (refuses r g h) e = other_not_one v.status (schedule_other h) e
+trace_not_one schedule a v (goes_on r x g h l) e = tracing_not_one l.1 (ap (λ (w : Verdict). w.status) (sym l.2) ∙ e)
 
 pub made_not_one : (seed size : ℕ) (a : Accepted) (v : Verdict) → MadeRun seed size a v → v.status ≡ 1 → ⊥
 made_not_one seed size a v (w, r, is) e = ran_not_one r (sym (ap (λ (x : Verdict). x.status) is) ∙ e)
@@ -91,6 +118,10 @@ module _ (formed : CoresAreFormed) (ruleless : NoneWithoutRule) (setless : NoneW
       (a, b, s, t, underivable (text_as made_name (made_text a b)) (MadeRun a b) v (λ x l. made_not_one a b x v l) is e)
   make_underivable seed size v (no_numbers n is) e = let two : v.status ≡ 2 = ap (λ (x : Verdict). x.status) is in absurd (omega (arith, two, e))
 
+  swap_underivable : (file schedule : Named) (place : Text) (v : Verdict) → IsSwap file schedule place v → v.status ≡ 1 → IfSome file.told IsUnderivable
+  swap_underivable file schedule place v (placed n p is) e = underivable file (SwapScheduled schedule n) v (λ a l. swap_not_one schedule n a v l) is e
+  swap_underivable file schedule place v (no_number none is) e = let two : v.status ≡ 2 = ap (λ (x : Verdict). x.status) is in absurd (omega (arith, two, e))
+
   verdict_refuses : (files : Files) (asked : Option Asked) (v : Verdict) → IsVerdictOf files asked v → v.status ≡ 1 → HasNoDerivationOf files.told asked
   verdict_refuses files None v is e = let two : v.status ≡ 2 = ap (λ (x : Verdict). x.status) is in absurd (omega (arith, two, e))
   verdict_refuses files (Some (check source)) v is e = (refl, underivable (named files source) Derived v (λ a l. derived_not_one a v l) is e)
@@ -98,6 +129,9 @@ module _ (formed : CoresAreFormed) (ruleless : NoneWithoutRule) (setless : NoneW
   verdict_refuses files (Some (run source schedule)) v is e = (refl, underivable (named files source) (Scheduled (named files schedule)) v (λ a l. scheduled_not_one (named files schedule) a v l) is e)
   verdict_refuses files (Some (show source)) v is e = absurd (show_not_one (named files source) v is e)
   verdict_refuses files (Some (make seed size)) v is e = (refl, make_underivable seed size v is e)
+  verdict_refuses files (Some (swap source schedule place)) v is e = (refl, swap_underivable (named files source) (named files schedule) place v is e)
+  verdict_refuses files (Some (trace source schedule)) v is e = (refl, underivable (named files source) (TraceScheduled (named files schedule)) v (λ a l. trace_not_one (named files schedule) a v l) is e)
+  verdict_refuses files (Some (sends source)) v is e = (refl, underivable (named files source) Sent v (λ a l. sent_not_one a v l) is e)
 
   pub refused_underivable : RefusedIsUnderivable
   refused_underivable files words v is e = verdict_refuses files (command_of words) v is e

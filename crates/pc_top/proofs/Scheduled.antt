@@ -1,13 +1,13 @@
 -- From what the reading of a schedule answers to its stages.
-use Rattle.std.proofs.Common.{◌≤◌, ℕ, List, Ok}
+use Rattle.std.proofs.Common.{◌≡◌, ◌≤◌, ℕ, List, Ok, refl}
 use Rattle.std.specs.Prelude.{codes}
 use Rattle.pc_sched.specs.Limits.{turn_limit}
-use Rattle.pc_sched.specs.Schedules.{FirstFault, total}
+use Rattle.pc_sched.specs.Schedules.{FirstFault, TurnList, total}
 use Rattle.pc_sched.specs.declared.fault.SchedFault.TheVariants.{BadWord, TooMany}
 use Rattle.pc_sched.specs.declared.turns.Turn.{Turn}
 use Rattle.pc_args.specs.Asked.{Text}
 use Rattle.pc_top.specs.After.After.{goes}
-use Rattle.pc_top.specs.Named.{Reading}
+use Rattle.pc_top.specs.Named.{Reading, whole}
 use Rattle.pc_top.specs.Refusal.{IsPlaceRefusal}
 use Rattle.pc_top.specs.Schedule.{ScheduleStage, Scheduling}
 use Rattle.pc_top.specs.Schedule.Scheduling.{bad_word, scheduled, too_many}
@@ -27,6 +27,10 @@ many_stop name bytes at (Refused status line) r h = rw (h.0, h.1) (too_many at r
 many_stop name bytes at (File n) r h = h
 many_stop name bytes at Sink r h = h
 many_stop name bytes at Memory r h = tt
+
+-- The schedule was read whole, and its words are these turns.
+pub schedule_says : {name : Text} {r : Reading} {turns : List Turn} → ScheduleStage name r (Ok turns) → (bytes : Text) × (r ≡ whole bytes) × TurnList bytes turns
+schedule_says (goes (fits {bytes = b} l) (scheduled t)) = (b, refl, t)
 
 -- The turns of a schedule are not too many.
 pub few_turns : {name : Text} {r : Reading} {turns : List Turn} → ScheduleStage name r (Ok turns) → total turns ≤ turn_limit

@@ -13,10 +13,9 @@ use Rattle.pc_token.specs.declared.kinds.Token.{Token}
 use Rattle.pc_tree.specs.Tree as t
 use Rattle.pc_run.specs.Spreading.{spread}
 use Rattle.pc_sched.specs.Limits.{schedule_limit}
-use Rattle.pc_sched.specs.Schedules.{TurnList}
 use Rattle.pc_sched.specs.declared.turns.Turn.{Turn}
 use Rattle.pc_semantics.specs.Text.{run_text}
-use Rattle.pc_args.specs.Asked.{Text, Asked, check, judge, run, show, make, command_of}
+use Rattle.pc_args.specs.Asked.{Text, Asked, check, judge, run, show, make, swap, trace, sends, command_of}
 use Rattle.pc_top.specs.Accepting.{AcceptedStage}
 use Rattle.pc_top.specs.After.After.{goes}
 use Rattle.pc_top.specs.Answer.{Answer}
@@ -25,7 +24,7 @@ use Rattle.pc_top.specs.Check.{Derived, IsCheck}
 use Rattle.pc_io.specs.Change.{Change}
 use Rattle.pc_top.specs.FromFile.{FromFile}
 use Rattle.pc_top.specs.FromFile.FromFile.{goes_on}
-use Rattle.pc_top.specs.Judge.{DerivationStage, Judged, Judging, IsJudge, accepted_text, derivation_limit, judged}
+use Rattle.pc_top.specs.Judge.{DerivationStage, Judged, Judging, IsJudge, accepted_text, in_parts, derivation_limit, judged}
 use Rattle.pc_top.specs.Judge.Deriving.{reads}
 use Rattle.pc_top.specs.Judge.Judging.{holds, fails}
 use Rattle.pc_top.specs.CoreOf.{CoreOf}
@@ -36,7 +35,7 @@ use Rattle.pc_top.specs.OnOut.{WritesDerivation, WritesMade, WritesRun, WritesTr
 use Rattle.pc_top.specs.Run.{Ran, Scheduled, IsRun}
 use Rattle.pc_top.specs.Run.Ran.{whole as ran_whole, cut}
 use Rattle.pc_top.specs.Schedule.{ScheduleStage}
-use Rattle.pc_top.specs.Schedule.Scheduling.{scheduled}
+use Rattle.pc_top.specs.Sends.{TablesTell}
 use Rattle.pc_top.specs.Show.{FileStage, IsShow, Shown}
 use Rattle.pc_top.specs.Source.{SourceStage, source_limit}
 use Rattle.pc_top.specs.Source.Length.{fits}
@@ -48,7 +47,11 @@ use Rattle.pc_top.specs.declared.source.Source.{Source}
 use Rattle.pc_top.proofs.Accepted.{accepting, of_told, passed, source_whole, words_refuse}
 use Rattle.pc_top.proofs.Deriving.{source_says, accepted_source}
 use Rattle.pc_top.proofs.Lengths.{text_within}
+use Rattle.pc_top.proofs.Scheduled.{schedule_says}
+use Rattle.pc_top.proofs.Sent.{sends_on_out}
 use Rattle.pc_top.proofs.Statuses.{accepted_refuses, derivation_other, file_other, other_refuses, schedule_other, six_refuses, source_other}
+use Rattle.pc_top.proofs.Swaps.{swap_on_out}
+use Rattle.pc_top.proofs.Accesses.{trace_on_out}
 
 -- ---- check
 
@@ -69,9 +72,9 @@ judging_says (fails f h) e = absurd (six_refuses e)
 
 judge_says : (file derivation : Named) (v : Verdict) → IsJudge file derivation v → IsAccepting v.status → v.out ≡ accepted_text
 judge_says file derivation v is e =
-    let Next : Source → Verdict → Type 0 = λ s. FromFile derivation derivation_limit (DerivationStage derivation.name) (Judged file.name derivation.name s) in
+    let Next : Source → Verdict → Type 0 = λ s. FromFile (in_parts derivation) derivation_limit (DerivationStage derivation.name) (Judged file.name derivation.name s) in
     let p = passed file source_limit (SourceStage file.name) Next v (λ r h. other_refuses v.status (source_other h) e) is in
-    let d = passed derivation derivation_limit (DerivationStage derivation.name) (Judged file.name derivation.name p.1) v (λ r h. other_refuses v.status (derivation_other h) e) p.4 in
+    let d = passed (in_parts derivation) derivation_limit (DerivationStage derivation.name) (Judged file.name derivation.name p.1) v (λ r h. other_refuses v.status (derivation_other h) e) p.4 in
     let said = judging_says d.4.1 (subst (λ (w : Verdict). IsAccepting w.status) d.4.2 e) in
     subst (λ (w : Verdict). w.out ≡ accepted_text) (sym d.4.2) said
 
@@ -80,10 +83,6 @@ judge_says file derivation v is e =
 ran_says : {name : Text} {core : CoreData} {list : List ℕ} {v : Verdict} → Ran name core list v → v.out ≡ run_text core list
 ran_says (ran_whole h) = refl
 ran_says (cut n h) = refl
-
--- the schedule was read whole, and its words are these turns
-schedule_says : {name : Text} {r : Reading} {turns : List Turn} → ScheduleStage name r (Ok turns) → (bytes : Text) × (r ≡ whole bytes) × TurnList bytes turns
-schedule_says (goes (fits {bytes = b} l) (scheduled t)) = (b, refl, t)
 
 run_on_out : (file schedule : Named) (v : Verdict) (out : Change) → IsRun file schedule v → IsAccepting v.status → Appends out.before out.now v.out
     → IfSome file.told (λ bytes. IfSome schedule.told (WritesRun out bytes))
@@ -135,19 +134,22 @@ make_on_out seed size v out (no_numbers n is) e o = absurd (words_refuse v (ap (
 
 -- ---- all
 
-verdict_writes : (files : Files) (asked : Option Asked) (v : Verdict) (out : Change) → IsVerdictOf files asked v → IsAccepting v.status → Appends out.before out.now v.out
+verdict_writes : TablesTell → (files : Files) (asked : Option Asked) (v : Verdict) (out : Change) → IsVerdictOf files asked v → IsAccepting v.status → Appends out.before out.now v.out
     → OnOutOf files.told asked out
-verdict_writes files None v out is e o = words_refuse v (ap (λ (x : Verdict). x.status) is) e
-verdict_writes files (Some (check source)) v out is e o = check_on_out (named files source) v out is e o
-verdict_writes files (Some (judge source derivation)) v out is e o =
+verdict_writes tells files None v out is e o = words_refuse v (ap (λ (x : Verdict). x.status) is) e
+verdict_writes tells files (Some (check source)) v out is e o = check_on_out (named files source) v out is e o
+verdict_writes tells files (Some (judge source derivation)) v out is e o =
     subst (λ (t : Text). Appends out.before out.now t) (judge_says (named files source) (named files derivation) v is e) o
-verdict_writes files (Some (run source schedule)) v out is e o = run_on_out (named files source) (named files schedule) v out is e o
-verdict_writes files (Some (show source)) v out is e o = show_on_out (named files source) v out is e o
-verdict_writes files (Some (make seed size)) v out is e o = make_on_out seed size v out is e o
+verdict_writes tells files (Some (run source schedule)) v out is e o = run_on_out (named files source) (named files schedule) v out is e o
+verdict_writes tells files (Some (show source)) v out is e o = show_on_out (named files source) v out is e o
+verdict_writes tells files (Some (make seed size)) v out is e o = make_on_out seed size v out is e o
+verdict_writes tells files (Some (swap source schedule place)) v out is e o = swap_on_out (named files source) (named files schedule) place v out is e o
+verdict_writes tells files (Some (trace source schedule)) v out is e o = trace_on_out (named files source) (named files schedule) v out is e o
+verdict_writes tells files (Some (sends source)) v out is e o = sends_on_out tells (named files source) v out is e o
 
-pub answer_writes : (files : Files) (words : List Text) (out err : Change) (status : ℕ)
+pub answer_writes : TablesTell → (files : Files) (words : List Text) (out err : Change) (status : ℕ)
     → Answer (IsVerdict files words) (FailedIn files words) out err status → IsAccepting status → OnOut files.told words out
-answer_writes files words out err status h e = let a = accepting files words out err status h e in verdict_writes files (command_of words) a.0 out a.1 a.2 a.3
+answer_writes tells files words out err status h e = let a = accepting files words out err status h e in verdict_writes tells files (command_of words) a.0 out a.1 a.2 a.3
 
 -- ---- from one command to the other
 

@@ -1,7 +1,7 @@
 -- The verdict on the words of a command line.
 use Rattle.std.specs.Prelude.{ℕ, ◌≡◌, Option, Some, None, List, IfSome, IsTrue}
 use Rattle.pc_gen.specs.Numbers.{IsSeed, IsSize}
-use Rattle.pc_args.specs.Asked.{Text, Asked, check, judge, run, show, make, command_of}
+use Rattle.pc_args.specs.Asked.{Text, Asked, check, judge, run, show, make, swap, trace, sends, command_of}
 use Rattle.pc_top.specs.Check.{IsCheck}
 use Rattle.pc_top.specs.Commands.{files_of, infers}
 use Rattle.pc_top.specs.CoreOf.{IsDerivable, IsUnderivable, HasSafeCore}
@@ -10,7 +10,10 @@ use Rattle.pc_top.specs.Lines.{usage_line}
 use Rattle.pc_top.specs.Make.{IsMake, made_text}
 use Rattle.pc_top.specs.Named.{Files, named, FailedAmong}
 use Rattle.pc_top.specs.Run.{IsRun}
+use Rattle.pc_top.specs.Sends.{IsSends}
 use Rattle.pc_top.specs.Show.{IsShow}
+use Rattle.pc_top.specs.Swap.{IsSwap}
+use Rattle.pc_top.specs.Trace.{IsTrace}
 use Rattle.pc_top.specs.Verdict.{Verdict, refused}
 
 -- Words that the command line does not take are refused with status 2.
@@ -21,6 +24,9 @@ IsVerdictOf files (Some (judge source derivation)) v = IsJudge (named files sour
 IsVerdictOf files (Some (run source schedule)) v = IsRun (named files source) (named files schedule) v
 IsVerdictOf files (Some (show source)) v = IsShow (named files source) v
 IsVerdictOf files (Some (make seed size)) v = IsMake seed size v
+IsVerdictOf files (Some (swap source schedule place)) v = IsSwap (named files source) (named files schedule) place v
+IsVerdictOf files (Some (trace source schedule)) v = IsTrace (named files source) (named files schedule) v
+IsVerdictOf files (Some (sends source)) v = IsSends (named files source) v
 
 -- The verdict on the words: a status, a text on out and a line on err.
 abbrev pub IsVerdict : Files → List Text → Verdict → Type 0
@@ -49,6 +55,9 @@ OfSource Holds told (Some (judge source derivation)) = IfSome (told source) Hold
 OfSource Holds told (Some (run source schedule)) = IfSome (told source) Holds
 OfSource Holds told (Some (show source)) = Unit {0}
 OfSource Holds told (Some (make seed size)) = OfMade Holds seed size
+OfSource Holds told (Some (swap source schedule place)) = IfSome (told source) Holds
+OfSource Holds told (Some (trace source schedule)) = IfSome (told source) Holds
+OfSource Holds told (Some (sends source)) = IfSome (told source) Holds
 
 -- It has a core with a derivation.
 abbrev pub Accepts : (Text → Option Text) → List Text → Type 0

@@ -11,9 +11,9 @@ use Rattle.pc_top.specs.Lines.{unread_line}
 use Rattle.pc_top.specs.Named.{Files}
 use Rattle.pc_top.specs.Verdict.{Verdict}
 
--- A verdict's status is at most 8, or it is 12.
+-- A verdict's status is at most 8, or it is 12 or 15.
 abbrev pub NoVerdictIsAFailure : Type 0
-NoVerdictIsAFailure = (files : Files) (words : List Text) (v : Verdict) → IsVerdict files words v → (v.status ≤ 8) ⊎ (v.status ≡ 12)
+NoVerdictIsAFailure = (files : Files) (words : List Text) (v : Verdict) → IsVerdict files words v → (v.status ≤ 8) ⊎ (v.status ≡ 12) ⊎ (v.status ≡ 15)
 
 -- What an answer says of the words and the files.
 abbrev pub Answers : Files → List Text → Change → Change → ℕ → Type 0

@@ -1,10 +1,13 @@
 -- `judge SRC DERIV`.
-use Rattle.std.specs.Prelude.{ℕ, ◌≡◌, ◌++◌, Result, Ok, Err, codes}
+use Rattle.std.specs.Prelude.{ℕ, ◌≡◌, ◌⊎◌, ◌+◌, ◌++◌, Result, Ok, Err, codes}
 use Rattle.pc_ann.specs.declared.annotation.Ann.{Ann}
 use Rattle.pc_rules.specs.Valid.{Valid}
 use Rattle.pc_deriv.specs.Faults.{IsText, IsFault}
 use Rattle.pc_deriv.specs.declared.fault.DerivFault.{DerivFault}
 use Rattle.pc_deriv.specs.declared.fault.DerivFault.TheVariants as deriv
+use Rattle.pc_deriv.specs.Laws.{as_read}
+use Rattle.pc_feed.specs.declared.parts.DerivationFault.{DerivationFault}
+use Rattle.pc_feed.specs.declared.parts.DerivationFault.TheVariants as parts
 use Rattle.pc_judge.specs.Faults.{FirstFault}
 use Rattle.pc_judge.specs.declared.faults.JudgeFault.{JudgeFault}
 use Rattle.pc_judge.specs.declared.faults.JudgeFault.TheVariants as fault
@@ -12,10 +15,11 @@ use Rattle.pc_top.specs.After.{After}
 use Rattle.pc_args.specs.Asked.{Text}
 use Rattle.pc_top.specs.CoreFaults.{decl_offset, decl_text}
 use Rattle.pc_top.specs.FromFile.{FromFile}
-use Rattle.pc_top.specs.Lines.{line_end, bad_line, many_line, shape_line, slot_line, node_line, unset_line}
+use Rattle.pc_top.specs.Lines.{line_end, longer_line, bad_line, many_line, shape_line, slot_line, node_line, unset_line}
 use Rattle.pc_top.specs.Named.{Named, Reading}
 use Rattle.pc_top.specs.Refusal.{offset_line}
 use Rattle.pc_top.specs.Source.{Length, SourceStage, source_limit}
+use Rattle.pc_top.specs.Stages.{PartGives, PartStops, StageStops}
 use Rattle.pc_top.specs.Verdict.{Verdict, refused, done}
 use Rattle.pc_top.specs.declared.source.Source.{Source}
 use Rattle.pc_top.specs.declared.stop.Stop.{Stop}
@@ -24,6 +28,11 @@ use Rattle.pc_top.specs.declared.stop.Stop.TheVariants as stop
 -- how many bytes a derivation may have
 abbrev pub derivation_limit : ℕ
 derivation_limit = 33554432
+
+-- A derivation is read in parts, of which only the last one is counted in `taken`. Where the file is longer, that one begins
+-- behind all bytes that a derivation may have.
+abbrev pub in_parts : Named → Named
+in_parts file = record file { taken = derivation_limit + file.taken }
 
 -- The text of the derivation: 5 at the first line that is not of its form, and 8 where its first line asks for too many.
 abbrev pub text_status : DerivFault → ℕ
@@ -37,13 +46,6 @@ text_line name f = many_line name
 pub data Deriving (name bytes : Text) : Result Ann Verdict → Type 0 where
   reads : {ann : Ann} → IsText bytes ann → Deriving name bytes (Ok ann)
   garbled : (f : DerivFault) → IsFault bytes f → Deriving name bytes (Err (refused (text_status f) (text_line name f)))
-
--- The refusal of bytes that are no derivation's text, or want of memory.
-abbrev pub IsTextRefusal : Text → DerivFault → Stop → Type 0
-IsTextRefusal name f (stop.Refused status line) = (f ≡ deriv.Memory → ⊥) × (status ≡ text_status f) × (line ≡ text_line name f)
-IsTextRefusal name f (stop.File n) = ⊥
-IsTextRefusal name f stop.Sink = ⊥
-IsTextRefusal name f stop.Memory = Unit {0}
 
 -- The stages of the derivation: the annotation of its text.
 abbrev pub DerivationStage : Text → Reading → Result Ann Verdict → Type 0
@@ -75,4 +77,36 @@ Judged source_name name source ann v = (end : Result (Unit {0}) Verdict) × Judg
 -- The verdict of `judge` on this source and this derivation. The derivation is not looked at where the source is refused.
 abbrev pub IsJudge : Named → Named → Verdict → Type 0
 IsJudge source derivation = FromFile source source_limit (SourceStage source.name) (λ s.
-    FromFile derivation derivation_limit (DerivationStage derivation.name) (Judged source.name derivation.name s))
+    FromFile (in_parts derivation) derivation_limit (DerivationStage derivation.name) (Judged source.name derivation.name s))
+
+-- ---- how the judging of a derivation ended
+
+-- A refusal with this line, or want of memory.
+abbrev pub IsRefusal : ℕ → Text → Stop → Type 0
+IsRefusal wanted text (stop.Refused status line) = (status ≡ wanted) × (line ≡ text)
+IsRefusal wanted text (stop.File n) = ⊥
+IsRefusal wanted text stop.Sink = ⊥
+IsRefusal wanted text stop.Memory = Unit {0}
+
+-- A file that could not be read, or want of memory.
+abbrev pub IsUnread : Text → Stop → Type 0
+IsUnread name (stop.Refused status line) = ⊥
+IsUnread name (stop.File n) = n ≡ name
+IsUnread name stop.Sink = ⊥
+IsUnread name stop.Memory = Unit {0}
+
+-- What a fault of a derivation's file is answered with.
+abbrev pub IsDerivationStop : Text → Text → Source → DerivationFault → Stop → Type 0
+IsDerivationStop source_name name source parts.Failed s = IsUnread name s
+IsDerivationStop source_name name source parts.TooLong s = IsRefusal 8 (longer_line name derivation_limit) s
+IsDerivationStop source_name name source (parts.Text f) s = IsRefusal (text_status (as_read f)) (text_line name (as_read f)) s
+IsDerivationStop source_name name source (parts.Invalid f) s = IsRefusal 6 (judge_line source_name name source f) s
+IsDerivationStop source_name name source parts.Memory s = s ≡ stop.Memory
+
+-- Its stages gave an annotation that is valid, or they refused it, or the annotation is refused.
+abbrev pub DerivationJudged : Text → Source → Named → Result (Unit {0}) Stop → Type 0
+DerivationJudged source_name source file (Ok _) =
+    (ann : Ann) × PartGives derivation_limit (DerivationStage file.name) file ann × Judging source_name file.name source ann (Ok tt)
+DerivationJudged source_name source file (Err s) =
+    PartStops derivation_limit (DerivationStage file.name) file s
+    ⊎ ((ann : Ann) × PartGives derivation_limit (DerivationStage file.name) file ann × StageStops (Judging source_name file.name source ann) s)

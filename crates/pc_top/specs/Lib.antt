@@ -21,10 +21,14 @@ pub mod OnOut
 pub mod One
 pub mod Place
 pub mod Reading
+pub mod Referee
 pub mod Refusal
 pub mod Run
 pub mod Schedule
+pub mod Sends
 pub mod Show
 pub mod Source
 pub mod Stages
+pub mod Swap
+pub mod Trace
 pub mod Verdict

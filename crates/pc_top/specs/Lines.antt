@@ -25,6 +25,14 @@ place_line name line column what = name ++ (codes ":" ++ (decimal line ++ (codes
 abbrev pub too_long_line : Text → ℕ → Text
 too_long_line name n = name ++ (codes ": text too long at step " ++ (decimal n ++ line_end))
 
+-- The step of a run that would make more actors than a clock may speak of.
+abbrev pub many_actors_line : Text → ℕ → Text
+many_actors_line name n = name ++ (codes ": too many actors at step " ++ (decimal n ++ line_end))
+
+-- The place of a schedule behind which no turn stands.
+abbrev pub no_place_line : Text → ℕ → Text
+no_place_line name n = name ++ (codes ": no place " ++ (decimal n ++ line_end))
+
 -- A made program: its seed, its size and how many nodes its core has.
 abbrev pub counts_line : (seed size nodes : ℕ) → Text
 counts_line seed size nodes = codes "seed " ++ (decimal seed ++ (codes " size " ++ (decimal size ++ (codes " nodes " ++ (decimal nodes ++ line_end)))))

@@ -24,6 +24,6 @@ stopped status text line = record { status = status; out = text; err = line }
 abbrev pub headed : Text → Verdict → Verdict
 headed text v = record { status = v.status; out = text ++ v.out; err = v.err }
 
--- The status of a command that went through all its stages: 0, or 12 of a run that a text ended.
+-- The status of a command that went through all its stages: 0, or 12 where a text ended the run.
 abbrev pub IsAccepting : ℕ → Type 0
 IsAccepting status = (status ≡ 0) ⊎ (status ≡ 12)

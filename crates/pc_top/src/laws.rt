@@ -5,6 +5,7 @@ ghost use Rattle.pc_top.specs.Exact.{StatusesAreExact};
 ghost use Rattle.pc_top.specs.Failures.{FailuresAreTold, NoVerdictIsAFailure};
 ghost use Rattle.pc_top.specs.OnOut.{WrittenIsAccepted};
 ghost use Rattle.pc_top.specs.One.{VerdictIsOne};
+ghost use Rattle.pc_top.specs.Sends.{TablesTell};
 
 use pc_check::{
     nothing_is_derivable_with_a_declaration_that_fails, nothing_is_derivable_with_a_field_unset,
@@ -17,11 +18,15 @@ use pc_grammar::files_are_read;
 use pc_judge::{faulted_is_not_valid, one_fault_is_first};
 use pc_lex::{faults_are_told, tokens_are_one};
 use pc_names::names_are_one;
+use pc_noted::accepted_held;
 use pc_order::tokens_are_in_order;
 use pc_regions::valid_is_safe;
+use pc_rows::lines_are_one;
 use pc_rules::one_annotation_is_valid;
 use pc_sched::turns_are_one;
+use pc_sends::held_covers;
 use pc_sub::no_fault_where_declarations_fit;
+use pc_swap::kept_are_not_apart;
 
 /// The core of a source fits together, and is so small that its annotations have a text.
 pub fn cores_of_sources_are_formed()
@@ -53,6 +58,8 @@ pub fn verdict_is_one()
     faulted_is_not_valid();
     turns_are_one();
     pc_sched::faults_are_told();
+    kept_are_not_apart();
+    lines_are_one();
 }
 
 /// `check` answers 0 exactly where the source has a core with a derivation, and what looks for a derivation answers 1
@@ -104,4 +111,15 @@ pub fn derivable_sources_are_safe()
 {
     cores_of_sources_are_formed();
     valid_is_safe();
+}
+
+/// What `sends` tells of a source is true of every run: over every schedule each frame is one of a method that may begin or be
+/// sent, each message that is sent has its row, and no message of a method that is never sent waits anywhere. And each entity and
+/// method that its lines name is there.
+pub fn tables_tell_of_every_run()
+    ensures { TablesTell }
+{
+    cores_of_sources_are_formed();
+    accepted_held();
+    held_covers();
 }

@@ -1,11 +1,12 @@
 //! The top call: all that the program does, from its words, files and sinks to its exit status.
 //!
-//! Proved: The six clauses of `rcap`, and the laws beside it: there is one verdict (`verdict_is_one`), the statuses of
+//! Proved: The clauses of `rcap`, and the laws beside it: there is one verdict (`verdict_is_one`), the statuses of
 //! a told source are exact (`statuses_are_exact`), what `check` writes `judge` accepts
 //! (`written_derivations_are_accepted`), a source that is refused with 1 has no derivation
 //! (`refused_sources_have_no_derivation`), one that has a derivation is safe (`derivable_sources_are_safe`), the core of
-//! a source is formed (`cores_of_sources_are_formed`), and no verdict has the status of a failure
-//! (`no_verdict_is_a_failure`), at which out and err got a part of what was to be written (`failures_are_told`).
+//! a source is formed (`cores_of_sources_are_formed`), what `sends` tells is true of every run (`tables_tell_of_every_run`),
+//! and no verdict has the status of a failure (`no_verdict_is_a_failure`), at which out and err got a part of what was to
+//! be written (`failures_are_told`).
 #![tactic(auto)]
 
 mod accepting;
@@ -24,10 +25,15 @@ mod reading;
 mod refusal;
 mod run;
 mod schedule;
+mod sending;
+mod sent_lines;
 mod show;
 mod source;
 mod stop;
+mod swapping;
 mod top;
+mod traced_lines;
+mod tracing;
 mod tree;
 mod words;
 mod writing;
@@ -35,6 +41,6 @@ mod writing;
 pub use laws::{
     cores_of_sources_are_formed, derivable_sources_are_safe, failures_are_told,
     no_verdict_is_a_failure, refused_sources_have_no_derivation, statuses_are_exact,
-    verdict_is_one, written_derivations_are_accepted,
+    tables_tell_of_every_run, verdict_is_one, written_derivations_are_accepted,
 };
 pub use top::rcap;

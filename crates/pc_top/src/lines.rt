@@ -1,6 +1,6 @@
 //! The lines on err, and the first line of `make`.
 ghost use Rattle.std.specs.Prelude.{◌≡◌, IfOk};
-ghost use Rattle.pc_top.specs.Lines.{bad_line, counts_line, longer_line, many_line, no_main_line, node_line, place_line, shape_line, slot_line, too_long_line, unread_line, unset_line, usage_line};
+ghost use Rattle.pc_top.specs.Lines.{bad_line, counts_line, longer_line, many_actors_line, many_line, no_main_line, no_place_line, node_line, place_line, shape_line, slot_line, too_long_line, unread_line, unset_line, usage_line};
 
 use crate::place::Place;
 use pc_io::Bytes;
@@ -53,10 +53,26 @@ pub fn make_place_line(
 }
 
 /// `NAME: text too long at step N`, with a line end.
-pub fn make_too_long_line(alloc: Global, name: &str, step: u32) -> Result<Bytes, AllocError>
+pub fn make_too_long_line(alloc: Global, name: &str, step: u64) -> Result<Bytes, AllocError>
     ensures { IfOk result (λ line. line ≡ too_long_line name.now step) }
 {
     let text = format!(in alloc; "{name}: text too long at step {step}\n")?;
+    Bytes::copy_of(alloc, text.as_bytes())
+}
+
+/// `NAME: too many actors at step N`, with a line end.
+pub fn make_many_actors_line(alloc: Global, name: &str, step: u64) -> Result<Bytes, AllocError>
+    ensures { IfOk result (λ line. line ≡ many_actors_line name.now step) }
+{
+    let text = format!(in alloc; "{name}: too many actors at step {step}\n")?;
+    Bytes::copy_of(alloc, text.as_bytes())
+}
+
+/// `NAME: no place N`, with a line end.
+pub fn make_no_place_line(alloc: Global, name: &str, place: u32) -> Result<Bytes, AllocError>
+    ensures { IfOk result (λ line. line ≡ no_place_line name.now place) }
+{
+    let text = format!(in alloc; "{name}: no place {place}\n")?;
     Bytes::copy_of(alloc, text.as_bytes())
 }
 

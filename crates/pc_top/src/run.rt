@@ -68,7 +68,7 @@ pub fn run_turns<O: Sink>(
         Ok(_) => Ok(()),
         Err(RunFault::TooLong(step)) => Err(Stop::Refused {
             status: 12,
-            line: make_too_long_line(alloc, name, step)?,
+            line: make_too_long_line(alloc, name, step as u64)?,
         }),
         Err(RunFault::Sink) => Err(Stop::Sink),
         Err(RunFault::Memory) => Err(Stop::Memory),

@@ -2,40 +2,50 @@
 ghost use Rattle.std.specs.Prelude.{◌≡◌, ◌≤◌};
 ghost use Rattle.pc_top.specs.Answer.{Answer};
 ghost use Rattle.pc_top.specs.Asked.{Accepts, FailedIn, IsMadeSafe, IsVerdict, HasNoDerivation};
-ghost use Rattle.pc_args.specs.Asked.{texts};
+ghost use Rattle.pc_args.specs.Asked.{command_of, texts};
 ghost use Rattle.pc_top.specs.Complete.{Completes};
 ghost use Rattle.pc_io.specs.Change.{change};
 ghost use Rattle.pc_top.specs.Ends.{Ends};
 ghost use Rattle.pc_top.specs.Named.{files_change};
-ghost use Rattle.pc_top.specs.OnOut.{OnOut};
+ghost use Rattle.pc_top.specs.OnOut.{OnOut, Swaps, Traces};
+ghost use Rattle.pc_top.specs.Referee.{Asks, AsksSo};
 ghost use Rattle.pc_top.specs.Verdict.{IsAccepting};
 
 use crate::check::run_check;
 use crate::finish::finish;
 use crate::judge::run_judge;
-use crate::laws::{derivable_sources_are_safe, refused_sources_have_no_derivation};
+use crate::laws::{
+    derivable_sources_are_safe, refused_sources_have_no_derivation, tables_tell_of_every_run,
+};
 use crate::make::run_make;
 use crate::run::run_program;
+use crate::sending::run_sends;
 use crate::show::run_show;
 use crate::stop::Stop;
+use crate::swapping::run_swap;
+use crate::tracing::run_trace;
 use crate::words::refuse_words;
 use pc_args::{Command, WordsFault, read_words};
 use pc_io::{Files, Sink};
+use pc_referee::Referee;
 use std::alloc::Global;
 
 /// Does what the words after the program's name ask for, and answers the exit status.
 ///
 /// The status is 0 where the command is done, with its text on out, and else that of the refusal, with its line on err. It is
-/// 12 where a run comes to a text that is too long, with what was printed on out and the line on err.
+/// 12 where a run comes to a text that is too long, with what was printed on out and the line on err; `swap` and `trace`
+/// write nothing then. It is 8 where `trace` comes to a step that would make the 65th actor. It is 15 where a schedule has no two turns at the place that is asked for.
 /// It is 9 where a file of the command could not be read, 10 where out or err failed, and 11 at want of memory. A derivation,
-/// `accepted`, a printed tree, each printed text of a run and its numbers, and the first line of a made program are one call
-/// of `put` each on out, and the line is one on err; after a failed call on out nothing more is written.
-pub fn rcap<F: Files, O: Sink, E: Sink>(
+/// `accepted`, a printed tree, each printed text of a run and its numbers, the first line of a made program, what is told of two
+/// turns, all accesses of a run with their clocks, and all that is told of who sends what are one call of `put` each on out, and the line is one on err; after a failed
+/// call on out nothing more is written. `judge` asks the referee of each node of the derivation.
+pub fn rcap<F: Files, O: Sink, E: Sink, R: Referee>(
     alloc: Global,
     words: &[&str],
     files: &mut F,
     out: &mut O,
     err: &mut E,
+    referee: &mut R,
 ) -> u8
     // The status, the text on out and the line on err are the verdict's, or the answer is a fault with its cause, or want
     // of memory.
@@ -56,9 +66,21 @@ pub fn rcap<F: Files, O: Sink, E: Sink>(
     // The source or the made program that is refused with status 1 has a core, and the core has no derivation.
     ensures refused { result ≡ 1 → HasNoDerivation (F.bytes files.old) (texts words.now) }
 
-    // The derivation of the source, `accepted`, the text of the run, the printed tree, or the made program's numbers and the
-    // text of its run are on out.
+    // The derivation of the source, `accepted`, the text of the run, the printed tree, the made program's numbers and the
+    // text of its run, the exchanged schedule, the accesses of the run, or the lines of who sends what are on out. What those lines say is true of every
+    // run: over every list of actors, of every length, what an actor is about to send has its line, and no message of a method
+    // that is told as never sent waits anywhere.
     ensures writes { IsAccepting result → OnOut (F.bytes files.old) (texts words.now)
+        (change (O.written out.old) (O.written out.new) (O.faults out.old) (O.faults out.new)) }
+
+    // Two turns of a schedule that `swap` exchanges lead where they led: all four steps move, and the schedule that is on out
+    // leads to the configuration to which the other one leads.
+    ensures swaps { result ≡ 0 → Swaps (F.bytes files.old) (texts words.now)
+        (change (O.written out.old) (O.written out.new) (O.faults out.old) (O.faults out.new)) }
+
+    // Where `trace` is done, all accesses of the run stand on out with their clocks. Of every two events of different actors in
+    // the run that touch one field of one object, one of them writing, the earlier comes before the later.
+    ensures traces { result ≡ 0 → Traces (F.bytes files.old) (texts words.now)
         (change (O.written out.old) (O.written out.new) (O.faults out.old) (O.faults out.new)) }
 
     // Where no file of the command and no sink failed, the answer is the verdict or want of memory.
@@ -66,33 +88,51 @@ pub fn rcap<F: Files, O: Sink, E: Sink>(
         Completes (IsVerdict files (texts words.now)) (FailedIn files (texts words.now))
         (change (O.written out.old) (O.written out.new) (O.faults out.old) (O.faults out.new))
         (change (E.written err.old) (E.written err.new) (E.faults err.old) (E.faults err.new)) result }
+
+    // Where `judge` answers 0, the referee was asked of each node of the source's core, in order, with its note in the
+    // derivation. No other command asks it.
+    ensures asks { Asks (F.bytes files.old) (command_of (texts words.now)) result (R.asked referee.old) (R.asked referee.new) }
 {
     refused_sources_have_no_derivation();
     derivable_sources_are_safe();
-    let ended = run_words(alloc, words, files, out);
+    tables_tell_of_every_run();
+    let ended = run_words(alloc, words, files, out, referee);
     finish(alloc, ended, err)
 }
 
 // Runs the command of the words.
-fn run_words<F: Files, O: Sink>(
+fn run_words<F: Files, O: Sink, R: Referee>(
     alloc: Global,
     words: &[&str],
     files: &mut F,
     out: &mut O,
+    referee: &mut R,
 ) -> Result<(), Stop>
     ensures out_later { O.faults out.old ≤ O.faults out.new }
     ensures ends { let files = files_change (F.bytes files.old) (F.faults files.old) (F.faults files.new) (F.taken files.new) in
         Ends (IsVerdict files (texts words.now)) (FailedIn files (texts words.now))
         (change (O.written out.old) (O.written out.new) (O.faults out.old) (O.faults out.new)) result }
+    ensures asks { AsksSo (F.bytes files.old) (command_of (texts words.now)) (R.asked referee.old) (R.asked referee.new) result }
 {
     match read_words(alloc, words) {
         Ok(Command::Check { source }) => run_check(alloc, files, out, source),
         Ok(Command::Judge { source, derivation }) => {
-            run_judge(alloc, files, out, source, derivation)
+            run_judge(alloc, files, out, source, derivation, referee)
         }
         Ok(Command::Run { source, schedule }) => run_program(alloc, files, out, source, schedule),
         Ok(Command::Show { source }) => run_show(alloc, files, out, source),
         Ok(Command::Make { seed, size }) => run_make(alloc, out, seed, size),
+        Ok(
+            Command::Swap {
+                source,
+                schedule,
+                place,
+            },
+        ) => run_swap(alloc, files, out, source, schedule, place),
+        Ok(Command::Trace { source, schedule }) => {
+            run_trace(alloc, files, out, source, schedule)
+        }
+        Ok(Command::Sends { source }) => run_sends(alloc, files, out, source),
         Err(WordsFault::Refused) => Err(refuse_words(alloc)),
         Err(WordsFault::Memory) => Err(Stop::Memory),
     }

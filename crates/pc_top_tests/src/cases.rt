@@ -1,6 +1,7 @@
 //! The commands on whole texts, with files and sinks that fail.
 
 use pc_io::{MemFiles, MemSink};
+use pc_referee::Rules;
 use pc_top::rcap;
 use std::alloc::{AllocError, Global};
 use std::process::Abort;
@@ -68,7 +69,14 @@ pub(crate) fn answers(
     files.add("a.sched", given.other)?;
     let mut out = MemSink::new(alloc, given.out)?;
     let mut err = MemSink::new(alloc, given.err)?;
-    let status = rcap(alloc, given.words, &mut files, &mut out, &mut err);
+    let status = rcap(
+        alloc,
+        given.words,
+        &mut files,
+        &mut out,
+        &mut err,
+        &mut Rules,
+    );
     assert_eq!(rt; status, wanted.status);
     assert_eq!(rt; out.bytes(), wanted.out.as_bytes());
     assert_eq!(rt; err.bytes(), wanted.err.as_bytes());
@@ -81,7 +89,10 @@ pub(crate) fn derive(rt: &impl Abort, alloc: Global, source: &[u8]) -> Result<Ve
     files.add("a.pony", source)?;
     let mut out = MemSink::new(alloc, &[])?;
     let mut err = MemSink::new(alloc, &[])?;
-    assert_eq!(rt; rcap(alloc, CHECK, &mut files, &mut out, &mut err), 0);
+    assert_eq!(rt;
+        rcap(alloc, CHECK, &mut files, &mut out, &mut err, &mut Rules),
+        0
+    );
     assert!(rt; err.bytes().is_empty());
     out.bytes().to_vec(alloc)
 }

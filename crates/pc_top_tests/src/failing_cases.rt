@@ -3,6 +3,7 @@
 use crate::cases::Wanted;
 use crate::programs::{DOUBLES, GREETING};
 use pc_io::{MemFiles, MemSink};
+use pc_referee::Rules;
 use pc_top::rcap;
 use std::alloc::{AllocError, Global};
 use std::process::Abort;
@@ -118,7 +119,14 @@ fn answers(
     }
     let mut out = MemSink::new(alloc, failing.out)?;
     let mut err = MemSink::new(alloc, failing.err)?;
-    let status = rcap(alloc, failing.words, &mut files, &mut out, &mut err);
+    let status = rcap(
+        alloc,
+        failing.words,
+        &mut files,
+        &mut out,
+        &mut err,
+        &mut Rules,
+    );
     assert_eq!(rt; status, wanted.status);
     assert_eq!(rt; out.bytes(), wanted.out.as_bytes());
     assert_eq!(rt; err.bytes(), wanted.err.as_bytes());

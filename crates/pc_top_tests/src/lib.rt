@@ -31,8 +31,16 @@ mod programs;
 #[cfg(test)]
 mod put_cases;
 #[cfg(test)]
+mod referee_cases;
+#[cfg(test)]
 mod run_cases;
 #[cfg(test)]
+mod sends_cases;
+#[cfg(test)]
 mod show_cases;
+#[cfg(test)]
+mod swap_cases;
+#[cfg(test)]
+mod trace_cases;
 #[cfg(test)]
 mod tree_cases;

@@ -2,6 +2,7 @@
 
 use crate::cases::{Given, Wanted, answers, whole};
 use pc_io::{MemFiles, MemSink};
+use pc_referee::Rules;
 use pc_top::rcap;
 use std::alloc::{AllocError, Global};
 use std::process::Abort;
@@ -76,7 +77,7 @@ fn status_of(alloc: Global, seed: &str) -> Result<u8, AllocError> {
     let mut out = MemSink::new(alloc, &[])?;
     let mut err = MemSink::new(alloc, &[])?;
     let words = ["make", seed, "8"];
-    Ok(rcap(alloc, &words, &mut files, &mut out, &mut err))
+    Ok(rcap(alloc, &words, &mut files, &mut out, &mut err, &mut Rules))
 }
 
 #[test]

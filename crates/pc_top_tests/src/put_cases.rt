@@ -3,6 +3,7 @@
 use crate::counted_sink::CountedSink;
 use crate::programs::{DOUBLES, GREETING, SHARED};
 use pc_io::MemFiles;
+use pc_referee::Rules;
 use pc_top::rcap;
 use std::alloc::{AllocError, Global};
 use std::process::Abort;
@@ -44,7 +45,7 @@ n seq - 3 0 3 0\nn body - 3 0 3 0\n";
 
 const PRINTED: &str = "class C\n\nactor Main\n  new create(env: Env) =>\n    let a: C iso = C\n";
 
-const CASES: [Writing<'_>; 10] = [
+const CASES: [Writing<'_>; 11] = [
     Writing {
         words: CHECK,
         source: LOCAL,
@@ -110,6 +111,14 @@ const CASES: [Writing<'_>; 10] = [
         line: "",
     },
     Writing {
+        words: &["swap", "a.pony", "other", "10"],
+        source: GREETING,
+        other: "1*10 0",
+        status: 0,
+        pieces: &["1*9 0 1\n"],
+        line: "",
+    },
+    Writing {
         words: CHECK,
         source: b"",
         other: "",
@@ -147,7 +156,14 @@ fn write(
     files.add("other", writing.other.as_bytes())?;
     let mut out = CountedSink::new(alloc, out)?;
     let mut err = CountedSink::new(alloc, err)?;
-    let status = rcap(alloc, writing.words, &mut files, &mut out, &mut err);
+    let status = rcap(
+        alloc,
+        writing.words,
+        &mut files,
+        &mut out,
+        &mut err,
+        &mut Rules,
+    );
     Ok(Written { status, out, err })
 }
 

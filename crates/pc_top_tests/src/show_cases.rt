@@ -3,6 +3,7 @@
 use crate::cases::{Given, Wanted, answers, whole};
 use crate::programs::{BANK, CHAIN};
 use pc_io::{MemFiles, MemSink};
+use pc_referee::Rules;
 use pc_top::rcap;
 use std::alloc::{AllocError, Global};
 use std::process::Abort;
@@ -20,7 +21,10 @@ fn shown(rt: &impl Abort, alloc: Global, source: &[u8]) -> Result<Vec<u8>, Alloc
     files.add("a.pony", source)?;
     let mut out = MemSink::new(alloc, &[])?;
     let mut err = MemSink::new(alloc, &[])?;
-    assert_eq!(rt; rcap(alloc, SHOW, &mut files, &mut out, &mut err), 0);
+    assert_eq!(rt;
+        rcap(alloc, SHOW, &mut files, &mut out, &mut err, &mut Rules),
+        0
+    );
     assert!(rt; err.bytes().is_empty());
     out.bytes().to_vec(alloc)
 }

@@ -3,6 +3,7 @@
 use crate::cases::{CHECK, ends};
 use crate::programs::{BANK, CHAIN, GREETING};
 use pc_io::{MemFiles, MemSink};
+use pc_referee::Rules;
 use pc_top::rcap;
 use std::alloc::{AllocError, Global};
 use std::test::Fail;
@@ -83,7 +84,7 @@ fn ends_in(alloc: Global, source: &[u8]) -> Result<bool, AllocError> {
     files.add("a.pony", source)?;
     let mut out = MemSink::new(alloc, &[])?;
     let mut err = MemSink::new(alloc, &[])?;
-    let status = rcap(alloc, CHECK, &mut files, &mut out, &mut err);
+    let status = rcap(alloc, CHECK, &mut files, &mut out, &mut err, &mut Rules);
     let line = err.bytes();
     Ok(match status {
         0 => line.is_empty() && out.bytes().starts_with(b"rcap-derivation 1 "),

@@ -32,4 +32,6 @@ returns c =
       turns = c.turns_are_one.ensures;
       not_both = c.faults_are_told-2.ensures.not_both;
       word = c.faults_are_told-2.ensures.one;
+      kept = c.kept_are_not_apart.ensures;
+      line = c.lines_are_one.ensures;
     })

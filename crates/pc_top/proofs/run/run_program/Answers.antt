@@ -31,7 +31,7 @@ returns-in_err-turns-clause-ends g c =
     rw (p.1, p.2)
     (second_stops source_limit schedule_limit (AcceptedStage s) (ScheduleStage d) (λ (a : Accepted) (turns : List Turn). Ran d a.source.core (spread turns)) s d
     (g.F.Files.bytes c.args.files.now) (g.F.Files.bytes c.accept_source.new.files)
-    (g.F.Files.faults c.args.files.now) (g.F.Files.faults c.accept_source.new.files) (g.F.Files.faults c.read_schedule.new.files) (g.F.Files.taken c.accept_source.new.files) (g.F.Files.taken c.read_schedule.new.files)
+    (g.F.Files.faults c.args.files.now) (g.F.Files.faults c.accept_source.new.files) (g.F.Files.faults c.read_schedule.new.files) (g.F.Files.taken c.accept_source.new.files) (g.F.Files.taken c.read_schedule.new.files) (g.F.Files.taken c.read_schedule.new.files)
     c.in_ok-accepted.accepted (accepted_whole s c.in_ok-accepted.accepted) c.in_ok-accepted.ensures.stage (c.in_ok-accepted.ensures.same d) (c.in_ok-accepted.ensures.later d) (c.in_err-turns.ensures.later d)
     _ _ _ _ c.in_err-turns.ensures.stage)
 
@@ -49,6 +49,6 @@ returns-clause-ends g c =
     let out = change (g.O.Sink.written c.args.out.now) (g.O.Sink.written c.run_turns.new.out) (g.O.Sink.faults c.args.out.now) (g.O.Sink.faults c.run_turns.new.out) in
     second_goes_on source_limit schedule_limit (AcceptedStage s) (ScheduleStage d) (λ (a : Accepted) (turns : List Turn). Ran d a.source.core (spread turns)) s d
     (g.F.Files.bytes c.args.files.now) (g.F.Files.bytes c.accept_source.new.files)
-    (g.F.Files.faults c.args.files.now) (g.F.Files.faults c.accept_source.new.files) (g.F.Files.faults c.read_schedule.new.files) (g.F.Files.taken c.accept_source.new.files) (g.F.Files.taken c.read_schedule.new.files)
+    (g.F.Files.faults c.args.files.now) (g.F.Files.faults c.accept_source.new.files) (g.F.Files.faults c.read_schedule.new.files) (g.F.Files.taken c.accept_source.new.files) (g.F.Files.taken c.read_schedule.new.files) (g.F.Files.taken c.read_schedule.new.files)
     c.in_ok-accepted.accepted (accepted_whole s c.in_ok-accepted.accepted) c.in_ok-accepted.ensures.stage (c.in_ok-accepted.ensures.same d) (c.in_ok-accepted.ensures.later d) (c.in_ok-turns.ensures.later d)
     c.in_ok-turns.turns out _ c.in_ok-turns.ensures.stage (rw (← c.as_slice.ensures) c.run_turns.ensures.ends)
