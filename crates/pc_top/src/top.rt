@@ -34,11 +34,14 @@ use std::alloc::Global;
 ///
 /// The status is 0 where the command is done, with its text on out, and else that of the refusal, with its line on err. It is
 /// 12 where a run comes to a text that is too long, with what was printed on out and the line on err; `swap` and `trace`
-/// write nothing then. It is 8 where `trace` comes to a step that would make the 65th actor. It is 15 where a schedule has no two turns at the place that is asked for.
-/// It is 9 where a file of the command could not be read, 10 where out or err failed, and 11 at want of memory. A derivation,
-/// `accepted`, a printed tree, each printed text of a run and its numbers, the first line of a made program, what is told of two
-/// turns, all accesses of a run with their clocks, and all that is told of who sends what are one call of `put` each on out, and the line is one on err; after a failed
-/// call on out nothing more is written. `judge` asks the referee of each node of the derivation.
+/// write nothing then. It is 8 where `trace` comes to a step that would make the 65th actor, and 15 where a schedule has no
+/// two turns at the place that is asked for. It is 9 where a file of the command could not be read, 10 where out or err
+/// failed, and 11 at want of memory.
+///
+/// A derivation, `accepted`, a printed tree, each printed text of a run and its numbers, the first line of a made program,
+/// what is told of two turns, all accesses of a run with their clocks, and all that is told of who sends what are one call of
+/// `put` each on out, and the line is one on err; after a failed call on out nothing more is written. `judge` asks the
+/// referee of each node of the derivation.
 pub fn rcap<F: Files, O: Sink, E: Sink, R: Referee>(
     alloc: Global,
     words: &[&str],
@@ -67,9 +70,9 @@ pub fn rcap<F: Files, O: Sink, E: Sink, R: Referee>(
     ensures refused { result ≡ 1 → HasNoDerivation (F.bytes files.old) (texts words.now) }
 
     // The derivation of the source, `accepted`, the text of the run, the printed tree, the made program's numbers and the
-    // text of its run, the exchanged schedule, the accesses of the run, or the lines of who sends what are on out. What those lines say is true of every
-    // run: over every list of actors, of every length, what an actor is about to send has its line, and no message of a method
-    // that is told as never sent waits anywhere.
+    // text of its run, the exchanged schedule, the accesses of the run, or the lines of who sends what are on out. What those
+    // lines say is true of every run: over every list of actors, of every length, what an actor is about to send has its
+    // line, and no message of a method that is told as never sent waits anywhere.
     ensures writes { IsAccepting result → OnOut (F.bytes files.old) (texts words.now)
         (change (O.written out.old) (O.written out.new) (O.faults out.old) (O.faults out.new)) }
 
