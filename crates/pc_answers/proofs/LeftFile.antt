@@ -14,7 +14,7 @@ use Rattle.pc_token.specs.Asking.{is_sign, is_word}
 use Rattle.pc_grammar.specs.Asking.{local_word}
 use Rattle.pc_grammar.specs.SpellsFile.{method_word, entity_word}
 use Rattle.pc_grammar.specs.Reading.{unexpected, too_deep, Outcome, Parser, and_then, pure, ◌>>=◌, ◌>>◌, take_if, type_name, inner}
-use Rattle.pc_grammar.specs.ReadingFile.{kind_is_doc, is_doc, is_end, maybe_doc, maybe_hat, result_type, returns, param, param_list, params, value, field, begins_field, some_field, fields, written_body, body, cap_if, method_result, method_of, word_in, begins_method, some_method, type_names, provided, provides, entity_of, entity, begins_entity, file}
+use Rattle.pc_grammar.specs.ReadingFile.{kind_is_doc, is_doc, is_end, maybe_doc, maybe_hat, result_type, returns, param, param_list, params, value, field, begins_field, some_field, fields, written_body, maybe_body, body, cap_if, method_result, method_of, word_in, begins_method, some_method, type_names, provided, provides, entity_of, entity, begins_entity, file}
 use Rattle.pc_expr.proofs.Ends.{is_sign_not_end}
 use Rattle.pc_expr.specs.Gives.{EndsWithEnd}
 use Rattle.pc_answers.specs.Levels.{OpensLevel}
@@ -76,8 +76,12 @@ leaves_written_body : (n : ℕ) → Leaves (written_body n)
 unfolding written_body
 leaves_written_body n = leaves_bind _ _ (leaves_bind _ _ (leaves_bind _ _ (leaves_sign s.Arrow) (λ x. leaves_maybe_doc)) (λ d. leaves_seq n (inner n) (leaves_inner n))) (λ b. leaves_pure _)
 
+leaves_maybe_body : (n : ℕ) → Leaves (maybe_body n)
+unfolding maybe_body
+leaves_maybe_body n = leaves_peek _ (λ x. anywhere x _ (leaves_cond (is_sign s.Arrow x) _ _ (leaves_written_body n) (leaves_pure _)))
+
 leaves_body : (n : ℕ) (e : EntityKind) → Leaves (body n e)
-leaves_body n e = leaves_cond (is_abstract e) _ _ (leaves_pure _) (leaves_written_body n)
+leaves_body n e = leaves_cond (is_abstract e) _ _ (leaves_maybe_body n) (leaves_written_body n)
 
 leaves_cap_if : (b : Bool) → Leaves (cap_if b)
 leaves_cap_if b = leaves_cond b _ _ leaves_maybe_cap (leaves_pure _)

@@ -11,7 +11,7 @@ use Rattle.pc_token.specs.Asking.{is_sign, is_word}
 use Rattle.pc_grammar.specs.Asking.{local_word}
 use Rattle.pc_grammar.specs.SpellsFile.{method_word, entity_word}
 use Rattle.pc_grammar.specs.Reading.{◌>>◌, pure, peek, take_if, at, inner, name, type_name, written_type}
-use Rattle.pc_grammar.specs.ReadingFile.{maybe_doc, params, provides, entity_cap, method_cap, method_result, value, field, begins_field, some_field, fields, written_body, body, method_of, word_in, begins_method, some_method, entity_of, entity, begins_entity, file}
+use Rattle.pc_grammar.specs.ReadingFile.{maybe_doc, params, provides, entity_cap, method_cap, method_result, value, field, begins_field, some_field, fields, written_body, maybe_body, body, method_of, word_in, begins_method, some_method, entity_of, entity, begins_entity, file}
 use Rattle.pc_grammar.proofs.Agree.{Agrees, same, bind_agrees, cond_agrees, all_agrees, inner_agrees, infix_agrees, seq_agrees}
 
 module _ (n m : ℕ) (le : n ≤ m) where
@@ -34,8 +34,12 @@ module _ (n m : ℕ) (le : n ≤ m) where
   unfolding written_body
   written_body_agrees = bind_agrees _ _ _ _ (bind_agrees _ _ _ _ (same _) (λ d. seq_agrees n m le (inner n) (inner m) (inner_agrees n m le))) (λ b. same _)
 
+  maybe_body_agrees : Agrees (maybe_body n) (maybe_body m)
+  unfolding maybe_body
+  maybe_body_agrees = bind_agrees _ _ _ _ (same peek) (λ x. cond_agrees (is_sign s.Arrow x) _ _ _ _ written_body_agrees (same _))
+
   body_agrees : (e : EntityKind) → Agrees (body n e) (body m e)
-  body_agrees e = cond_agrees (is_abstract e) _ _ _ _ (same _) written_body_agrees
+  body_agrees e = cond_agrees (is_abstract e) _ _ _ _ maybe_body_agrees written_body_agrees
 
   method_agrees : (e : EntityKind) (i : MethodWord) → Agrees (method_of n e i) (method_of m e i)
   unfolding method_of

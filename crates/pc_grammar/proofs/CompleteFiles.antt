@@ -117,27 +117,27 @@ pub record Next (y : Token) : Type 0 where
 module _ (y : Token) where
   class_next : y.kind ≡ k.Word w.ClassWord → Next y
   unfolding begins_suffix op_of cap_of is_sign same_sign is_doc begins_item begins_field is_word same_word
-  class_next e = record { outer = record { calm = record { quiet = record { suffix = rw e; op = rw e; cap = rw e; colon = rw e; hat = rw e; assign = rw e }; doc = rw e }; stops = record { suffix = rw e; op = rw e; assign = rw e; semicolon = rw e; item = rw e }; field = rw e; names = rw e }; functions = rw e; behaviours = rw e; constructors = rw e }
+  class_next e = record { outer = record { calm = record { quiet = record { suffix = rw e; op = rw e; cap = rw e; colon = rw e; hat = rw e; assign = rw e }; doc = rw e }; stops = record { suffix = rw e; op = rw e; assign = rw e; semicolon = rw e; item = rw e }; arrow = rw e; field = rw e; names = rw e }; functions = rw e; behaviours = rw e; constructors = rw e }
 
   actor_next : y.kind ≡ k.Word w.ActorWord → Next y
   unfolding begins_suffix op_of cap_of is_sign same_sign is_doc begins_item begins_field is_word same_word
-  actor_next e = record { outer = record { calm = record { quiet = record { suffix = rw e; op = rw e; cap = rw e; colon = rw e; hat = rw e; assign = rw e }; doc = rw e }; stops = record { suffix = rw e; op = rw e; assign = rw e; semicolon = rw e; item = rw e }; field = rw e; names = rw e }; functions = rw e; behaviours = rw e; constructors = rw e }
+  actor_next e = record { outer = record { calm = record { quiet = record { suffix = rw e; op = rw e; cap = rw e; colon = rw e; hat = rw e; assign = rw e }; doc = rw e }; stops = record { suffix = rw e; op = rw e; assign = rw e; semicolon = rw e; item = rw e }; arrow = rw e; field = rw e; names = rw e }; functions = rw e; behaviours = rw e; constructors = rw e }
 
   primitive_next : y.kind ≡ k.Word w.PrimitiveWord → Next y
   unfolding begins_suffix op_of cap_of is_sign same_sign is_doc begins_item begins_field is_word same_word
-  primitive_next e = record { outer = record { calm = record { quiet = record { suffix = rw e; op = rw e; cap = rw e; colon = rw e; hat = rw e; assign = rw e }; doc = rw e }; stops = record { suffix = rw e; op = rw e; assign = rw e; semicolon = rw e; item = rw e }; field = rw e; names = rw e }; functions = rw e; behaviours = rw e; constructors = rw e }
+  primitive_next e = record { outer = record { calm = record { quiet = record { suffix = rw e; op = rw e; cap = rw e; colon = rw e; hat = rw e; assign = rw e }; doc = rw e }; stops = record { suffix = rw e; op = rw e; assign = rw e; semicolon = rw e; item = rw e }; arrow = rw e; field = rw e; names = rw e }; functions = rw e; behaviours = rw e; constructors = rw e }
 
   trait_next : y.kind ≡ k.Word w.TraitWord → Next y
   unfolding begins_suffix op_of cap_of is_sign same_sign is_doc begins_item begins_field is_word same_word
-  trait_next e = record { outer = record { calm = record { quiet = record { suffix = rw e; op = rw e; cap = rw e; colon = rw e; hat = rw e; assign = rw e }; doc = rw e }; stops = record { suffix = rw e; op = rw e; assign = rw e; semicolon = rw e; item = rw e }; field = rw e; names = rw e }; functions = rw e; behaviours = rw e; constructors = rw e }
+  trait_next e = record { outer = record { calm = record { quiet = record { suffix = rw e; op = rw e; cap = rw e; colon = rw e; hat = rw e; assign = rw e }; doc = rw e }; stops = record { suffix = rw e; op = rw e; assign = rw e; semicolon = rw e; item = rw e }; arrow = rw e; field = rw e; names = rw e }; functions = rw e; behaviours = rw e; constructors = rw e }
 
   interface_next : y.kind ≡ k.Word w.InterfaceWord → Next y
   unfolding begins_suffix op_of cap_of is_sign same_sign is_doc begins_item begins_field is_word same_word
-  interface_next e = record { outer = record { calm = record { quiet = record { suffix = rw e; op = rw e; cap = rw e; colon = rw e; hat = rw e; assign = rw e }; doc = rw e }; stops = record { suffix = rw e; op = rw e; assign = rw e; semicolon = rw e; item = rw e }; field = rw e; names = rw e }; functions = rw e; behaviours = rw e; constructors = rw e }
+  interface_next e = record { outer = record { calm = record { quiet = record { suffix = rw e; op = rw e; cap = rw e; colon = rw e; hat = rw e; assign = rw e }; doc = rw e }; stops = record { suffix = rw e; op = rw e; assign = rw e; semicolon = rw e; item = rw e }; arrow = rw e; field = rw e; names = rw e }; functions = rw e; behaviours = rw e; constructors = rw e }
 
   end_next : y.kind ≡ k.End → Next y
   unfolding begins_suffix op_of cap_of is_sign same_sign is_doc begins_item begins_field is_word same_word
-  end_next e = record { outer = record { calm = record { quiet = record { suffix = rw e; op = rw e; cap = rw e; colon = rw e; hat = rw e; assign = rw e }; doc = rw e }; stops = record { suffix = rw e; op = rw e; assign = rw e; semicolon = rw e; item = rw e }; field = rw e; names = rw e }; functions = rw e; behaviours = rw e; constructors = rw e }
+  end_next e = record { outer = record { calm = record { quiet = record { suffix = rw e; op = rw e; cap = rw e; colon = rw e; hat = rw e; assign = rw e }; doc = rw e }; stops = record { suffix = rw e; op = rw e; assign = rw e; semicolon = rw e; item = rw e }; arrow = rw e; field = rw e; names = rw e }; functions = rw e; behaviours = rw e; constructors = rw e }
 
   end_no_entity : y.kind ≡ k.End → begins_entity y ≡ false
   unfolding begins_entity is_word

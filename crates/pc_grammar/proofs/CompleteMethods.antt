@@ -1,5 +1,5 @@
 -- Methods that are spelled are read.
-use Rattle.std.proofs.Common.{◌≡◌, ℕ, zero, suc, ◌≤◌, Bool, true, false, ◌||◌, List, [], ◌∷◌, ◌++◌, length, Option, Some, None, Ok, refl, sym, ap, ◌∙◌, arith, cond, append_assoc, length-append}
+use Rattle.std.proofs.Common.{◌≡◌, ℕ, zero, suc, ◌≤◌, Bool, true, false, ◌||◌, List, [], ◌∷◌, ◌++◌, length, Option, Some, None, Ok, refl, sym, ap, ◌∙◌, subst, arith, cond, append_assoc, length-append}
 use Rattle.pc_caps.specs.declared.capability.Cap.{Cap}
 use Rattle.pc_tree.specs.Tree as t
 use Rattle.pc_tree.specs.Measures.{body_depth, methods_depth, seq_depth}
@@ -18,7 +18,7 @@ use Rattle.pc_grammar.specs.Asking.{op_of, cap_of}
 use Rattle.pc_grammar.specs.Spells.{SpellsCap}
 use Rattle.pc_grammar.specs.SpellsFile.{SpellsReturns, SpellsBody, method_word, MayReturn, SpellsMethod, SpellsMethods}
 use Rattle.pc_grammar.specs.Reading.{pure, peek, take_if, many, all, at, seq, begins_suffix, begins_item, kind_begins}
-use Rattle.pc_grammar.specs.ReadingFile.{kind_is_doc, is_doc, written_body, cap_if, method_result, method_of, word_in, begins_method, some_method, begins_field}
+use Rattle.pc_grammar.specs.ReadingFile.{kind_is_doc, is_doc, written_body, maybe_body, cap_if, method_result, method_of, word_in, begins_method, some_method, begins_field}
 use Rattle.pc_grammar.proofs.Follow.{Stops_seq, kind_of_sign, kind_of_word, at_one, at_none}
 use Rattle.pc_grammar.proofs.First.{First, first_seq}
 use Rattle.pc_grammar.proofs.Lifts.{many_none}
@@ -31,21 +31,22 @@ use Rattle.pc_grammar.proofs.CompleteFields.{Quiet, Calm, to_cap, to_sign, to_qu
 pub record Outer (y : Token) : Type 0 where
   pub calm : Calm y
   pub stops : Stops_seq y
+  pub arrow : is_sign s.Arrow y ≡ false
   pub field : begins_field y ≡ false
   pub names : is_word w.IsWord y ≡ false
 
 module _ (y : Token) where
   fun_outer : y.kind ≡ k.Word w.FunWord → Outer y
   unfolding begins_suffix op_of cap_of is_sign same_sign is_doc begins_item begins_field is_word same_word
-  fun_outer e = record { calm = record { quiet = record { suffix = rw e; op = rw e; cap = rw e; colon = rw e; hat = rw e; assign = rw e }; doc = rw e }; stops = record { suffix = rw e; op = rw e; assign = rw e; semicolon = rw e; item = rw e }; field = rw e; names = rw e }
+  fun_outer e = record { calm = record { quiet = record { suffix = rw e; op = rw e; cap = rw e; colon = rw e; hat = rw e; assign = rw e }; doc = rw e }; stops = record { suffix = rw e; op = rw e; assign = rw e; semicolon = rw e; item = rw e }; arrow = rw e; field = rw e; names = rw e }
 
   be_outer : y.kind ≡ k.Word w.BeWord → Outer y
   unfolding begins_suffix op_of cap_of is_sign same_sign is_doc begins_item begins_field is_word same_word
-  be_outer e = record { calm = record { quiet = record { suffix = rw e; op = rw e; cap = rw e; colon = rw e; hat = rw e; assign = rw e }; doc = rw e }; stops = record { suffix = rw e; op = rw e; assign = rw e; semicolon = rw e; item = rw e }; field = rw e; names = rw e }
+  be_outer e = record { calm = record { quiet = record { suffix = rw e; op = rw e; cap = rw e; colon = rw e; hat = rw e; assign = rw e }; doc = rw e }; stops = record { suffix = rw e; op = rw e; assign = rw e; semicolon = rw e; item = rw e }; arrow = rw e; field = rw e; names = rw e }
 
   new_outer : y.kind ≡ k.Word w.NewWord → Outer y
   unfolding begins_suffix op_of cap_of is_sign same_sign is_doc begins_item begins_field is_word same_word
-  new_outer e = record { calm = record { quiet = record { suffix = rw e; op = rw e; cap = rw e; colon = rw e; hat = rw e; assign = rw e }; doc = rw e }; stops = record { suffix = rw e; op = rw e; assign = rw e; semicolon = rw e; item = rw e }; field = rw e; names = rw e }
+  new_outer e = record { calm = record { quiet = record { suffix = rw e; op = rw e; cap = rw e; colon = rw e; hat = rw e; assign = rw e }; doc = rw e }; stops = record { suffix = rw e; op = rw e; assign = rw e; semicolon = rw e; item = rw e }; arrow = rw e; field = rw e; names = rw e }
 
   arrow_calm : y.kind ≡ k.Sign s.Arrow → Calm y
   unfolding begins_suffix op_of cap_of is_sign same_sign is_doc
@@ -99,12 +100,25 @@ module _ (n : ℕ) where
       let step : written_body n (h.0 ∷ (h.1 ++ inside)) ≡ Ok (Some b, rest) = rw (h.4, doc, read) in
       ap (written_body n) here ∙ step
 
-  no_body : (b : Option t.Seq) (a rest : List Token) → SpellsBody b a → b ≡ None → pure None (a ++ rest) ≡ Ok (b, rest)
-  no_body None a rest h e = ap (λ l. Ok (None, l ++ rest)) h
-  no_body (Some b) a rest h e = absurd (cc)
+  no_body : (rest : List Token) → First Outer rest → maybe_body n rest ≡ Ok (None, rest)
+  unfolding maybe_body peek
+  no_body rest f =
+      let P : List Token → Type 0 = λ l. maybe_body n l ≡ Ok (None, l) in
+      let step : maybe_body n (f.0 ∷ f.1) ≡ Ok (None, f.0 ∷ f.1) = rw f.3.arrow in
+      subst P (sym f.2) step
 
-  body_reads : (abstract : Bool) (b : Option t.Seq) (a rest : List Token) → SpellsBody b a → BodyUnless abstract b → body_depth b ≤ suc n → First Outer rest → cond abstract (pure None) (written_body n) (a ++ rest) ≡ Ok (b, rest)
-  body_reads true b a rest h has d f = no_body b a rest h has
+  at_arrow : (x : Token) (ts : List Token) → is_sign s.Arrow x ≡ true → maybe_body n (x ∷ ts) ≡ written_body n (x ∷ ts)
+  unfolding maybe_body peek
+  at_arrow x ts h = rw h
+
+  maybe_reads : (b : Option t.Seq) (a rest : List Token) → SpellsBody b a → body_depth b ≤ suc n → First Outer rest → maybe_body n (a ++ rest) ≡ Ok (b, rest)
+  maybe_reads None a rest h d f = ap (λ l. maybe_body n (l ++ rest)) h ∙ no_body rest f
+  maybe_reads (Some b) a rest h d f =
+      let here : a ++ rest ≡ h.0 ∷ ((h.1 ++ h.2) ++ rest) = ap (λ l. l ++ rest) h.3 in
+      ap (maybe_body n) here ∙ at_arrow h.0 ((h.1 ++ h.2) ++ rest) h.4 ∙ ap (written_body n) (sym here) ∙ written_reads b a rest h (omega arith) f
+
+  body_reads : (abstract : Bool) (b : Option t.Seq) (a rest : List Token) → SpellsBody b a → BodyUnless abstract b → body_depth b ≤ suc n → First Outer rest → cond abstract (maybe_body n) (written_body n) (a ++ rest) ≡ Ok (b, rest)
+  body_reads true b a rest h has d f = maybe_reads b a rest h d f
   body_reads false None a rest h has d f = absurd has
   body_reads false (Some b) a rest h has d f = written_reads b a rest h (omega arith) f
 

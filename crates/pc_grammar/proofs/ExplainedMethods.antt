@@ -17,8 +17,8 @@ use Rattle.pc_token.specs.Asking.{is_sign, is_word}
 use Rattle.pc_grammar.specs.Spells.{SpellsCap}
 use Rattle.pc_grammar.specs.SpellsFile.{SpellsReturns, SpellsParams, SpellsBody, method_word, MayReturn, SpellsMethod, SpellsMethods}
 use Rattle.pc_grammar.specs.Reading.{◌>>◌, pure, peek, take_if, all, at, name, seq, inner}
-use Rattle.pc_grammar.specs.ReadingFile.{maybe_doc, params, written_body, body, cap_if, method_cap, method_result, method_of, word_in, begins_method, some_method}
-use Rattle.pc_grammar.proofs.Explained.{Fits, fits_zero, fits_max, Explained, Then, Tok, Only, Listed, Inhabited, some_only, some_then, explained_bind, explained_weaker, explained_only, explained_take, explained_all}
+use Rattle.pc_grammar.specs.ReadingFile.{maybe_doc, params, written_body, maybe_body, body, cap_if, method_cap, method_result, method_of, word_in, begins_method, some_method}
+use Rattle.pc_grammar.proofs.Explained.{Fits, fits_zero, fits_max, Explained, Then, Tok, Only, Listed, Inhabited, some_only, some_then, explained_bind, explained_weaker, explained_only, explained_refuse, explained_take, explained_all}
 use Rattle.pc_grammar.proofs.ExplainedParts.{ends_nil, joined, begins_one, of_kind, a_word, some_word, a_sign, some_sign, SeqIn, some_seq, NameAt, some_name, explained_name, explained_cap}
 use Rattle.pc_grammar.proofs.ExplainedAtoms.{at_is, at_nil}
 use Rattle.pc_grammar.proofs.ExplainedSeqs.{explained_seq, explained_inner}
@@ -90,7 +90,7 @@ module _ (u : Bool) where
     some_written_in = let r = some_then Written (λ b. Only (Some b)) some_written (λ b. some_only _) in (r.0, r.1, written_whole r.1 r.0 r.2)
 
     some_body : (abstract : Bool) → Inhabited (BodyAt abstract)
-    some_body true = ([], None, (refl, fits_zero u (suc n), refl))
+    some_body true = ([], None, (refl, fits_zero u (suc n), tt))
     some_body false = some_written_in
 
     explained_written_in : (ts : List Token) → Explained u WrittenIn ts (written_body n ts)
@@ -99,8 +99,17 @@ module _ (u : Bool) where
         explained_weaker u (Then Written (λ b. Only (Some b))) WrittenIn ts _ written_whole
         (explained_bind Written (λ b. Only (Some b)) u ts _ _ (explained_written ts) (λ b r e. explained_only u _ r) (λ b. some_only _))
 
-    explained_body : (abstract : Bool) (ts : List Token) → Explained u (BodyAt abstract) ts (cond abstract (pure None) (written_body n) ts)
-    explained_body true ts = ([], refl, (refl, fits_zero u (suc n), refl))
+    maybe_body_by : (x : Token) (ts : List Token) (b : Bool) → Explained u (BodyAt true) (x ∷ ts) (cond b (written_body n) (pure None) (x ∷ ts))
+    maybe_body_by x ts true = explained_weaker u WrittenIn (BodyAt true) (x ∷ ts) _ (λ v a h. (h.0, h.1, tt)) (explained_written_in (x ∷ ts))
+    maybe_body_by x ts false = ([], refl, (refl, fits_zero u (suc n), tt))
+
+    explained_maybe_body : (ts : List Token) → Explained u (BodyAt true) ts (maybe_body n ts)
+    unfolding maybe_body peek
+    explained_maybe_body [] = explained_refuse u (BodyAt true) [] (some_body true)
+    explained_maybe_body (x ∷ ts) = maybe_body_by x ts (is_sign s.Arrow x)
+
+    explained_body : (abstract : Bool) (ts : List Token) → Explained u (BodyAt abstract) ts (cond abstract (maybe_body n) (written_body n) ts)
+    explained_body true ts = explained_maybe_body ts
     explained_body false ts = explained_written_in ts
 
     -- ---- methods

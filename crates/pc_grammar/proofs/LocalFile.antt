@@ -9,7 +9,7 @@ use Rattle.pc_token.specs.declared.words.Word.TheVariants as w
 use Rattle.pc_token.specs.declared.signs.Sign.TheVariants as s
 use Rattle.pc_token.specs.Asking.{is_sign, is_word}
 use Rattle.pc_grammar.specs.Reading.{after, at, type_name, inner}
-use Rattle.pc_grammar.specs.ReadingFile.{is_doc, maybe_doc, maybe_hat, result_type, returns, param, param_list, params, value, field, begins_field, some_field, fields, written_body, body, cap_if, method_result, method_of, word_in, begins_method, some_method, type_names, provided, provides, entity_of, entity, begins_entity, file}
+use Rattle.pc_grammar.specs.ReadingFile.{is_doc, maybe_doc, maybe_hat, result_type, returns, param, param_list, params, value, field, begins_field, some_field, fields, written_body, maybe_body, body, cap_if, method_result, method_of, word_in, begins_method, some_method, type_names, provided, provides, entity_of, entity, begins_entity, file}
 use Rattle.pc_grammar.proofs.Local.{Local, local_bind, local_pure, local_peek, local_take}
 use Rattle.pc_grammar.proofs.LocalLoops.{after_ahead, at_ahead, local_all}
 use Rattle.pc_grammar.proofs.LocalRules.{Good, good_bind, good_then, good_take, good_cond, good_refuse, local_cond, good_name, good_type_name, local_maybe_cap, good_written_type, good_inner, good_infix, good_seq}
@@ -61,8 +61,12 @@ local_written_body : (n : ℕ) → Local (written_body n)
 unfolding written_body
 local_written_body n = local_bind _ _ (local_bind _ _ (local_bind _ _ (local_take _) (λ x. local_maybe_doc)) (λ d. (good_seq n (inner n) (good_inner n)).local)) (λ b. local_pure _)
 
+local_maybe_body : (n : ℕ) → Local (maybe_body n)
+unfolding maybe_body
+local_maybe_body n = local_bind _ _ local_peek (λ x. local_cond (is_sign s.Arrow x) _ _ (local_written_body n) (local_pure _))
+
 local_body : (n : ℕ) (e : EntityKind) → Local (body n e)
-local_body n e = local_cond (is_abstract e) _ _ (local_pure _) (local_written_body n)
+local_body n e = local_cond (is_abstract e) _ _ (local_maybe_body n) (local_written_body n)
 
 local_cap_if : (b : Bool) → Local (cap_if b)
 local_cap_if b = local_cond b _ _ local_maybe_cap (local_pure _)

@@ -83,9 +83,13 @@ fields n e = if may_have_fields e then all (at begins_field) (some_field n) else
 unfoldable pub written_body : ℕ → Parser (Option t.Seq)
 written_body n = take_if (is_sign s.Arrow) >> maybe_doc >> seq n >>= λ b. pure (Some b)
 
--- the same, or nothing in a trait or an interface
+-- ["=>" [doc] Seq]
+unfoldable pub maybe_body : ℕ → Parser (Option t.Seq)
+maybe_body n = peek >>= λ x. if is_sign s.Arrow x then written_body n else pure None
+
+-- [Body] in a trait or an interface, Body elsewhere
 abbrev pub body : ℕ → EntityKind → Parser (Option t.Seq)
-body n e = if is_abstract e then pure None else written_body n
+body n e = if is_abstract e then maybe_body n else written_body n
 
 -- [Cap], where one may stand
 abbrev pub cap_if : Bool → Parser (Option Cap)

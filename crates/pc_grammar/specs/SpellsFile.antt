@@ -12,8 +12,8 @@
 --   Result  = TypeName [Cap] ["^"]
 --
 -- Fields stand in classes and actors, `be` in actors, traits and interfaces, `new` in classes and actors, and a capability
--- after `new` in classes. In a trait and in an interface no method has a body, elsewhere each has one. That is the table of
--- the kinds of entities in `pc_tree`.
+-- after `new` in classes. In a trait and in an interface a method may have a body, elsewhere each has one. That is the table
+-- of the kinds of entities in `pc_tree`.
 use Rattle.std.specs.Prelude.{◌≡◌, Bool, true, false, List, [], ◌∷◌, ◌++◌, Option, Some, None, ◌⊎◌}
 use Rattle.pc_tree.specs.Tree as t
 use Rattle.pc_tree.specs.declared.names.Name.{Name}

@@ -11,7 +11,7 @@ use crate::tokens::{after_doc, at_method, begins, method_word};
 use crate::types::method_result;
 use pc_caps::{Cap, List};
 use pc_expr::parsers::{ParseStop, look, maybe_cap, name, seq, take_sign, take_word};
-use pc_token::{Sign, Token};
+use pc_token::{Sign, Token, is_sign};
 use pc_tree::{EntityKind, MethodDef, MethodWord, Seq};
 use std::alloc::Global;
 
@@ -50,7 +50,21 @@ fn written_body(
     Ok((Some(body), to))
 }
 
-/// "=>" [doc] Seq, or nothing in a trait or an interface.
+/// ["=>" [doc] Seq]
+#[tactic(auto, unfolding(pc_grammar::specs::ReadingFile::maybe_body, pc_grammar::specs::Reading::peek))]
+fn maybe_body(alloc: Global, tokens: &[Token], at: usize) -> Result<(Option<Seq>, usize), ParseStop>
+    requires { At tokens.now at }
+    ensures gives { Gives maybe_seq tokens.now result (rules.maybe_body 199 (drop at tokens.now)) }
+    ensures moves { IfOk result (λ r. (at ≤ r.1) × At tokens.now r.1) }
+{
+    if is_sign(look(tokens, at), Sign::Arrow) {
+        written_body(alloc, tokens, at)
+    } else {
+        Ok((None, at))
+    }
+}
+
+/// "=>" [doc] Seq, which may be missing in a trait or an interface.
 fn body(
     alloc: Global,
     tokens: &[Token],
@@ -62,7 +76,7 @@ fn body(
     ensures moves { IfOk result (λ r. (at ≤ r.1) × At tokens.now r.1) }
 {
     if kind.is_abstract() {
-        Ok((None, at))
+        maybe_body(alloc, tokens, at)
     } else {
         written_body(alloc, tokens, at)
     }

@@ -4,8 +4,8 @@
 --   class       yes            yes      yes     no     yes, with a capability  each method
 --   actor       no             yes      yes     yes    yes                     each method
 --   primitive   no             no       yes     no     no                      each method
---   trait       yes            no       yes     yes    no                      none
---   interface   yes            no       yes     yes    no                      none
+--   trait       yes            no       yes     yes    no                      some methods
+--   interface   yes            no       yes     yes    no                      some methods
 use Rattle.std.specs.Prelude.{◌≡◌, Bool, true, false, List, [], Option, Some, None}
 use Rattle.pc_caps.specs.declared.capability.Cap.{Cap}
 use Rattle.pc_tree.specs.declared.kinds.EntityKind.{EntityKind}
@@ -75,9 +75,9 @@ FieldsIf false fs = fs ≡ []
 abbrev pub MayHaveFields : EntityKind → List t.Field → Type 0
 MayHaveFields e fs = FieldsIf (may_have_fields e) fs
 
--- There is no body in a trait or an interface, and one elsewhere.
+-- There may be a body in a trait or an interface, and there is one elsewhere.
 abbrev pub BodyUnless : Bool → Option t.Seq → Type 0
-BodyUnless true b = b ≡ None
+BodyUnless true b = Unit {0}
 BodyUnless false None = ⊥
 BodyUnless false (Some b) = Unit {0}
 
