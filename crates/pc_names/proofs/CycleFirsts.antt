@@ -8,13 +8,13 @@ use Rattle.pc_names.specs.declared.fault.NameFault.{NameFault}
 use Rattle.pc_names.specs.declared.fault.NameFault.TheVariants as fault
 use Rattle.pc_tree.specs.Kinds.{is_abstract}
 use Rattle.pc_names.specs.Faults.{where_}
-use Rattle.pc_names.specs.Reach.{has}
-use Rattle.pc_names.specs.Chains.{Closes, InCycle, Leads, entity_at, first_own}
+use Rattle.pc_members.specs.Reach.{has}
+use Rattle.pc_members.specs.Chains.{Closes, InCycle, Leads, entity_at, first_own}
 use Rattle.pc_names.specs.Cycles.{cycle_faults}
 use Rattle.pc_names.specs.Laws.{CycleIsFirst, NoCycle}
-use Rattle.pc_names.proofs.Reaches.{has_in, in_get, get_in}
-use Rattle.pc_names.proofs.Reached.{in_has}
-use Rattle.pc_names.proofs.Closings.{no_entity}
+use Rattle.pc_members.proofs.Reaches.{has_in, in_get, get_in}
+use Rattle.pc_members.proofs.Reached.{in_has}
+use Rattle.pc_members.proofs.Closings.{no_entity}
 use Rattle.pc_names.proofs.Ones.{first_is}
 use Rattle.std.proofs.lemmas.Bool.{and_parts}
 use Rattle.pc_lists.proofs.Bools.{no_both}

@@ -1,12 +1,9 @@
-pub mod Views
 pub mod Firsts
 pub mod Stops
-pub mod Reaches
-pub mod Tables
-pub mod Reached
-pub mod Closings
-pub mod Differences
+pub mod Counted
+pub mod OtherTexts
 pub mod Passes
 pub mod Ones
 pub mod Leasts
 pub mod CycleFirsts
+pub mod Founded

@@ -7,7 +7,7 @@ use Rattle.pc_tree.specs.Tree as t
 use Rattle.pc_names.specs.declared.fault.NameFault.{NameFault}
 use Rattle.pc_names.specs.declared.fault.NameFault.TheVariants as fault
 use Rattle.pc_names.specs.Faults.{IsFirst}
-use Rattle.pc_names.specs.Chains.{IsAbove}
+use Rattle.pc_members.specs.Chains.{IsAbove}
 use Rattle.pc_names.specs.Names.{name_faults}
 use Rattle.pc_names.specs.Laws.{OfFile, OneClosing, OneFault, NotBoth}
 

@@ -1,22 +1,21 @@
 -- The passes over a file's names, joined.
-use Rattle.std.proofs.Common.{◌≡◌, ℕ, ◌+◌, ◌-◌, ◌<◌, ◌^◌, List, [], ◌++◌, length, map, drop, sym, ap, ◌∙◌, subst, arith}
+use Rattle.std.proofs.Common.{◌≡◌, ℕ, ◌+◌, ◌-◌, ◌<◌, ◌≤◌, ◌^◌, List, [], ◌++◌, length, map, drop, sym, ap, ◌∙◌, subst, arith}
 use Rattle.std.proofs.lemmas.List.{length-map, length-drop}
-use Rattle.pc_tree.specs.declared.file.Entity.{Entity}
 use Rattle.pc_tree.specs.declared.file.File.{File}
 use Rattle.pc_tree.specs.View.{entity_view, file_view}
 use Rattle.pc_tree.specs.Tree as t
 use Rattle.pc_names.specs.declared.fault.NameFault.{NameFault}
 use Rattle.pc_names.specs.declared.fault.NameFault.TheVariants as fault
-use Rattle.pc_names.specs.Words.{built_in_names, entity_names}
+use Rattle.pc_members.specs.Words.{built_in_names, entity_names}
 use Rattle.pc_names.specs.Faults.{IsFirst, entity_name_faults, declaration_faults}
-use Rattle.pc_names.specs.Reach.{above_all}
-use Rattle.pc_names.specs.Chains.{first_own, edges_of, Closes}
+use Rattle.pc_members.specs.Reach.{above_all}
+use Rattle.pc_members.specs.Chains.{first_own, edges_of, Closes}
 use Rattle.pc_lists.specs.Places.{Differ}
 use Rattle.pc_names.specs.Texts.{other_texts}
 use Rattle.pc_names.specs.Names.{NamesData, above_faults, name_faults, Collected, IsNameFault}
 use Rattle.pc_names.proofs.Firsts.{is_first_on}
-use Rattle.pc_names.proofs.Closings.{closes, edges_length}
-use Rattle.pc_names.proofs.Differences.{other_texts_differ}
+use Rattle.pc_members.proofs.Closings.{closes, edges_length}
+use Rattle.pc_names.proofs.OtherTexts.{other_texts_differ}
 
 -- The first fault of a list behind an empty one.
 is_first_behind : (f : NameFault) (xs ys : List NameFault) → xs ≡ [] → IsFirst f ys → IsFirst f (xs ++ ys)
@@ -52,22 +51,21 @@ is_collected file n e d a names above texts = record {
   texts = subst Differ (sym texts) (other_texts_differ file.entities);
 }
 
+pub own_faults : (file : t.File) (lists : List (List ℕ)) → lists ≡ above_all (edges_of file) → above_faults file.entities (drop first_own lists) ≡ pass_above file
+own_faults file lists e = ap (λ ls. above_faults file.entities (drop first_own ls)) e
+
 -- ---- lengths
 
-abbrev pub OwnLists : File → List Entity → List (List ℕ) → List (List ℕ) → List (List ℕ) → Type 0
-OwnLists f all own lists above = (all ≡ f.entities) × (own ≡ drop first_own lists) × (lists ≡ above) × (above ≡ above_all (edges_of (file_view f)))
-
 -- The lists of the file's own entities are as many as these.
-pub own_lengths : (f : File) (all : List Entity) (own lists above : List (List ℕ)) → OwnLists f all own lists above → length own ≡ length all
-own_lengths f all own lists above w =
-    let l : length lists ≡ first_own + length (map entity_view f.entities) = ap length (w.2 ∙ w.3) ∙ (closes (file_view f)).0 in
+pub own_lengths : (f : File) (above own : List (List ℕ)) → Closes (file_view f) above → own ≡ drop first_own above → length own ≡ length f.entities
+own_lengths f above own c e =
+    let l : length above ≡ first_own + length (map entity_view f.entities) = c.0 in
     let m = length-map f.entities entity_view in
-    let d : length own ≡ length lists - first_own = ap length w.1 ∙ length-drop first_own lists in
-    let e : length all ≡ length f.entities = ap length w.0 in
-    omega (arith, l, m, d, e)
+    let d : length own ≡ length above - first_own = ap length e ∙ length-drop first_own above in
+    omega (arith, l, m, d)
 
-pub own_faults : (f : File) (all : List Entity) (own lists above : List (List ℕ)) → OwnLists f all own lists above → above_faults (map entity_view all) own ≡ pass_above (file_view f)
-own_faults f all own lists above w = ap (λ xs. above_faults (map entity_view xs) own) w.0 ∙ ap (above_faults (map entity_view f.entities)) (w.1 ∙ ap (drop first_own) (w.2 ∙ w.3))
+pub own_few : (f : File) (above : List (List ℕ)) → Closes (file_view f) above → first_own ≤ length above
+own_few f above c = let l : length above ≡ first_own + length (map entity_view f.entities) = c.0 in omega (arith, l)
 
 pub edges_few : (f : File) (edges : List (List ℕ)) → first_own + length f.entities < 2 ^ 32 → edges ≡ edges_of (file_view f) → length edges < 2 ^ 32
 edges_few f edges few e =

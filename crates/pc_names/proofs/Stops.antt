@@ -6,7 +6,7 @@ use Rattle.pc_tree.specs.declared.file.Entity.{Entity}
 use Rattle.pc_tree.specs.declared.file.MethodDef.{MethodDef}
 use Rattle.pc_names.specs.declared.fault.NameFault.{NameFault}
 use Rattle.pc_names.specs.declared.fault.NameFault.TheVariants as fault
-use Rattle.pc_names.specs.Words.{Text, is_among}
+use Rattle.pc_members.specs.Words.{Text, is_among}
 use Rattle.pc_names.specs.Faults.{IsFirst, where_, signature_faults, method_faults, entity_faults, entities_faults}
 use Rattle.pc_names.proofs.Firsts.{is_first_on}
 

@@ -5,7 +5,7 @@ use Rattle.pc_tree.specs.Tree as t
 use Rattle.pc_names.specs.declared.fault.NameFault.{NameFault}
 use Rattle.pc_names.specs.declared.fault.NameFault.TheVariants as fault
 use Rattle.pc_names.specs.Faults.{where_}
-use Rattle.pc_names.specs.Reach.{has}
+use Rattle.pc_members.specs.Reach.{has}
 
 -- Traits and interfaces, from entity number a on, that stand above themselves; each entity comes with what is above it.
 abbrev pub cycle_faults : ℕ → List t.Entity → List (List ℕ) → List NameFault

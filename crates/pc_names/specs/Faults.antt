@@ -1,6 +1,6 @@
 -- The faults of a file's names, pass by pass. Each pass has the list of its faults in the order of the text, of which the
 -- first is told.
-use Rattle.std.specs.Prelude.{◌≡◌, ℕ, Bool, true, false, ◌&&◌, ◌||◌, not, List, [], ◌∷◌, ◌++◌, map, length, Option, Some, None, Result, Ok, Err, slice_get, nat_lt, codes}
+use Rattle.std.specs.Prelude.{◌≡◌, ℕ, Bool, true, false, ◌&&◌, ◌||◌, not, List, [], ◌∷◌, ◌++◌, length, Option, Some, None, Result, Ok, Err, slice_get, nat_lt, codes}
 use Rattle.pc_tree.specs.declared.file.ParamDef.{ParamDef}
 use Rattle.pc_tree.specs.declared.names.Name.{Name}
 use Rattle.pc_tree.specs.declared.names.TypeRef.{TypeRef}
@@ -8,8 +8,8 @@ use Rattle.pc_tree.specs.Tree as t
 use Rattle.pc_names.specs.declared.fault.NameFault.{NameFault}
 use Rattle.pc_names.specs.declared.fault.NameFault.TheVariants as fault
 use Rattle.pc_names.specs.declared.fault.Which.TheVariants as which
-use Rattle.pc_names.specs.Words.{Text, is_among, entity_names, has_added}
-use Rattle.pc_names.specs.Tables.{trait_names}
+use Rattle.pc_members.specs.Words.{Text, is_among, entity_names, field_texts, method_texts, has_added}
+use Rattle.pc_members.specs.Tables.{trait_names}
 
 -- A fault where the test holds.
 abbrev pub where_ : Bool → NameFault → List NameFault
@@ -89,12 +89,6 @@ method_faults entities fields known [] = []
 method_faults entities fields known (m ∷ ms) =
     where_ (is_among m.name.text fields || is_among m.name.text known) (fault.Double m.name.span)
     ++ (signature_faults entities fields m ++ method_faults entities fields (known ++ m.name.text ∷ []) ms)
-
-abbrev pub field_texts : List t.Field → List Text
-field_texts fs = map (λ (f : t.Field). f.name.text) fs
-
-abbrev pub method_texts : List t.Method → List Text
-method_texts ms = map (λ (m : t.Method). m.name.text) ms
 
 -- An added `create` comes behind all fields and methods, and its name stands at the entity's.
 abbrev pub is_taken : Text → t.Entity → Bool

@@ -1,8 +1,4 @@
-pub mod Words
-pub mod Tables
 pub mod Faults
-pub mod Reach
-pub mod Chains
 pub mod Cycles
 pub mod Counts
 pub mod Mains

@@ -11,7 +11,7 @@ use Rattle.pc_tree.specs.declared.names.TypeRef.{TypeRef}
 use Rattle.pc_tree.specs.Tree as t
 use Rattle.pc_names.specs.declared.fault.NameFault.{NameFault}
 use Rattle.pc_names.specs.declared.fault.NameFault.TheVariants as fault
-use Rattle.pc_names.specs.Words.{is_new}
+use Rattle.pc_members.specs.Words.{is_new}
 
 abbrev pub is_actor : EntityKind → Bool
 is_actor kind.Class = false

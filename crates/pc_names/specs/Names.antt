@@ -3,9 +3,9 @@ use Rattle.std.specs.Prelude.{◌≡◌, ℕ, List, [], ◌++◌, drop}
 use Rattle.pc_lists.specs.Places.{Differ}
 use Rattle.pc_tree.specs.Tree as t
 use Rattle.pc_names.specs.declared.fault.NameFault.{NameFault}
-use Rattle.pc_names.specs.Words.{Text, built_in_names, entity_names}
+use Rattle.pc_members.specs.Words.{Text, built_in_names, entity_names}
 use Rattle.pc_names.specs.Faults.{IsFirst, entity_name_faults, declaration_faults}
-use Rattle.pc_names.specs.Chains.{Closes, first_own}
+use Rattle.pc_members.specs.Chains.{Closes, first_own}
 use Rattle.pc_names.specs.Cycles.{cycle_faults}
 use Rattle.pc_names.specs.Counts.{count_faults}
 use Rattle.pc_names.specs.Mains.{main_faults}
@@ -16,9 +16,12 @@ pub record NamesData : Type 0 where
   pub texts : List Text
   pub above : List (List ℕ)
 
--- The faults that rest on what is above each of these entities, the entities of a file.
+-- The faults that rest on the members of these entities, the entities of a file, and then those on what is above each.
+abbrev pub member_faults : List t.Entity → List NameFault
+member_faults all = count_faults all 0 all ++ main_faults all
+
 abbrev pub above_faults : List t.Entity → List (List ℕ) → List NameFault
-above_faults all above = cycle_faults first_own all above ++ (count_faults all 0 all above ++ main_faults all)
+above_faults all above = cycle_faults first_own all above ++ member_faults all
 
 -- All faults of a file's names, pass by pass, where these are the entities above each.
 abbrev pub name_faults : t.File → List (List ℕ) → List NameFault

@@ -1,9 +1,9 @@
 -- The texts of a file that are no entities' names.
 use Rattle.std.specs.Prelude.{List, [], ◌∷◌, ◌++◌, codes}
 use Rattle.pc_tree.specs.Tree as t
-use Rattle.pc_names.specs.Words.{Text}
-use Rattle.pc_names.specs.Faults.{field_texts, method_texts}
-use Rattle.pc_names.specs.Tables.{with_names}
+use Rattle.pc_members.specs.Words.{Text}
+use Rattle.pc_members.specs.Words.{field_texts, method_texts}
+use Rattle.pc_members.specs.Tables.{with_names}
 
 -- What the built-in entities' field and methods are called, and a constructor that is added.
 abbrev pub built_in_texts : List Text

@@ -1,25 +1,24 @@
 //! The names of a file, or the first thing that is wrong with them.
-ghost use Rattle.std.specs.Prelude.{◌≡◌, ◌+◌, ◌<◌, ◌≤◌, ◌^◌, map, drop, length, IfOk, IfErr};
-ghost use Rattle.pc_tree.specs.View.{entity_view, file_view};
-ghost use Rattle.pc_names.specs.Chains.{first_own, edges_of};
-ghost use Rattle.pc_names.specs.Faults.{Tells, declaration_faults};
-ghost use Rattle.pc_names.specs.Names.{Collected, IsNameFault, above_faults};
-ghost use Rattle.pc_names.specs.Reach.{above_all};
-ghost use Rattle.pc_names.specs.Words.{entity_names};
+ghost use Rattle.std.specs.Prelude.{◌≡◌, ◌+◌, ◌<◌, ◌≤◌, ◌^◌, [], drop, length, IfOk, IfErr};
+ghost use Rattle.pc_tree.specs.View.{file_view};
+ghost use Rattle.pc_members.specs.Chains.{first_own, edges_of, Closes, IsFounded};
+ghost use Rattle.pc_names.specs.Cycles.{cycle_faults};
+ghost use Rattle.pc_names.specs.Faults.{Tells, declaration_faults, entity_name_faults};
+ghost use Rattle.pc_names.specs.Names.{Collected, IsNameFault, above_faults, member_faults};
+ghost use Rattle.pc_members.specs.Reach.{above_all};
+ghost use Rattle.pc_members.specs.Words.{built_in_names, entity_names};
 
 use crate::counts::check_counts;
 use crate::cycles::check_cycles;
 use crate::declarations::check_entities;
-use crate::edges::list_edges;
 use crate::entities::{table_entities, table_traits};
 use crate::fault::NameFault;
 use crate::mains::check_main;
 use crate::names::Names;
-use crate::reach::close;
-use crate::table::NameTable;
 use crate::texts::table_texts;
 use pc_caps::List;
-use pc_tree::{Entity, File};
+use pc_members::{NameTable, close, list_edges, list_members};
+use pc_tree::File;
 use std::alloc::{AllocError, Global};
 
 /// How many entities are built in.
@@ -57,16 +56,52 @@ fn own_part(lists: &[List<u32>]) -> &[List<u32>]
     &lists[FIRST_OWN as usize..]
 }
 
-// No cycle, not too many methods, and a `Main`, where these are above each entity of the file.
-#[tactic(auto, using(crate::proofs::Firsts::is_first_on))]
-fn check_above(alloc: Global, all: &[Entity], above: &[List<u32>]) -> Result<(), NameFault>
-    requires lists { length above.now ≡ length all.now }
-    requires numbers { first_own + length all.now < 2 ^ 32 }
-    ensures { Tells result (above_faults (map entity_view all.now) above.now) }
+// No trait or interface of a file stands above itself, where these are the entities above each.
+#[tactic(auto, using(crate::proofs::Passes::own_lengths, crate::proofs::Passes::own_few))]
+fn check_own_cycles(file: &File, above: &[List<u32>]) -> Result<(), NameFault>
+    requires closes { Closes (file_view file.now) above.now }
+    requires numbers { first_own + length file.now.entities < 2 ^ 32 }
+    ensures { Tells result (cycle_faults first_own (file_view file.now).entities (drop first_own above.now)) }
 {
-    check_cycles(FIRST_OWN, all, above)?;
-    check_counts(alloc, all, above)?;
-    check_main(all)
+    check_cycles(FIRST_OWN, file.entities.as_slice(), own_part(above))
+}
+
+// A file without a cycle has not too many methods, and a `Main`.
+#[tactic(auto, using(crate::proofs::Firsts::is_first_on))]
+fn check_members(
+    alloc: Global,
+    entities: &NameTable,
+    above: &[List<u32>],
+    file: &File,
+) -> Result<(), NameFault>
+    requires names { entities.now ≡ entity_names (file_view file.now) }
+    requires closes { Closes (file_view file.now) above.now }
+    requires founded { IsFounded (file_view file.now) }
+    ensures { Tells result (member_faults (file_view file.now).entities) }
+{
+    let members = list_members(alloc, entities, above, file)?;
+    check_counts(file.entities.as_slice(), members.as_slice())?;
+    check_main(file.entities.as_slice())
+}
+
+// No cycle, not too many methods, and a `Main`, where these are above each entity of a file whose names and declarations
+// have no fault.
+#[tactic(auto, using(crate::proofs::Firsts::is_first_on))]
+fn check_above(
+    alloc: Global,
+    entities: &NameTable,
+    above: &[List<u32>],
+    file: &File,
+) -> Result<(), NameFault>
+    requires names { entities.now ≡ entity_names (file_view file.now) }
+    requires closes { Closes (file_view file.now) above.now }
+    requires differ { entity_name_faults built_in_names (file_view file.now).entities ≡ [] }
+    requires declared { declaration_faults (file_view file.now) ≡ [] }
+    requires numbers { first_own + length file.now.entities < 2 ^ 32 }
+    ensures { Tells result (above_faults (file_view file.now).entities (drop first_own above.now)) }
+{
+    check_own_cycles(file, above)?;
+    check_members(alloc, entities, above, file)
 }
 
 /// The names of a file. It is `Err` exactly where something is wrong with them, and then it names the first of these, in
@@ -80,7 +115,7 @@ pub fn collect(alloc: Global, file: &File) -> Result<Names, NameFault>
     let entities = table_entities(alloc, file)?;
     check_declarations(alloc, &entities, file)?;
     let above = list_above(alloc, &entities, file)?;
-    check_above(alloc, file.entities.as_slice(), own_part(above.as_slice()))?;
+    check_above(alloc, &entities, above.as_slice(), file)?;
     let texts = table_texts(alloc, file)?;
     Ok(Names::of(entities, texts, above))
 }

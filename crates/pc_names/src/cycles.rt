@@ -4,7 +4,7 @@ ghost use Rattle.pc_tree.specs.Kinds.{is_abstract};
 ghost use Rattle.pc_tree.specs.View.{entity_view};
 ghost use Rattle.pc_names.specs.Cycles.{cycle_faults};
 ghost use Rattle.pc_names.specs.Faults.{Tells};
-ghost use Rattle.pc_names.specs.Reach as reach;
+ghost use Rattle.pc_members.specs.Reach as reach;
 
 use crate::fault::NameFault;
 use pc_caps::List;

@@ -2,11 +2,10 @@
 ghost use Rattle.std.specs.Prelude.{◌≡◌, ◌||◌, [], map, IfOk};
 ghost use Rattle.pc_tree.specs.View.{entity_view, field_view, method_view};
 ghost use Rattle.pc_names.specs.Faults as spec;
-ghost use Rattle.pc_names.specs.Words.{is_among};
+ghost use Rattle.pc_members.specs.Words.{is_among, field_texts, method_texts};
 
-use crate::constructors::has_added;
 use crate::fault::{NameFault, Which};
-use crate::table::NameTable;
+use pc_members::{NameTable, has_added};
 use pc_tree::{Entity, FieldDef, MethodDef, Name, ParamDef, TypeRef};
 use std::alloc::Global;
 
@@ -59,7 +58,7 @@ fn check_fields(
     fields: &[FieldDef],
 ) -> Result<NameTable, NameFault>
     ensures tells { spec.Tells result (spec.field_faults entities.now [] (map field_view fields.now)) }
-    ensures names { IfOk result (λ t. t ≡ spec.field_texts (map field_view fields.now)) }
+    ensures names { IfOk result (λ t. t ≡ field_texts (map field_view fields.now)) }
 {
     let mut known = NameTable::new(alloc);
     for field in fields {
@@ -160,7 +159,7 @@ fn is_taken(entity: &Entity, name: &[u8]) -> bool
 }
 
 fn has_field(fields: &[FieldDef], name: &[u8]) -> bool
-    ensures { result ≡ is_among name.now (spec.field_texts (map field_view fields.now)) }
+    ensures { result ≡ is_among name.now (field_texts (map field_view fields.now)) }
 {
     for field in fields {
         if name == field.name.text.as_slice() {
@@ -171,7 +170,7 @@ fn has_field(fields: &[FieldDef], name: &[u8]) -> bool
 }
 
 fn has_method(methods: &[MethodDef], name: &[u8]) -> bool
-    ensures { result ≡ is_among name.now (spec.method_texts (map method_view methods.now)) }
+    ensures { result ≡ is_among name.now (method_texts (map method_view methods.now)) }
 {
     for method in methods {
         if name == method.name.text.as_slice() {

@@ -2,11 +2,11 @@
 ghost use Rattle.std.specs.Prelude.{◌≡◌, ◌++◌, ◌≤◌, map, length, IfOk};
 ghost use Rattle.pc_tree.specs.View.{entity_view, file_view};
 ghost use Rattle.pc_names.specs.Faults.{Tells, entity_name_faults, entity_limit};
-ghost use Rattle.pc_names.specs.Tables.{trait_names, with_traits};
-ghost use Rattle.pc_names.specs.Words.{built_in_names, entity_names, texts_of};
+ghost use Rattle.pc_members.specs.Tables.{trait_names, with_traits};
+ghost use Rattle.pc_members.specs.Words.{built_in_names, entity_names, texts_of};
 
 use crate::fault::{NameFault, Which};
-use crate::table::NameTable;
+use pc_members::NameTable;
 use pc_tree::{Entity, File};
 use std::alloc::{AllocError, Global};
 

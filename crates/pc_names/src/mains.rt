@@ -5,9 +5,9 @@ ghost use Rattle.pc_tree.specs.View.{entity_view, method_view};
 ghost use Rattle.pc_names.specs.Faults.{Tells};
 ghost use Rattle.pc_names.specs.Mains as spec;
 
-use crate::constructors::is_new;
 use crate::fault::NameFault;
 use pc_caps::Cap;
+use pc_members::is_new;
 use pc_tree::{Entity, EntityKind, MethodDef, ParamDef, TypeRef};
 
 // Whether this is `val`, which is also what an `Env` without a capability is.

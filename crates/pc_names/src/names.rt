@@ -1,10 +1,10 @@
 //! The names of a file, as they are collected.
 ghost use Rattle.std.specs.Prelude.{◌≡◌, length, slice_get};
 ghost use Rattle.std.specs.Option.{option_copied};
-ghost use Rattle.pc_names.specs.Tables.{find_name};
+ghost use Rattle.pc_members.specs.Tables.{find_name};
 
-use crate::table::NameTable;
 use pc_caps::List;
+use pc_members::NameTable;
 use std::marker::Model;
 
 /// The names of a file: its entities by their numbers, the other texts, and which entities stand above which.
@@ -60,6 +60,20 @@ impl Names {
             Some(above) => Some(above.as_slice()),
             None => None,
         }
+    }
+
+    /// The names of all entities, in the order of their numbers.
+    pub fn entities(&self) -> &NameTable
+        ensures { result.now ≡ self.now.entities }
+    {
+        &self.entities
+    }
+
+    /// For each entity, by its number, the numbers of those to which a chain of `is` leads from it, ascending.
+    pub fn all_above(&self) -> &[List<u32>]
+        ensures { result.now ≡ self.now.above }
+    {
+        self.above.as_slice()
     }
 
     /// How many entities there are, with the six that are built in.

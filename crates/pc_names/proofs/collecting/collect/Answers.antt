@@ -1,8 +1,10 @@
 use Rattle.std.proofs.Common.{sym, ◌∙◌, subst}
 use Rattle.std.proofs.lemmas.Result.{err_from_is_err_and}
 use Rattle.pc_tree.specs.View.{file_view}
+use Rattle.pc_members.specs.Chains.{Closes}
+use Rattle.pc_members.proofs.Closings.{closes}
 use Rattle.pc_names.specs.Faults.{IsFirst}
-use Rattle.pc_names.proofs.Passes.{fault_of_names, fault_of_declarations, fault_of_above, want_of_memory, is_collected, own_lengths, own_faults}
+use Rattle.pc_names.proofs.Passes.{fault_of_names, fault_of_declarations, fault_of_above, want_of_memory, is_collected, own_faults}
 use Rattle.pc_names.proofs.collecting.collect.Goals as goal
 
 pub returns-in_err-entities-clause-err : goal.returns-in_err-entities-clause-err
@@ -20,15 +22,14 @@ returns-in_err-above-clause-err c =
     let p = err_from_is_err_and c.from_residual-in_err-above.result c.from_residual-in_err-above.ensures.1 in
     rw (p.1, p.2) (want_of_memory (file_view c.args.file.now))
 
-pub check_above-requires-clause-lists : goal.check_above-requires-clause-lists
-check_above-requires-clause-lists c =
-    own_lengths c.args.file.now c.as_slice.result.now c.own_part.result.now c.as_slice-2.result.now c.in_ok-above.above (c.as_slice.ensures, c.own_part.ensures, c.as_slice-2.ensures, c.in_ok-above.ensures)
+pub check_above-requires-clause-closes : goal.check_above-requires-clause-closes
+check_above-requires-clause-closes c = subst (Closes (file_view c.args.file.now)) (sym (c.as_slice.ensures ∙ c.in_ok-above.ensures)) (closes (file_view c.args.file.now))
 
 pub returns-in_err-check_above-clause-err : goal.returns-in_err-check_above-clause-err
 returns-in_err-check_above-clause-err c =
     let p = err_from_is_err_and c.from_residual-in_err-check_above.result c.from_residual-in_err-check_above.ensures.1 in
     let f = c.in_err-check_above.field-0.0 in
-    let same = own_faults c.args.file.now c.as_slice.result.now c.own_part.result.now c.as_slice-2.result.now c.in_ok-above.above (c.as_slice.ensures, c.own_part.ensures, c.as_slice-2.ensures, c.in_ok-above.ensures) in
+    let same = own_faults (file_view c.args.file.now) c.as_slice.result.now (c.as_slice.ensures ∙ c.in_ok-above.ensures) in
     rw (p.1, p.2) (fault_of_above (file_view c.args.file.now) f c.in_ok-entities.ensures.tells c.in_ok-check_declarations.ensures (subst (IsFirst f) same c.in_err-check_above.ensures))
 
 pub returns-in_err-texts-clause-err : goal.returns-in_err-texts-clause-err
@@ -38,5 +39,5 @@ returns-in_err-texts-clause-err c =
 
 pub returns-clause-ok : goal.returns-clause-ok
 returns-clause-ok c =
-    let same = own_faults c.args.file.now c.as_slice.result.now c.own_part.result.now c.as_slice-2.result.now c.in_ok-above.above (c.as_slice.ensures, c.own_part.ensures, c.as_slice-2.ensures, c.in_ok-above.ensures) in
+    let same = own_faults (file_view c.args.file.now) c.as_slice.result.now (c.as_slice.ensures ∙ c.in_ok-above.ensures) in
     rw c.of.ensures (is_collected (file_view c.args.file.now) (record { entities = c.in_ok-entities.entities; texts = c.in_ok-texts.texts; above = c.in_ok-above.above }) c.in_ok-entities.ensures.tells c.in_ok-check_declarations.ensures (sym same ∙ c.in_ok-check_above.ensures) c.in_ok-entities.ensures.names c.in_ok-above.ensures c.in_ok-texts.ensures)

@@ -1,0 +1,11 @@
+pub mod Views
+pub mod Tables
+pub mod Differences
+pub mod Named
+pub mod Reaches
+pub mod Reached
+pub mod Closings
+pub mod Firsts
+pub mod Ranks
+pub mod Rounding
+pub mod Completed

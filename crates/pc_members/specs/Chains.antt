@@ -1,0 +1,59 @@
+-- Chains of `is`, from an entity to the traits and interfaces that it stands for.
+use Rattle.std.specs.Prelude.{◌≡◌, ◌↔◌, ℕ, ◌+◌, true, List, [], ◌∷◌, ◌++◌, map, length, Some, None, slice_get, replicate, option_to_list, position}
+use Rattle.pc_lists.specs.Places.{Each, Has, Differ, Ascends}
+use Rattle.pc_tree.specs.declared.names.Name.{Name}
+use Rattle.pc_tree.specs.Kinds.{is_abstract}
+use Rattle.pc_tree.specs.Tree as t
+use Rattle.pc_members.specs.Words.{Text, entity_names, entity_of}
+use Rattle.pc_members.specs.Reach.{Edges}
+use Rattle.pc_members.specs.Tables.{trait_names}
+use Rattle.std.specs.Str.{bytes_eq}
+
+-- The number of the first entity of the file.
+abbrev pub first_own : ℕ
+first_own = 6
+
+-- The entity of this number.
+abbrev pub entity_at : t.File → ℕ → t.Entity → Type 0
+entity_at file a e = slice_get (replicate first_own None ++ map Some file.entities) a ≡ Some (Some e)
+
+-- The `is` list of entity a names entity b.
+abbrev pub Names : t.File → ℕ → ℕ → Type 0
+Names file a b = (e : t.Entity) × entity_at file a e × ((n : Name) × Has e.provides n × (entity_of file n.text ≡ Some b))
+
+-- A chain of at least one `is` leads from an entity to another.
+pub data Leads (file : t.File) : ℕ → ℕ → Type 0 where
+  one : {a b : ℕ} → Names file a b → Leads file a b
+  more : {a b c : ℕ} → Names file a b → Leads file b c → Leads file a c
+
+-- Entity number a, a trait or an interface, leads back to itself.
+abbrev pub InCycle : t.File → ℕ → Type 0
+InCycle file a = (e : t.Entity) × entity_at file a e × (is_abstract e.kind ≡ true) × Leads file a a
+
+-- For each entity, the entities above it: each once, in ascending order.
+abbrev pub IsAbove : t.File → ℕ → List ℕ → Type 0
+IsAbove file a above = Ascends above × ((b : ℕ) → Has above b ↔ Leads file a b)
+
+abbrev pub Closes : t.File → List (List ℕ) → Type 0
+Closes file lists = (length lists ≡ first_own + length file.entities) × Each (λ a above. IsAbove file a above) lists
+
+-- The names of the entities differ, each `is` list names traits and interfaces of the file alone, and none of these leads back to itself.
+pub record IsFounded (file : t.File) : Type 0 where
+  pub names : Differ (entity_names file)
+  pub provides : (e : t.Entity) (n : Name) → Has file.entities e → Has e.provides n → Has (trait_names file.entities) n.text
+  pub straight : (a : ℕ) → InCycle file a → ⊥
+
+-- ---- the `is` lists, as edges between numbers
+
+-- The numbers of those names that are entities.
+abbrev pub numbers_of : List Text → List Name → List ℕ
+numbers_of entities [] = []
+numbers_of entities (n ∷ ns) = option_to_list (position (bytes_eq n.text) entities) ++ numbers_of entities ns
+
+abbrev pub own_edges : List Text → List t.Entity → Edges
+own_edges entities [] = []
+own_edges entities (e ∷ es) = numbers_of entities e.provides ∷ own_edges entities es
+
+-- For each entity, those that its `is` list names. The built-in ones have none.
+abbrev pub edges_of : t.File → Edges
+edges_of file = replicate first_own [] ++ own_edges (entity_names file) file.entities

@@ -1,0 +1,74 @@
+//! The `is` lists, as edges between the numbers of entities.
+ghost use Rattle.std.specs.Prelude.{◌≡◌, ◌++◌, [], map, replicate, IfOk};
+ghost use Rattle.pc_tree.specs.View.{entity_view, file_view};
+ghost use Rattle.pc_members.specs.Chains as spec;
+ghost use Rattle.pc_members.specs.Words.{entity_names};
+
+use crate::table::NameTable;
+use pc_caps::List;
+use pc_tree::{Entity, File, Name};
+use std::alloc::{AllocError, Global};
+
+/// How many entities are built in.
+const FIRST_OWN: usize = 6;
+
+// The numbers of those names that are entities.
+fn number_names(
+    alloc: Global,
+    entities: &NameTable,
+    names: &[Name],
+) -> Result<List<u32>, AllocError>
+    ensures { IfOk result (λ l. l ≡ spec.numbers_of entities.now names.now) }
+{
+    let mut numbers = List::new(alloc);
+    for name in names {
+        match entities.find(name.text.as_slice()) {
+            Some(number) => numbers.push(number)?,
+            None => {}
+        }
+    }
+    Ok(numbers)
+}
+
+// The built-in entities, which name none.
+fn built_in_edges(alloc: Global) -> Result<List<List<u32>>, AllocError>
+    ensures { IfOk result (λ l. l ≡ replicate spec.first_own []) }
+{
+    let mut edges = List::new(alloc);
+    while edges.len() < FIRST_OWN {
+        edges.push(List::new(alloc))?;
+    }
+    Ok(edges)
+}
+
+// The edges of these entities, behind the others.
+fn add_edges(
+    alloc: Global,
+    entities: &NameTable,
+    mut edges: List<List<u32>>,
+    all: &[Entity],
+) -> Result<List<List<u32>>, AllocError>
+    ensures { IfOk result (λ l. l ≡ edges ++ spec.own_edges entities.now (map entity_view all.now)) }
+{
+    for entity in all {
+        edges.push(number_names(alloc, entities, entity.provides.as_slice())?)?;
+    }
+    Ok(edges)
+}
+
+/// For each entity of a file, those that its `is` list names.
+pub fn list_edges(
+    alloc: Global,
+    entities: &NameTable,
+    file: &File,
+) -> Result<List<List<u32>>, AllocError>
+    requires { entities.now ≡ entity_names (file_view file.now) }
+    ensures { IfOk result (λ l. l ≡ spec.edges_of (file_view file.now)) }
+{
+    add_edges(
+        alloc,
+        entities,
+        built_in_edges(alloc)?,
+        file.entities.as_slice(),
+    )
+}

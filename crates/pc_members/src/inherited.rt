@@ -1,0 +1,182 @@
+//! The members of each entity of a file, with what it takes over.
+ghost use Rattle.std.specs.Prelude.{◌≡◌, ◌≤◌, ◌++◌, map, drop, length, slice_get, IfOk, OnOk};
+ghost use Rattle.pc_tree.specs.View.{entity_view, file_view};
+ghost use Rattle.pc_members.specs.Chains.{Closes, IsFounded, first_own};
+ghost use Rattle.pc_members.specs.Members.{members};
+ghost use Rattle.pc_members.specs.Tables.{find_name};
+ghost use Rattle.pc_members.specs.Words.{entity_names};
+ghost use Rattle.pc_members.specs.Rounds as spec;
+ghost use Rattle.pc_members.specs.Views.{members_view, table_view};
+
+use crate::member::{Member, own_members};
+use crate::table::NameTable;
+use crate::texts::own_names;
+use crate::traits::{list_methods, named_at};
+use pc_caps::List;
+use pc_tree::{Entity, EntityKind, File, Name};
+use std::alloc::{AllocError, Global};
+
+/// How many entities are built in.
+const FIRST_OWN: usize = 6;
+
+// Those of these members that an entity of this kind takes over go behind the others, of each name the first.
+fn take<'a>(
+    kind: EntityKind,
+    known: &mut NameTable,
+    list: &mut List<Member<'a>>,
+    members: &[Member<'a>],
+) -> Result<(), AllocError>
+    ensures list { OnOk result (members_view list.new ≡ members_view list.old ++ spec.taken_members kind known.old (members_view members.now)) }
+    ensures known { OnOk result (known.new ≡ spec.with_taken kind known.old (members_view members.now)) }
+{
+    for member in members {
+        if member.is_takable(kind) && !known.has(member.text()) {
+            known.add(member.text())?;
+            list.push(*member)?;
+        }
+    }
+    Ok(())
+}
+
+// The same of what the table has for the entity of this name.
+fn take_named<'a>(
+    kind: EntityKind,
+    entities: &NameTable,
+    table: &[List<Member<'a>>],
+    known: &mut NameTable,
+    list: &mut List<Member<'a>>,
+    name: &Name,
+) -> Result<(), AllocError>
+    ensures list { OnOk result (members_view list.new ≡ members_view list.old ++ spec.taken_members kind known.old (spec.named_at (table_view table.now) (find_name entities.now name.now.text))) }
+    ensures known { OnOk result (known.new ≡ spec.with_taken kind known.old (spec.named_at (table_view table.now) (find_name entities.now name.now.text))) }
+{
+    match named_at(entities, table, name) {
+        Some(members) => take(kind, known, list, members.as_slice()),
+        None => Ok(()),
+    }
+}
+
+// The same of what the table has for the entities of these names.
+#[tactic(auto, using(crate::proofs::Firsts::taken_turn))]
+fn take_all_named<'a>(
+    kind: EntityKind,
+    entities: &NameTable,
+    table: &[List<Member<'a>>],
+    known: &mut NameTable,
+    list: &mut List<Member<'a>>,
+    provides: &[Name],
+) -> Result<(), AllocError>
+    ensures { OnOk result (members_view list.new ≡ members_view list.old ++ spec.taken_members kind known.old (spec.named_all entities.now (table_view table.now) provides.now)) }
+{
+    for name in provides {
+        take_named(kind, entities, table, known, list, name)?;
+    }
+    Ok(())
+}
+
+// The members of a class, an actor or a primitive, where the table has the methods of the traits and interfaces.
+fn concrete_members<'a>(
+    alloc: Global,
+    entities: &NameTable,
+    table: &[List<Member<'a>>],
+    entity: &'a Entity,
+) -> Result<List<Member<'a>>, AllocError>
+    ensures { IfOk result (λ l. members_view l ≡ spec.concrete entities.now (table_view table.now) (entity_view entity.now)) }
+{
+    let mut known = own_names(alloc, entity)?;
+    let mut list = own_members(alloc, entity)?;
+    take_all_named(
+        entity.kind,
+        entities,
+        table,
+        &mut known,
+        &mut list,
+        entity.provides.as_slice(),
+    )?;
+    Ok(list)
+}
+
+// These members without their bodies.
+fn without_bodies<'a>(alloc: Global, members: &[Member<'a>]) -> Result<List<Member<'a>>, AllocError>
+    ensures { IfOk result (λ l. members_view l ≡ map spec.bodiless (members_view members.now)) }
+{
+    let mut list = List::new(alloc);
+    for member in members {
+        list.push(member.without_body())?;
+    }
+    Ok(list)
+}
+
+// The members of a trait or an interface, where the table has the methods of the one at this place.
+fn abstract_members<'a>(
+    alloc: Global,
+    table: &[List<Member<'a>>],
+    place: usize,
+) -> Result<List<Member<'a>>, AllocError>
+    ensures { IfOk result (λ l. members_view l ≡ map spec.bodiless (spec.or_none (slice_get (table_view table.now) place))) }
+{
+    match table.get(place) {
+        Some(members) => without_bodies(alloc, members.as_slice()),
+        None => Ok(List::new(alloc)),
+    }
+}
+
+// The members of the entity at this place, where the table has the methods of the traits and interfaces.
+fn complete<'a>(
+    alloc: Global,
+    entities: &NameTable,
+    table: &[List<Member<'a>>],
+    place: usize,
+    entity: &'a Entity,
+) -> Result<List<Member<'a>>, AllocError>
+    ensures { IfOk result (λ l. members_view l ≡ spec.completed entities.now (table_view table.now) place (entity_view entity.now)) }
+{
+    if entity.kind.is_abstract() {
+        abstract_members(alloc, table, place)
+    } else {
+        concrete_members(alloc, entities, table, entity)
+    }
+}
+
+// The same of each of these entities.
+fn complete_all<'a>(
+    alloc: Global,
+    entities: &NameTable,
+    table: &[List<Member<'a>>],
+    all: &'a [Entity],
+) -> Result<List<List<Member<'a>>>, AllocError>
+    ensures { IfOk result (λ l. table_view l ≡ spec.completed_from entities.now (table_view table.now) 0 (map entity_view all.now)) }
+{
+    let mut lists = List::new(alloc);
+    for place in 0..all.len() {
+        let entity = &all[place];
+        lists.push(complete(alloc, entities, table, place, entity)?)?;
+    }
+    Ok(lists)
+}
+
+// The part of a list of all entities that is about those of the file.
+fn own_part(lists: &[List<u32>]) -> &[List<u32>]
+    requires { first_own ≤ length lists.now }
+    ensures { result.now ≡ drop first_own lists.now }
+{
+    &lists[FIRST_OWN..]
+}
+
+/// The members of each entity of a file, in order, where these are the names of all entities, those that are built in
+/// first, and for each of them the entities to which a chain of `is` leads. The `Err` says that memory ran out.
+pub fn list_members<'a>(
+    alloc: Global,
+    entities: &NameTable,
+    above: &[List<u32>],
+    file: &'a File,
+) -> Result<List<List<Member<'a>>>, AllocError>
+    requires names { entities.now ≡ entity_names (file_view file.now) }
+    requires closes { Closes (file_view file.now) above.now }
+    requires founded { IsFounded (file_view file.now) }
+    ensures { IfOk result (λ l. table_view l ≡ map (members (file_view file.now).entities) (file_view file.now).entities) }
+{
+    let own = own_part(above);
+    let table = list_methods(alloc, entities, own, file)?;
+    complete_all(alloc, entities, table.as_slice(), file.entities.as_slice())
+}

@@ -1,0 +1,23 @@
+//! What a file's entities are called, which of them stands above which by the `is` lists, and the members of each.
+//!
+//! Proved: `NameTable` finds exactly the names that it has, by number and by name; `close` of the `is` lists has for each
+//! entity exactly the entities to which a chain of `is` leads; `has_added` says exactly where `create` is added;
+//! `list_members` gives exactly the members of each entity: its own, an added `create`, and what it takes over.
+#![tactic(auto)]
+
+mod constructors;
+mod edges;
+mod inherited;
+mod member;
+mod reach;
+mod table;
+mod texts;
+mod traits;
+
+pub use constructors::{has_added, is_new};
+pub use edges::list_edges;
+pub use inherited::list_members;
+pub use member::Member;
+pub use reach::close;
+pub use table::NameTable;
+pub use texts::add_texts;

@@ -1,0 +1,89 @@
+//! Names in the order of their first appearance, with their numbers.
+ghost use Rattle.std.specs.Prelude.{◌≡◌, ◌<◌, ◌^◌, [], length, OnOk, OnErr, slice_get};
+ghost use Rattle.std.specs.Option.{option_copied};
+ghost use Rattle.pc_members.specs.Tables.{find_name, with_name};
+ghost use Rattle.pc_members.specs.Words.{is_among};
+
+use indexmap::IndexSet;
+use std::alloc::{AllocError, Global};
+use std::marker::Model;
+
+/// How many names a table may have. No memory holds so many.
+const MOST_NAMES: usize = 4_294_967_295;
+
+/// Names that differ, in the order of their first appearance. A name's number is its place.
+#[derive(Drop)]
+pub struct NameTable {
+    alloc: Global,
+    names: IndexSet<Vec<u8>>,
+}
+
+impl Model for NameTable {
+    ghost use Rattle.std.specs.Prelude.{List as Sequence, ℕ, map, ◌<◌, ◌^◌, length};
+
+    ghost Value = { Sequence (Sequence ℕ) };
+
+    ghost view = { λ t. map (λ v. v.items) t.names.keys };
+
+    ghost invariant = { λ t. length t.names.keys < 2 ^ 32 };
+}
+
+impl NameTable {
+    /// A table without names. It takes no memory.
+    pub fn new(alloc: Global) -> NameTable
+        ensures { result ≡ [] }
+    {
+        NameTable {
+            alloc,
+            names: IndexSet::new(alloc),
+        }
+    }
+
+    /// How many names there are.
+    pub fn len(&self) -> u32
+        ensures { result ≡ length self.now }
+    {
+        self.names.len() as u32
+    }
+
+    /// The number of the name. `None` exactly where it is not there. It takes no memory.
+    pub fn find(&self, name: &[u8]) -> Option<u32>
+        ensures { result ≡ find_name self.now name.now }
+    {
+        self.names.get_index_of(name).map(|number| number as u32)
+    }
+
+    /// The name of this number. `None` exactly where there is none. It takes no memory.
+    #[tactic(auto, using(crate::proofs::Views::get_shown))]
+    pub fn get(&self, number: u32) -> Option<&[u8]>
+        ensures { option_copied result ≡ slice_get self.now number }
+    {
+        match self.names.get_index(number as usize) {
+            Some(name) => Some(name.as_slice()),
+            None => None,
+        }
+    }
+
+    /// Whether the name is there. It takes no memory.
+    pub fn has(&self, name: &[u8]) -> bool
+        ensures { result ≡ is_among name.now self.now }
+    {
+        self.names.contains(name)
+    }
+
+    /// Adds the name behind the others, unless it is there, which takes no memory. An `Err` changes nothing.
+    pub fn add(&mut self, name: &[u8]) -> Result<(), AllocError>
+        ensures ok { OnOk result (self.new ≡ with_name self.old name.now) }
+        ensures err { OnErr result (self.new ≡ self.old) }
+    {
+        if self.has(name) {
+            return Ok(());
+        }
+        if self.names.len() >= MOST_NAMES {
+            return Err(AllocError);
+        }
+        let owned = name.to_vec(self.alloc)?;
+        self.names.insert_full(owned)?;
+        Ok(())
+    }
+}

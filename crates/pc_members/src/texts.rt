@@ -1,0 +1,62 @@
+//! The names that an entity has itself.
+ghost use Rattle.std.specs.Prelude.{◌≡◌, [], ◌++◌, map, OnOk, IfOk};
+ghost use Rattle.pc_tree.specs.View.{entity_view, field_view, method_view};
+ghost use Rattle.pc_members.specs.Members.{added_text, own_texts};
+ghost use Rattle.pc_members.specs.Words.{field_texts, method_texts};
+ghost use Rattle.pc_members.specs.Words as words;
+ghost use Rattle.pc_members.specs.Tables.{with_names};
+
+use crate::constructors::has_added;
+use crate::table::NameTable;
+use pc_tree::{Entity, FieldDef, MethodDef};
+use std::alloc::{AllocError, Global};
+
+// The names of these fields go behind the others, each once.
+fn add_fields(table: &mut NameTable, fields: &[FieldDef]) -> Result<(), AllocError>
+    ensures { OnOk result (table.new ≡ with_names table.old (field_texts (map field_view fields.now))) }
+{
+    for field in fields {
+        table.add(field.name.text.as_slice())?;
+    }
+    Ok(())
+}
+
+// The names of these methods go behind the others, each once.
+fn add_methods(table: &mut NameTable, methods: &[MethodDef]) -> Result<(), AllocError>
+    ensures { OnOk result (table.new ≡ with_names table.old (method_texts (map method_view methods.now))) }
+{
+    for method in methods {
+        table.add(method.name.text.as_slice())?;
+    }
+    Ok(())
+}
+
+/// The names of the entity's fields and methods go behind the others, each once. After an `Err` some of them are there.
+#[tactic(auto, using(crate::proofs::Tables::names_in_parts))]
+pub fn add_texts(table: &mut NameTable, entity: &Entity) -> Result<(), AllocError>
+    ensures { OnOk result (table.new ≡ with_names table.old (field_texts (entity_view entity.now).fields ++ method_texts (entity_view entity.now).methods)) }
+{
+    add_fields(table, entity.fields.as_slice())?;
+    add_methods(table, entity.methods.as_slice())
+}
+
+// The name of an added `create` goes behind the others, where it is none of them.
+fn add_created(table: &mut NameTable, entity: &Entity) -> Result<(), AllocError>
+    ensures { OnOk result (table.new ≡ with_names table.old (added_text (words.has_added (entity_view entity.now)))) }
+{
+    if has_added(entity) {
+        table.add(b"create")
+    } else {
+        Ok(())
+    }
+}
+
+/// The names that an entity has itself: those of its fields and methods, and of an added `create`.
+pub(crate) fn own_names(alloc: Global, entity: &Entity) -> Result<NameTable, AllocError>
+    ensures { IfOk result (λ n. n ≡ with_names [] (own_texts (entity_view entity.now))) }
+{
+    let mut known = NameTable::new(alloc);
+    add_texts(&mut known, entity)?;
+    add_created(&mut known, entity)?;
+    Ok(known)
+}

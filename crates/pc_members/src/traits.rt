@@ -1,0 +1,198 @@
+//! The methods of each trait and interface of a file, with what it takes over.
+ghost use Rattle.std.specs.Prelude.{◌≡◌, ◌++◌, ◌+◌, map, length, IfOk, OnOk};
+ghost use Rattle.std.specs.Option.{option_copied};
+ghost use Rattle.pc_tree.specs.View.{entity_view, file_view};
+ghost use Rattle.pc_members.specs.Chains.{IsFounded};
+ghost use Rattle.pc_members.specs.Tables.{find_name, with_names};
+ghost use Rattle.pc_members.specs.Words.{entity_names};
+ghost use Rattle.pc_members.specs.Rounds as spec;
+ghost use Rattle.pc_members.specs.Views.{maybe_members, members_view, table_view};
+
+use crate::member::{Member, add_written};
+use crate::table::NameTable;
+use pc_caps::List;
+use pc_tree::{Entity, File, Name};
+use std::alloc::{AllocError, Global};
+
+/// How many entities are built in.
+const FIRST_OWN: usize = 6;
+
+// Those of these members whose names are not known go behind the others, of each name the first.
+fn add_firsts<'a>(
+    known: &mut NameTable,
+    list: &mut List<Member<'a>>,
+    members: &[Member<'a>],
+) -> Result<(), AllocError>
+    ensures list { OnOk result (members_view list.new ≡ members_view list.old ++ spec.first_members known.old (members_view members.now)) }
+    ensures known { OnOk result (known.new ≡ with_names known.old (spec.member_texts (members_view members.now))) }
+{
+    for member in members {
+        if !known.has(member.text()) {
+            known.add(member.text())?;
+            list.push(*member)?;
+        }
+    }
+    Ok(())
+}
+
+/// What the table has for the entity of this name.
+pub(crate) fn named_at<'t, 'a>(
+    entities: &NameTable,
+    table: &'t [List<Member<'a>>],
+    name: &Name,
+) -> Option<&'t List<Member<'a>>>
+    ensures { spec.or_none (maybe_members (option_copied result)) ≡ spec.named_at (table_view table.now) (find_name entities.now name.now.text) }
+{
+    let number = entities.find(name.text.as_slice())?;
+    table.get((number as usize).saturating_sub(FIRST_OWN))
+}
+
+// The same of what the table has for the entity of this name.
+fn add_named<'a>(
+    entities: &NameTable,
+    table: &[List<Member<'a>>],
+    known: &mut NameTable,
+    list: &mut List<Member<'a>>,
+    name: &Name,
+) -> Result<(), AllocError>
+    ensures list { OnOk result (members_view list.new ≡ members_view list.old ++ spec.first_members known.old (spec.named_at (table_view table.now) (find_name entities.now name.now.text))) }
+    ensures known { OnOk result (known.new ≡ with_names known.old (spec.member_texts (spec.named_at (table_view table.now) (find_name entities.now name.now.text)))) }
+{
+    match named_at(entities, table, name) {
+        Some(members) => add_firsts(known, list, members.as_slice()),
+        None => Ok(()),
+    }
+}
+
+// The same of what the table has for the entities of these names.
+#[tactic(auto, using(crate::proofs::Firsts::first_turn))]
+fn add_all_named<'a>(
+    entities: &NameTable,
+    table: &[List<Member<'a>>],
+    known: &mut NameTable,
+    list: &mut List<Member<'a>>,
+    provides: &[Name],
+) -> Result<(), AllocError>
+    ensures { OnOk result (members_view list.new ≡ members_view list.old ++ spec.first_members known.old (spec.named_all entities.now (table_view table.now) provides.now)) }
+{
+    for name in provides {
+        add_named(entities, table, known, list, name)?;
+    }
+    Ok(())
+}
+
+// The methods of a trait or an interface: its own, and then those that the table has for what it names, of each name the
+// first.
+#[tactic(auto, using(crate::proofs::Firsts::first_parts))]
+fn gather<'a>(
+    alloc: Global,
+    entities: &NameTable,
+    table: &[List<Member<'a>>],
+    entity: &'a Entity,
+) -> Result<List<Member<'a>>, AllocError>
+    ensures { IfOk result (λ l. members_view l ≡ spec.gathered entities.now (table_view table.now) (entity_view entity.now)) }
+{
+    let mut own = List::new(alloc);
+    add_written(&mut own, entity.methods.as_slice())?;
+    let mut known = NameTable::new(alloc);
+    let mut list = List::new(alloc);
+    add_firsts(&mut known, &mut list, own.as_slice())?;
+    add_all_named(
+        entities,
+        table,
+        &mut known,
+        &mut list,
+        entity.provides.as_slice(),
+    )?;
+    Ok(list)
+}
+
+// How many entities are above that at this place of the file.
+fn rank_of(above: &[List<u32>], place: usize) -> usize
+    ensures { result ≡ spec.rank above.now place }
+{
+    match above.get(place) {
+        Some(numbers) => numbers.len(),
+        None => 0,
+    }
+}
+
+// A table without methods, with a place for each entity.
+fn list_empty<'a>(alloc: Global, count: usize) -> Result<List<List<Member<'a>>>, AllocError>
+    ensures { IfOk result (λ l. length l ≡ count) }
+{
+    let mut table = List::new(alloc);
+    while table.len() < count {
+        table.push(List::new(alloc))?;
+    }
+    Ok(table)
+}
+
+// Where the entity at this place is a trait or an interface with so many entities above it, the table gets its methods.
+fn reach_place<'a>(
+    alloc: Global,
+    file: &'a File,
+    entities: &NameTable,
+    above: &[List<u32>],
+    table: &mut List<List<Member<'a>>>,
+    rank: usize,
+    place: usize,
+) -> Result<(), AllocError>
+    requires names { entities.now ≡ entity_names (file_view file.now) }
+    requires closes { spec.ClosesOwn (file_view file.now) above.now }
+    requires founded { IsFounded (file_view file.now) }
+    requires knows { spec.Knows (file_view file.now) above.now rank place (table_view table.old) }
+    ensures { OnOk result (spec.Knows (file_view file.now) above.now rank (place + 1) (table_view table.new)) }
+{
+    let Some(entity) = file.entities.get(place) else {
+        return Ok(());
+    };
+    if entity.kind.is_abstract() && rank_of(above, place) == rank {
+        let members = gather(alloc, entities, table.as_slice(), entity)?;
+        table.replace(place, members);
+    }
+    Ok(())
+}
+
+// The table gets the methods of the traits and interfaces with so many entities above them.
+fn reach_rank<'a>(
+    alloc: Global,
+    file: &'a File,
+    entities: &NameTable,
+    above: &[List<u32>],
+    table: &mut List<List<Member<'a>>>,
+    rank: usize,
+) -> Result<(), AllocError>
+    requires names { entities.now ≡ entity_names (file_view file.now) }
+    requires closes { spec.ClosesOwn (file_view file.now) above.now }
+    requires founded { IsFounded (file_view file.now) }
+    requires knows { spec.Knows (file_view file.now) above.now rank 0 (table_view table.old) }
+    ensures { OnOk result (spec.Knows (file_view file.now) above.now (rank + 1) 0 (table_view table.new)) }
+{
+    for place in 0..file.entities.len() {
+        reach_place(alloc, file, entities, above, table, rank, place)?;
+    }
+    Ok(())
+}
+
+/// For each entity of a file that is a trait or an interface, its methods with their bodies, where these are above each
+/// entity of the file. What is behind the place of another entity is not said. They are taken by the count of the entities
+/// above them, so that each comes behind those that it names.
+#[tactic(auto, using(crate::proofs::Rounding::knows_none))]
+pub(crate) fn list_methods<'a>(
+    alloc: Global,
+    entities: &NameTable,
+    above: &[List<u32>],
+    file: &'a File,
+) -> Result<List<List<Member<'a>>>, AllocError>
+    requires names { entities.now ≡ entity_names (file_view file.now) }
+    requires closes { spec.ClosesOwn (file_view file.now) above.now }
+    requires founded { IsFounded (file_view file.now) }
+    ensures { IfOk result (λ l. spec.Knows (file_view file.now) above.now (length file.now.entities) 0 (table_view l)) }
+{
+    let mut table = list_empty(alloc, file.entities.len())?;
+    for rank in 0..file.entities.len() {
+        reach_rank(alloc, file, entities, above, &mut table, rank)?;
+    }
+    Ok(table)
+}
