@@ -1,5 +1,5 @@
 -- A trait has all methods of the traits above it, however long a chain of `is` may be.
-use Rattle.std.proofs.Common.{◌≡◌, ℕ, zero, suc, ◌+◌, ◌-◌, ◌<◌, ◌≤◌, List, [], ◌∷◌, ◌++◌, length, map, Option, Some, None, Bool, true, false, refl, sym, ap, ◌∙◌, subst, arith, if◌then◌else◌, inl, inr, append-nil}
+use Rattle.std.proofs.Common.{◌≡◌, ℕ, zero, suc, ◌+◌, ◌-◌, ◌<◌, ◌≤◌, List, [], ◌∷◌, ◌++◌, length, Option, Some, None, Bool, true, false, refl, sym, ap, ◌∙◌, subst, arith, if◌then◌else◌, inl, inr}
 use Rattle.std.specs.Prelude.{slice_get, ◌⊎◌}
 use Rattle.std.proofs.lemmas.Bool.{cases_lt}
 use Rattle.std.proofs.lemmas.Option.{same_Some, none-some}
@@ -8,22 +8,56 @@ use Rattle.pc_tree.specs.declared.names.Name.{Name}
 use Rattle.pc_tree.specs.Kinds.{is_abstract}
 use Rattle.pc_tree.specs.Tree as t
 use Rattle.pc_lists.specs.Places.{Has, Differ}
-use Rattle.pc_names.specs.Words.{Text, is_among, has_added, built_in_names, texts_of, entity_names}
-use Rattle.pc_names.specs.Faults.{method_texts}
-use Rattle.pc_names.proofs.Differences.{same_text}
+use Rattle.pc_members.specs.Words.{Text, is_among, built_in_names, texts_of, entity_names}
+use Rattle.pc_members.specs.Words.{method_texts}
+use Rattle.pc_members.proofs.Differences.{same_text, among_has}
+use Rattle.pc_members.proofs.Named.{named_is, one_entity}
 use Rattle.pc_lists.proofs.Bools.{true_false}
 use Rattle.std.specs.Str.{bytes_eq}
-use Rattle.pc_names.specs.Chains.{first_own, Closes}
-use Rattle.pc_names.specs.Chains as chain
+use Rattle.pc_members.specs.Chains.{first_own, Closes}
+use Rattle.pc_members.specs.Chains as chain
 use Rattle.pc_names.proofs.CycleFirsts.{no_cycle}
-use Rattle.pc_file_spec.specs.Members.{written, firsts, entity_named, of_entity, of_each, trait_methods, methods_of, added_if, members, member_text}
+use Rattle.pc_members.specs.Members.{firsts, entity_named, of_entity, of_each, trait_methods}
 use Rattle.pc_file_spec.specs.Laws.{TraitsInherit, BoundIsEnough}
-use Rattle.pc_file_spec.proofs.Tables.{among_has}
 use Rattle.pc_lists.proofs.Elements.{has_on, has_either, has_front, has_behind}
 use Rattle.pc_file_spec.proofs.Collects.{Collects, collects}
-use Rattle.pc_file_spec.proofs.Origins.{named_is, one_entity, provided_trait, texts_written, added_kind, creator_is_none}
+use Rattle.pc_file_spec.proofs.Origins.{provided_trait, abstract_texts}
 use Rattle.pc_file_spec.proofs.Entities.{own_entity, entity_own, position_get}
-use Rattle.pc_file_spec.proofs.Counts.{no_longer, names_entity, written_above}
+use Rattle.pc_file_spec.proofs.Aboves.{names_entity, written_above}
+
+-- ---- lists without equal elements
+
+abbrev without : {T : Type 0} → ℕ → List T → List T
+without i [] = []
+without zero (x ∷ xs) = xs
+without (suc i) (x ∷ xs) = x ∷ without i xs
+
+without_count : {T : Type 0} → (i : ℕ) (xs : List T) (x : T) → slice_get xs i ≡ Some x → length xs ≡ suc (length (without i xs))
+without_count i [] x h = absurd (none-some x h)
+without_count zero (y ∷ xs) x h = refl
+without_count (suc i) (y ∷ xs) x h = ap suc (without_count i xs x h)
+
+without_has : {T : Type 0} → (i j : ℕ) (xs : List T) (y : T) → (j ≡ i → ⊥) → slice_get xs j ≡ Some y → Has (without i xs) y
+without_has i j [] y n h = absurd (none-some y h)
+without_has zero zero (x ∷ xs) y n h = absurd (n refl)
+without_has zero (suc j) (x ∷ xs) y n h = (j, h)
+without_has (suc i) zero (x ∷ xs) y n h = (0, h)
+without_has (suc i) (suc j) (x ∷ xs) y n h = let r = without_has i j xs y (λ e. n (ap suc e)) h in (suc r.0, r.1)
+
+differ_tail : {T : Type 0} → (x : T) (xs : List T) → Differ (x ∷ xs) → Differ xs
+differ_tail x xs d i j y g h = let e : suc i ≡ suc j = d (suc i) (suc j) y g h in omega (arith, e)
+
+-- A list of different elements is no longer than one that has them all.
+no_longer : {T : Type 0} → (xs zs : List T) → Differ xs → ((x : T) → Has xs x → Has zs x) → length xs ≤ length zs
+no_longer [] zs d f = omega arith
+no_longer {T} (x ∷ xs) zs d f =
+    let at : Has zs x = f x (0, refl) in
+    let count = without_count at.0 zs x at.1 in
+    let rest = no_longer xs (without at.0 zs) (differ_tail x xs d) (λ y h. let there = f y (has_on x xs y h) in without_has at.0 there.0 zs y (λ e. apart y h (sym at.1 ∙ ap (slice_get zs) (sym e) ∙ there.1)) there.1) in
+    omega (arith, count, rest)
+  where
+    apart : (y : T) → Has xs y → Some x ≡ Some y → ⊥
+    apart y h e = let k : suc h.0 ≡ 0 = d (suc h.0) 0 y h.1 e in absurd (omega (arith, k))
 
 -- ---- numbers below another
 
@@ -143,12 +177,12 @@ firsts_named known (m ∷ ms) x h = by (λ k g. firsts_named k ms x g) (is_among
       | inr a ↦ inr (has_on m.name.text (method_texts (firsts (known ++ m.name.text ∷ []) ms)) x a)
     ]
 
-each_there : (methods : t.Entity → List t.Method) (all : List t.Entity) (ns : List Name) (n : Name) (f : t.Entity) (y : t.Method) (i : ℕ) → slice_get ns i ≡ Some n → entity_named all n.text ≡ Some f → Has (methods f) y → Has (of_each methods all ns) y
+pub each_there : (methods : t.Entity → List t.Method) (all : List t.Entity) (ns : List Name) (n : Name) (f : t.Entity) (y : t.Method) (i : ℕ) → slice_get ns i ≡ Some n → entity_named all n.text ≡ Some f → Has (methods f) y → Has (of_each methods all ns) y
 each_there methods es [] n f y i h e g = absurd (none-some n h)
 each_there methods es (m ∷ ns) n f y zero h e g = has_front (of_entity methods (entity_named es m.text)) (of_each methods es ns) y (subst (λ o. Has (of_entity methods o) y) (sym (ap (λ (x : Name). entity_named es x.text) (same_Some m n h) ∙ e)) g)
 each_there methods es (m ∷ ns) n f y (suc i) h e g = has_behind (of_entity methods (entity_named es m.text)) (of_each methods es ns) y (each_there methods es ns n f y i h e g)
 
-named_there : (es : List t.Entity) (f : t.Entity) (i : ℕ) → slice_get es i ≡ Some f → (g : t.Entity) × (entity_named es f.name.text ≡ Some g)
+pub named_there : (es : List t.Entity) (f : t.Entity) (i : ℕ) → slice_get es i ≡ Some f → (g : t.Entity) × (entity_named es f.name.text ≡ Some g)
 named_there [] f i h = absurd (none-some f h)
 named_there (e ∷ es) f i h = by (λ j g. named_there es f j g) (bytes_eq e.name.text f.name.text) refl i h
   where
@@ -205,21 +239,12 @@ module _ (file : t.File) (above : List (List ℕ)) (c : Collects file above) (cl
 abbrev Inherits : t.File → ℕ → t.Entity → Text → Type 0
 Inherits file a e x = Has (method_texts e.methods) x ⊎ ((b : ℕ) × (f : t.Entity) × chain.Leads file (first_own + a) (first_own + b) × (slice_get file.entities b ≡ Some f) × Has (method_texts f.methods) x)
 
-no_added : (e : t.Entity) → is_abstract e.kind ≡ true → (b : Bool) → has_added e ≡ b → added_if b ≡ []
-no_added e d false h = refl
-no_added e d true h = absurd (true_false (sym d ∙ creator_is_none e.kind (added_kind e h)))
-
-trait_members : (all : List t.Entity) (e : t.Entity) → is_abstract e.kind ≡ true → map member_text (members all e) ≡ method_texts (trait_methods (length all) all e)
-trait_members all e d =
-    let own : methods_of all e ≡ trait_methods (length all) all e = ap (λ b. if b then trait_methods (length all) all e else e.methods) d in
-    ap (λ xs. map member_text (map written (methods_of all e) ++ xs)) (no_added e d (has_added e) refl) ∙ ap (map member_text) (append-nil (map written (methods_of all e))) ∙ texts_written (methods_of all e) ∙ ap method_texts own
-
 inherits : (file : t.File) (above : List (List ℕ)) → Collects file above → Closes file above → (a : ℕ) (e : t.Entity) (x : Text) → slice_get file.entities a ≡ Some e → Has (method_texts (trait_methods (length file.entities) file.entities e)) x → Inherits file a e x
 inherits file above c closes a e x h g =
     let r = map_get (λ (m : t.Method). m.name.text) (trait_methods (length file.entities) file.entities e) g.0 x g.1 in
     elim (written_above file above c (length file.entities) a e r.0 h (g.0, r.1)) [
       | inl y ↦ inl (named e.methods r.0 x r.2 y)
-      | inr y ↦ inr (y.0, y.1, y.2, y.3, named y.1.methods r.0 x r.2 y.4)
+      | inr y ↦ inr (y.0, y.1, y.2, y.3, named y.1.methods r.0 x r.2 y.5)
     ]
   where
     named : (ms : List t.Method) (m : t.Method) (x : Text) → m.name.text ≡ x → Has ms m → Has (method_texts ms) x
@@ -234,7 +259,7 @@ inherited file above c closes a e x h (inr g) = above_there file above c closes 
 pub traits_inherit : TraitsInherit
 traits_inherit file names collected a e h d x =
     let c : Collects file names.above = collects file names collected in
-    let texts = trait_members file.entities e d in
+    let texts = abstract_texts file.entities e d in
     (λ g. inherits file names.above c collected.above a e x h (subst (λ xs. Has xs x) texts g), λ g. subst (λ xs. Has xs x) (sym texts) (inherited file names.above c collected.above a e x h g))
 
 pub bound_is_enough : BoundIsEnough

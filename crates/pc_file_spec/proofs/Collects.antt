@@ -1,5 +1,5 @@
 -- What holds of a file whose names have no fault.
-use Rattle.std.proofs.Common.{◌≡◌, ℕ, zero, suc, ◌+◌, ◌<◌, ◌≤◌, ◌&&◌, ◌||◌, List, [], ◌∷◌, ◌++◌, length, Option, Some, None, Bool, true, false, not, refl, sym, ◌∙◌, subst, arith, inl, inr, append-nil}
+use Rattle.std.proofs.Common.{◌≡◌, ℕ, zero, suc, ◌+◌, ◌<◌, ◌≤◌, ◌&&◌, ◌||◌, List, [], ◌∷◌, ◌++◌, length, Option, Some, None, Bool, true, false, not, sym, ◌∙◌, subst, arith, append-nil}
 use Rattle.std.specs.Prelude.{nat_lt, codes, drop}
 use Rattle.std.proofs.lemmas.Bool.{ltb-true, not-false}
 use Rattle.std.proofs.lemmas.Option.{same_Some, none-some}
@@ -9,82 +9,23 @@ use Rattle.pc_tree.specs.declared.names.Name.{Name}
 use Rattle.pc_tree.specs.declared.names.TypeRef.{TypeRef}
 use Rattle.pc_tree.specs.Tree as t
 use Rattle.pc_lists.specs.Places.{Has, Differ}
-use Rattle.pc_names.specs.declared.fault.NameFault.{NameFault}
 use Rattle.pc_names.specs.declared.fault.NameFault.TheVariants as fault
 use Rattle.pc_names.specs.declared.fault.Which.TheVariants as which
-use Rattle.pc_names.specs.Words.{Text, is_among, built_in_names, texts_of, entity_names, has_added}
-use Rattle.pc_names.specs.Tables.{trait_names}
-use Rattle.pc_names.specs.Faults.{where_, either, type_faults, result_faults, provided_faults, field_faults, param_faults, signature_faults, method_faults, field_texts, method_texts, is_taken, added_faults, entity_faults, entities_faults, entity_name_faults, declaration_faults, entity_limit, field_limit}
-use Rattle.pc_names.specs.Chains.{first_own}
+use Rattle.pc_members.specs.Words.{Text, is_among, built_in_names, entity_names, has_added}
+use Rattle.pc_members.specs.Tables.{trait_names}
+use Rattle.pc_names.specs.Faults.{where_, either, type_faults, result_faults, provided_faults, field_faults, param_faults, signature_faults, method_faults, is_taken, added_faults, entity_faults, entities_faults, entity_name_faults, declaration_faults, entity_limit, field_limit}
+use Rattle.pc_members.specs.Words.{field_texts, method_texts}
+use Rattle.pc_members.specs.Chains.{first_own}
 use Rattle.pc_names.specs.Cycles.{cycle_faults}
 use Rattle.pc_names.specs.Counts.{count_faults}
 use Rattle.pc_names.specs.Mains.{main_faults}
 use Rattle.pc_names.specs.Names.{NamesData, Collected}
-use Rattle.pc_names.proofs.Differences.{differ_push}
+use Rattle.pc_members.proofs.Differences.{among_has}
+use Rattle.pc_members.proofs.Completed.{among_parts}
+use Rattle.pc_names.proofs.Founded.{where_none, either_none, Adds, adds_differ, all_differ, provided_are}
 use Rattle.pc_lists.proofs.Bools.{true_false}
-use Rattle.pc_file_spec.proofs.Tables.{has_among, among_has}
-use Rattle.pc_lists.proofs.Elements.{has_either, differ_none}
+use Rattle.pc_lists.proofs.Elements.{differ_none}
 use Rattle.pc_lists.proofs.Cuts.{nil_left, nil_right}
-
--- ---- no faults
-
-abbrev IsNone : {T : Type 0} → List T → Type 0
-IsNone [] = Unit {0}
-IsNone (x ∷ xs) = ⊥
-
-pub where_none : (b : Bool) (f : NameFault) → where_ b f ≡ [] → b ≡ false
-where_none true f h = absurd (subst IsNone (sym h) tt)
-where_none false f h = refl
-
-either_none : (b : Bool) (f : NameFault) (c : Bool) (g : NameFault) → either b f c g ≡ [] → (b ≡ false) × (c ≡ false)
-either_none true f c g h = absurd (subst IsNone (sym h) tt)
-either_none false f c g h = (refl, where_none c g h)
-
-or_left : (a b : Bool) → (a || b) ≡ false → a ≡ false
-or_left true b h = absurd (true_false h)
-or_left false b h = refl
-
-or_right : (a b : Bool) → (a || b) ≡ false → b ≡ false
-or_right true b h = absurd (true_false h)
-or_right false b h = h
-
--- ---- texts that differ
-
--- Each of these texts is none of those before it.
-abbrev pub Adds : List Text → List Text → Type 0
-Adds base [] = Unit {0}
-Adds base (x ∷ xs) = (is_among x base ≡ false) × Adds (base ++ x ∷ []) xs
-
-pub adds_differ : (base xs : List Text) → Differ base → Adds base xs → Differ (base ++ xs)
-adds_differ base [] d a = subst Differ (sym (append-nil base)) d
-adds_differ base (x ∷ xs) d a = subst Differ (append_assoc base (x ∷ []) xs) (adds_differ (base ++ x ∷ []) xs (differ_push x base d a.0) a.1)
-
--- What is none of either is none of both.
-among_neither : (x : Text) (xs ys : List Text) → (is_among x xs || is_among x ys) ≡ false → is_among x (xs ++ ys) ≡ false
-among_neither x xs ys h = by (is_among x (xs ++ ys)) refl
-  where
-    absent : (b : Bool) → b ≡ true → b ≡ false → ⊥
-    absent b e f = true_false (sym e ∙ f)
-
-    by : (b : Bool) → is_among x (xs ++ ys) ≡ b → b ≡ false
-    by false e = refl
-    by true e = absurd (elim (has_either xs ys x (among_has x (xs ++ ys) e)) [
-      | inl a ↦ absent (is_among x xs) (has_among x xs a) (or_left (is_among x xs) (is_among x ys) h)
-      | inr b ↦ absent (is_among x ys) (has_among x ys b) (or_right (is_among x xs) (is_among x ys) h)
-    ])
-
--- ---- the names of entities
-
-names_add : (known : List Text) (es : List t.Entity) → length known ≤ entity_limit → entity_name_faults known es ≡ [] → Adds known (texts_of es) × (length known + length es ≤ entity_limit)
-names_add known [] few h = (tt, omega (arith, few))
-names_add known (e ∷ es) few h =
-    let e0 = either_none (is_among e.name.text known) (fault.Double e.name.span) (not (nat_lt (length known) entity_limit)) (fault.TooMany which.Entities e.name.span) (nil_left _ _ h) in
-    let low : length known < entity_limit = ltb-true (length known) entity_limit (not-false (nat_lt (length known) entity_limit) e0.1) in
-    let count : length (known ++ e.name.text ∷ []) ≡ length known + 1 = length_push known e.name.text in
-    let more : length (known ++ e.name.text ∷ []) ≤ entity_limit = omega (arith, low, count) in
-    let rest = names_add (known ++ e.name.text ∷ []) es more (nil_right (either (is_among e.name.text known) (fault.Double e.name.span) (not (nat_lt (length known) entity_limit)) (fault.TooMany which.Entities e.name.span)) _ h) in
-    let total : length (known ++ e.name.text ∷ []) + length es ≤ entity_limit = rest.1 in
-    ((e0.0, rest.0), omega (arith, total, count))
 
 -- ---- one entity
 
@@ -133,7 +74,7 @@ result_is entities (Some x) h ty e = subst (IsType entities) (same_Some x ty e) 
 methods_add : (entities fields known : List Text) (ms : List t.Method) → method_faults entities fields known ms ≡ [] → Adds (fields ++ known) (method_texts ms) × ((m : t.Method) → Has ms m → TypesAre entities m)
 methods_add entities fields known [] h = (tt, λ m g. absurd (none-some m g.1))
 methods_add entities fields known (x ∷ ms) h =
-    let fresh : is_among x.name.text (fields ++ known) ≡ false = among_neither x.name.text fields known (where_none (is_among x.name.text fields || is_among x.name.text known) (fault.Double x.name.span) (nil_left _ _ h)) in
+    let fresh : is_among x.name.text (fields ++ known) ≡ false = among_parts x.name.text fields known ∙ where_none (is_among x.name.text fields || is_among x.name.text known) (fault.Double x.name.span) (nil_left _ _ h) in
     let tail = nil_right (where_ (is_among x.name.text fields || is_among x.name.text known) (fault.Double x.name.span)) _ h in
     let own = nil_left (signature_faults entities fields x) _ tail in
     let rest = methods_add entities fields (known ++ x.name.text ∷ []) ms (nil_right (signature_faults entities fields x) _ tail) in
@@ -146,16 +87,6 @@ methods_add entities fields known (x ∷ ms) h =
     first : TypesAre entities x → ((m : t.Method) → Has ms m → TypesAre entities m) → (m : t.Method) → Has (x ∷ ms) m → TypesAre entities m
     first a b m (zero, g) = subst (λ y. TypesAre entities y) (same_Some x m g) a
     first a b m (suc i, g) = b m (i, g)
-
-provided_are : (traits known : List Text) (ns : List Name) → provided_faults traits known ns ≡ [] → (n : Name) → Has ns n → Has traits n.text
-provided_are traits known [] h n g = absurd (none-some n g.1)
-provided_are traits known (x ∷ ns) h n g =
-    let e0 = either_none (not (is_among x.text traits)) (fault.Unknown x.span) (is_among x.text known) (fault.Double x.span) (nil_left _ _ h) in
-    first (among_has x.text traits (not-false (is_among x.text traits) e0.0)) (provided_are traits (known ++ x.text ∷ []) ns (nil_right (either (not (is_among x.text traits)) (fault.Unknown x.span) (is_among x.text known) (fault.Double x.span)) _ h)) n g
-  where
-    first : Has traits x.text → ((n : Name) → Has ns n → Has traits n.text) → (n : Name) → Has (x ∷ ns) n → Has traits n.text
-    first a b n (zero, g) = subst (λ (y : Name). Has traits y.text) (same_Some x n g) a
-    first a b n (suc i, g) = b n (i, g)
 
 -- An entity whose declarations have no fault.
 pub record Sound (file : t.File) (e : t.Entity) : Type 0 where
@@ -182,7 +113,7 @@ sound file e h =
       fields = fields.2;
       methods = methods.1;
       provides = provided_are traits [] e.provides (nil_left (provided_faults traits [] e.provides) _ h1);
-      added = λ a. among_neither (codes "create") (field_texts e.fields) (method_texts e.methods) (and_true (has_added e) (is_taken (codes "create") e) a (where_none (has_added e && is_taken (codes "create") e) (fault.Double e.name.span) (nil_left (added_faults e) _ h)));
+      added = λ a. among_parts (codes "create") (field_texts e.fields) (method_texts e.methods) ∙ and_true (has_added e) (is_taken (codes "create") e) a (where_none (has_added e && is_taken (codes "create") e) (fault.Double e.name.span) (nil_left (added_faults e) _ h));
     }
   where
     and_true : (a b : Bool) → a ≡ true → (a && b) ≡ false → b ≡ false
@@ -204,11 +135,8 @@ pub record Collects (file : t.File) (above : List (List ℕ)) : Type 0 where
   pub few : first_own + length file.entities ≤ entity_limit
   pub sound : (e : t.Entity) → Has file.entities e → Sound file e
   pub cycles : cycle_faults first_own file.entities (drop first_own above) ≡ []
-  pub counts : count_faults file.entities 0 file.entities (drop first_own above) ≡ []
+  pub counts : count_faults file.entities 0 file.entities ≡ []
   pub main : main_faults file.entities ≡ []
-
-built_in_adds : Adds [] built_in_names
-built_in_adds = (refl, (refl, (refl, (refl, (refl, (refl, tt))))))
 
 pub collects : (file : t.File) (names : NamesData) → Collected file names → Collects file names.above
 collects file names c =
@@ -217,13 +145,12 @@ collects file names c =
     let h1 = nil_right (entity_name_faults built_in_names es) _ c.faults in
     let h2 = nil_right (declaration_faults file) _ h1 in
     let h3 = nil_right (cycle_faults first_own es a) _ h2 in
-    let entities = names_add built_in_names es (omega arith) (nil_left (entity_name_faults built_in_names es) _ c.faults) in
-    let few = entities.1 in
+    let entities = all_differ file (nil_left (entity_name_faults built_in_names es) _ c.faults) in
     record {
-      names = adds_differ built_in_names (texts_of es) (adds_differ [] built_in_names differ_none built_in_adds) entities.0;
-      few = omega (arith, few);
+      names = entities.0;
+      few = entities.1;
       sound = sounds file es (nil_left (declaration_faults file) _ h1);
       cycles = nil_left (cycle_faults first_own es a) _ h2;
-      counts = nil_left (count_faults es 0 es a) _ h3;
-      main = nil_right (count_faults es 0 es a) _ h3;
+      counts = nil_left (count_faults es 0 es) _ h3;
+      main = nil_right (count_faults es 0 es) _ h3;
     }

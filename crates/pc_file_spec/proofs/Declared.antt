@@ -1,6 +1,6 @@
 -- What a member declares fits.
-use Rattle.std.proofs.Common.{◌≡◌, ℕ, ◌+◌, ◌<◌, List, [], ◌++◌, length, Option, Some, None, Bool, true, false, refl, sym, ap, ◌∙◌, subst, arith, inl, inr}
-use Rattle.std.specs.Prelude.{◌⊎◌}
+use Rattle.std.proofs.Common.{◌≡◌, ℕ, ◌+◌, ◌<◌, List, [], ◌++◌, length, Option, Some, None, Bool, true, false, refl, sym, ap, ◌∙◌, subst, arith, inl, inr, append-nil}
+use Rattle.std.specs.Prelude.{◌⊎◌, is_some, IsSome}
 use Rattle.std.proofs.lemmas.Option.{none-some}
 use Rattle.pc_caps.specs.declared.capability.Cap.{Cap}
 use Rattle.pc_caps.specs.declared.capability.Cap.TheVariants as cap
@@ -11,41 +11,63 @@ use Rattle.pc_tree.specs.declared.kinds.EntityKind.TheVariants as kind
 use Rattle.pc_tree.specs.declared.kinds.MethodWord.{MethodWord}
 use Rattle.pc_tree.specs.declared.kinds.MethodWord.TheVariants as word
 use Rattle.pc_tree.specs.declared.names.TypeRef.{TypeRef}
-use Rattle.pc_tree.specs.Kinds.{is_abstract, may_stand, BodyUnless, HasBody}
+use Rattle.pc_tree.specs.Kinds.{is_abstract, may_stand, BodyUnless}
 use Rattle.pc_tree.specs.Tree as t
-use Rattle.pc_tree.proofs.KindFacts.{no_new}
+use Rattle.pc_tree.proofs.KindFacts.{no_new, same_methods}
 use Rattle.pc_core.specs.declared.declarations.Method.{Method}
 use Rattle.pc_core.specs.declared.declarations.ParamInfo.{ParamInfo}
 use Rattle.pc_core.specs.Methods.{constructor_kind, word_kind, StandsIn, ResultFits}
-use Rattle.pc_lists.specs.Places.{Each, Has}
+use Rattle.pc_lists.specs.Places.{Each, Has, Ascends}
+use Rattle.pc_lists.proofs.Elements.{ascends_none}
 use Rattle.pc_lists.proofs.Gets.{map_get}
-use Rattle.pc_names.specs.Words.{entity_names}
-use Rattle.pc_names.specs.Chains.{first_own}
-use Rattle.pc_lists.proofs.Bools.{true_false}
-use Rattle.pc_body_spec.specs.Roses.{Rose}
+use Rattle.pc_members.specs.Words.{entity_names}
+use Rattle.pc_members.specs.Chains.{first_own}
+use Rattle.pc_lists.proofs.Bools.{true_false, false_true, first_true, second_true}
 use Rattle.pc_body_spec.specs.Scopes.{Context, Known}
 use Rattle.pc_body_spec.specs.Bodies.{maybe_body, initial_fields}
+use Rattle.pc_body_spec.specs.Places.{body_places, initial_places, written_body_places}
 use Rattle.pc_body_spec.specs.Slots.{cap_or, initial_locals, body_locals}
-use Rattle.pc_file_spec.specs.Members.{Member, written, added}
+use Rattle.pc_members.specs.Members.{Member, written, added, without_body}
 use Rattle.pc_file_spec.specs.Known.{known_of}
 use Rattle.pc_file_spec.specs.Signatures.{param_of, params_of, kind_of, word_receiver, receiver_of, written_result, object_of, word_result, result_of, locals_of}
 use Rattle.pc_file_spec.specs.Order.{InOrder, InPlace}
 use Rattle.pc_file_spec.proofs.Steps.{member_rose}
 use Rattle.pc_file_spec.proofs.Collects.{Collects, TypesAre, IsType}
-use Rattle.pc_file_spec.proofs.Origins.{Origin, Sort, added_kind}
+use Rattle.pc_file_spec.proofs.Origins.{Origin, Comes, as_declared, as_own, as_taken, Sort, added_kind, fieldless}
 use Rattle.pc_file_spec.proofs.Types.{type_below}
 use Rattle.pc_file_spec.proofs.Definitions.{MemberOrder}
 
 -- ---- where methods stand
 
+-- A member of a trait has no body, and one of another entity has one.
+abbrev BodyFor : Bool → Option t.Seq → Type 0
+BodyFor true b = b ≡ None
+BodyFor false b = IsSome b
+
 abbrev Placed : t.Entity → Member → Type 0
-Placed e (written x) = (may_stand e.kind x.word ≡ true) × HasBody e.kind x.body
+Placed e (written x) = (may_stand e.kind x.word ≡ true) × BodyFor (is_abstract e.kind) x.body
 Placed e added = (e.kind ≡ kind.Class) ⊎ (e.kind ≡ kind.Actor)
 
+own_body : (b : Option t.Seq) → BodyUnless false b → IsSome b
+own_body None h = absurd h
+own_body (Some b) h = refl
+
+comes_placed : (file : t.File) (e origin : t.Entity) (source x : t.Method) → InPlace file → Has file.entities origin → Has origin.methods source → Comes e origin source x → Placed e (written x)
+comes_placed file e origin source x p ho hs (as_declared d f h) =
+    let stands : may_stand e.kind source.word ≡ true = same_methods e.kind origin.kind source.word d f ∙ ((p origin ho).1 source hs).0 in
+    subst (λ y. Placed e (written y)) h (stands, subst (λ b. BodyFor b None) (sym d) refl)
+comes_placed file e origin source x p ho hs (as_own d f h) =
+    let there = (p origin ho).1 source hs in
+    let own : Placed origin (written source) = (there.0, by (is_abstract origin.kind) (ap (λ (y : t.Entity). is_abstract y.kind) f ∙ d) there.1) in
+    subst (λ y. Placed e (written y)) h (subst (λ y. Placed y (written source)) f own)
+  where
+    by : (b : Bool) → b ≡ false → BodyUnless b source.body → BodyFor b source.body
+    by true e k = absurd (true_false e)
+    by false e k = own_body source.body k
+comes_placed file e origin source x p ho hs (as_taken d f k h) = (second_true (is_some x.body) (may_stand e.kind x.word) k, subst (λ b. BodyFor b x.body) (sym d) (first_true (is_some x.body) (may_stand e.kind x.word) k))
+
 pub placed_of : (file : t.File) (e : t.Entity) (m : Member) → InPlace file → Sort file e m → Placed e m
-placed_of file e (written x) p o =
-    let there = (p o.origin o.is_entity).1 x o.is_method in
-    (sym (o.holds x.word) ∙ there.0, subst (λ b. BodyUnless b x.body) o.abstract there.1)
+placed_of file e (written x) p o = comes_placed file e o.origin o.source x p o.is_entity o.is_method o.comes
 placed_of file e added p h = added_kind e h
 
 pub member_stands : (e : t.Entity) (m : Member) → Placed e m → StandsIn (kind_of e.kind m) e.kind
@@ -61,9 +83,9 @@ no_locals k fs word.Fun e h = refl
 no_locals k fs word.Be e h = refl
 no_locals k fs word.New e h = absurd (true_false (sym h ∙ no_new k e))
 
-only_abstract : (b : Bool) → BodyUnless b None → b ≡ true
+only_abstract : (b : Bool) → BodyFor b None → b ≡ true
 only_abstract true h = refl
-only_abstract false h = absurd h
+only_abstract false h = absurd (false_true h)
 
 no_seq : (c : Context) (fs : List t.Field) (x : t.Method) (o : Option t.Seq) → maybe_body c fs x o ≡ None → o ≡ None
 no_seq c fs x None h = refl
@@ -73,27 +95,47 @@ pub bodiless : (c : Context) (e : t.Entity) (m : Member) → Placed e m → memb
 bodiless c e added p h = absurd (none-some _ (sym h))
 bodiless c e (written x) p h =
     let none : x.body ≡ None = no_seq c e.fields x x.body h in
-    let is : is_abstract e.kind ≡ true = only_abstract (is_abstract e.kind) (subst (HasBody e.kind) none p.1) in
+    let is : is_abstract e.kind ≡ true = only_abstract (is_abstract e.kind) (subst (BodyFor (is_abstract e.kind)) none p.1) in
     (is, ap (λ ls. ls ++ body_locals x.body) (no_locals e.kind e.fields x.word is p.0) ∙ ap body_locals none)
 
-no_body : (k : EntityKind) (b : Option t.Seq) → is_abstract k ≡ true → HasBody k b → b ≡ None
-no_body k b h p = subst (λ x. BodyUnless x b) h p
-
--- A member with a body has its names in the order of the text.
-pub member_order : (file : t.File) (c : Context) (e : t.Entity) (m : Member) (r : Rose) → InOrder file → InPlace file → Has file.entities e → Sort file e m → member_rose c e m ≡ Some r → MemberOrder e m
-member_order file c e added r o p he h is = (o e he).0
-member_order file c e (written x) r o p he s is = by (is_abstract e.kind) refl
+-- The places in a function or behaviour are those of its body, whichever fields its entity has.
+same_places : (k : EntityKind) (fs gs : List t.Field) (x : t.Method) → is_abstract k ≡ true → may_stand k x.word ≡ true → body_places fs x ≡ body_places gs x
+same_places k fs gs x d h = by x.word h
   where
-    by : (b : Bool) → is_abstract e.kind ≡ b → MemberOrder e (written x)
-    by false d = subst (λ f. MemberOrder f (written x)) (s.own d) ((o s.origin s.is_entity).1 x s.is_method)
-    by true d =
-        let none : x.body ≡ None = no_body e.kind x.body d (placed_of file e (written x) p s).1 in
-        absurd (none-some r (sym (ap (maybe_body c e.fields x) none) ∙ is))
+    by : (w : MethodWord) → may_stand k w ≡ true → initial_places (initial_fields w fs) ++ written_body_places x.body ≡ initial_places (initial_fields w gs) ++ written_body_places x.body
+    by word.Fun g = refl
+    by word.Be g = refl
+    by word.New g = absurd (true_false (sym g ∙ no_new k d))
+
+no_initials : (w : MethodWord) → initial_places (initial_fields w []) ≡ []
+no_initials word.Fun = refl
+no_initials word.Be = refl
+no_initials word.New = refl
+
+comes_ordered : (file : t.File) (e origin : t.Entity) (source x : t.Method) → InOrder file → InPlace file → Has file.entities e → Has file.entities origin → Has origin.methods source → Comes e origin source x → MemberOrder e (written x)
+comes_ordered file e origin source x o p he ho hs (as_declared d f h) =
+    let fields : e.fields ≡ [] = fieldless e.kind e.fields d (p e he).0 in
+    let nothing : body_places e.fields (without_body source) ≡ [] = ap (λ (fs : List t.Field). body_places fs (without_body source)) fields ∙ append-nil (initial_places (initial_fields source.word [])) ∙ no_initials source.word in
+    subst (λ y. MemberOrder e (written y)) h (subst Ascends (sym nothing) ascends_none)
+comes_ordered file e origin source x o p he ho hs (as_own d f h) = subst (λ y. MemberOrder e (written y)) h (subst (λ y. MemberOrder y (written source)) f ((o origin ho).1 source hs))
+comes_ordered file e origin source x o p he ho hs (as_taken d f k h) =
+    let places : body_places origin.fields source ≡ body_places e.fields source = same_places origin.kind origin.fields e.fields source f ((p origin ho).1 source hs).0 in
+    subst (λ y. MemberOrder e (written y)) h (subst Ascends places ((o origin ho).1 source hs))
+
+-- The names in a member's body stand in the order of the text.
+pub member_order : (file : t.File) (e : t.Entity) (m : Member) → InOrder file → InPlace file → Has file.entities e → Sort file e m → MemberOrder e m
+member_order file e added o p he h = (o e he).0
+member_order file e (written x) o p he s = comes_ordered file e s.origin s.source x o p he s.is_entity s.is_method s.comes
 
 -- ---- types
 
 pub types_are : (file : t.File) (above : List (List ℕ)) (e : t.Entity) (x : t.Method) → Collects file above → Origin file e x → TypesAre (entity_names file) x
-types_are file above e x c o = (c.sound o.origin o.is_entity).methods x o.is_method
+types_are file above e x c o =
+    let types : TypesAre (entity_names file) o.source = (c.sound o.origin o.is_entity).methods o.source o.is_method in
+    bodies (subst (λ y. TypesAre (entity_names file) y) o.same (record { params = types.params; result = types.result }))
+  where
+    bodies : TypesAre (entity_names file) (without_body x) → TypesAre (entity_names file) x
+    bodies t = record { params = t.params; result = t.result }
 
 pub params_below : (file : t.File) (above : List (List ℕ)) (e : t.Entity) (m : Member) → Collects file above → Sort file e m → Each (λ i p. p.entity < first_own + length file.entities) (params_of (known_of file) m)
 params_below file above e added c s i p h = absurd (none-some p h)

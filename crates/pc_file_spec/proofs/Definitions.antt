@@ -23,7 +23,7 @@ use Rattle.pc_body_spec.proofs.Nodes.{beyond}
 use Rattle.pc_body_spec.proofs.PostOrders.{post_order}
 use Rattle.pc_body_spec.proofs.Once.{maybe_n, added_n, node_times, node_join, put_n, SlotsFrom, next_slots, slots_from}
 use Rattle.pc_lists.proofs.Bools.{true_false}
-use Rattle.pc_file_spec.specs.Members.{Member, written, added}
+use Rattle.pc_members.specs.Members.{Member, written, added}
 use Rattle.pc_file_spec.specs.Signatures.{locals_of, placed_of}
 use Rattle.pc_file_spec.proofs.Steps.{member_faults, member_rose}
 

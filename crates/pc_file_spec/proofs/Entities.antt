@@ -17,22 +17,25 @@ use Rattle.pc_core.specs.CoreData.{CoreData}
 use Rattle.pc_core.specs.Entities.{built_in, built_in_value, out_field, print_method, EntityFits, IsAbstract, Names, Leads, one, more}
 use Rattle.pc_core.specs.Lookup.{own_methods, field_name, method_name}
 use Rattle.pc_lists.specs.Places.{Each, Has, Differ, Ascends, IsIn}
-use Rattle.pc_names.specs.Words.{Text, built_in_names, texts_of, entity_names}
-use Rattle.pc_names.specs.Faults.{field_texts, method_texts}
-use Rattle.pc_names.specs.Reach.{or_nil}
-use Rattle.pc_names.specs.Chains.{first_own, IsAbove, numbers_of}
-use Rattle.pc_names.specs.Chains as chain
-use Rattle.pc_names.proofs.Closings.{numbers_only, numbers_all, no_entity}
-use Rattle.pc_file_spec.specs.Members.{Member, written, added, members, member_text, Owned, owned}
+use Rattle.pc_members.specs.Words.{Text, built_in_names, texts_of, entity_names}
+use Rattle.pc_members.specs.Words.{field_texts, method_texts}
+use Rattle.pc_members.specs.Reach.{or_nil}
+use Rattle.pc_members.specs.Chains.{first_own, IsAbove, numbers_of}
+use Rattle.pc_members.specs.Chains as chain
+use Rattle.pc_members.proofs.Differences.{equal_texts}
+use Rattle.pc_members.proofs.Named.{is_trait_named}
+use Rattle.pc_members.proofs.Closings.{numbers_only, numbers_all, no_entity}
+use Rattle.pc_members.specs.Members.{Member, written, added, members, member_text}
+use Rattle.pc_file_spec.specs.Members.{Owned, owned}
 use Rattle.pc_file_spec.specs.Known as known
 use Rattle.pc_file_spec.specs.Parts.{Parts}
 use Rattle.pc_file_spec.specs.Cores.{core_with, built_ins, entity_of, field_of}
 use Rattle.pc_body_spec.specs.Scopes.{text_from}
-use Rattle.pc_file_spec.proofs.Tables.{equal_texts, text_below, one_text, language_kept, member_there}
+use Rattle.pc_file_spec.proofs.Tables.{text_below, one_text, language_kept, member_there}
 use Rattle.pc_lists.proofs.Elements.{has_front, has_behind, each_none, ascends_none}
 use Rattle.pc_file_spec.proofs.Owners.{starts, own_member}
 use Rattle.pc_file_spec.proofs.Collects.{Sound}
-use Rattle.pc_file_spec.proofs.Origins.{is_trait_named, members_differ, Sort, sort_of}
+use Rattle.pc_file_spec.proofs.Origins.{members_differ, Sort, sort_of}
 use Rattle.pc_file_spec.proofs.Types.{type_below}
 use Rattle.pc_file_spec.proofs.Parts.{At}
 use Rattle.pc_file_spec.proofs.Settings.{Setting, all_members, entities_length, entity_get, entity_cases, print_get, method_at, at_get}
@@ -231,7 +234,10 @@ module _ (file : t.File) (above : List (List ℕ)) (q : Parts) (s : Setting file
   text_there e m he hm = by m (sort_of file above e m s.collects he hm)
     where
       by : (m : Member) → Sort file e m → Has core.names (member_text m)
-      by (written x) o = member_there file o.origin x.name.text o.is_entity (has_behind (field_texts o.origin.fields) (method_texts o.origin.methods) x.name.text (o.is_method.0, get_map (λ (y : t.Method). y.name.text) o.origin.methods o.is_method.0 x o.is_method.1))
+      by (written x) o =
+          let i : ℕ = o.is_method.0 in
+          let text : slice_get (method_texts o.origin.methods) i ≡ Some x.name.text = get_map (λ (y : t.Method). y.name.text) o.origin.methods i o.source o.is_method.1 ∙ ap (λ (y : t.Method). Some y.name.text) o.same in
+          member_there file o.origin x.name.text o.is_entity (has_behind (field_texts o.origin.fields) (method_texts o.origin.methods) x.name.text (i, text))
       by added o = (2, language_kept file 2 (codes "create") refl)
 
   abbrev texts : t.Entity → List Text

@@ -9,8 +9,8 @@ use Rattle.pc_lists.specs.Ranges.{Follow}
 use Rattle.pc_lists.specs.Places.{Differ}
 use Rattle.pc_core.specs.Formed.{Formed}
 use Rattle.pc_names.specs.declared.fault.NameFault.{NameFault}
-use Rattle.pc_names.specs.Words.{built_in_names, texts_of}
-use Rattle.pc_names.specs.Chains.{first_own}
+use Rattle.pc_members.specs.Words.{built_in_names, texts_of}
+use Rattle.pc_members.specs.Chains.{first_own}
 use Rattle.pc_file_spec.specs.Parts.{Parts, if_ok, parts_of, built_in_parts}
 use Rattle.pc_file_spec.specs.Cores.{core_with, core_of, entities_from}
 use Rattle.pc_file_spec.specs.Laws.{StandsIsFormed, CoresAreSmall, MembersDiffer}
@@ -27,7 +27,7 @@ use Rattle.pc_file_spec.proofs.Nodes.{nodes_fit}
 use Rattle.pc_file_spec.proofs.Mains.{has_main}
 use Rattle.pc_file_spec.proofs.Counts.{members_limited}
 
-names_given : (file : t.File) (above : List (List ℕ)) (es : List t.Entity) (n at : ℕ) → map (λ (x : EntityDef). x.name) (entities_from file above n at es) ≡ texts_of es
+pub names_given : (file : t.File) (above : List (List ℕ)) (es : List t.Entity) (n at : ℕ) → map (λ (x : EntityDef). x.name) (entities_from file above n at es) ≡ texts_of es
 names_given file above [] n at = refl
 names_given file above (e ∷ es) n at = ap (λ xs. e.name.text ∷ xs) (names_given file above es _ _)
 
@@ -64,7 +64,7 @@ module _ (file : t.File) (above : List (List ℕ)) (q : Parts) (s : Setting file
       let good : Good q = s.parts.good in
       let entities = entities_length file above q in
       let few = s.collects.few in
-      let members = members_limited file above s.collects s.closes in
+      let members = members_limited file above s.collects in
       let methods = methods_length file above q s in
       let slots = good.slots in
       let nodes = good.nodes in
@@ -87,14 +87,14 @@ module _ (file : t.File) (above : List (List ℕ)) (q : Parts) (s : Setting file
       }
 
 -- The parts of a core that stands.
-stands_with : (file : t.File) (above : List (List ℕ)) (core : CoreData) → core_of above file ≡ Ok core → (q : Parts) × (parts_of file ≡ Ok q) × (core_with file above q ≡ core)
+pub stands_with : (file : t.File) (above : List (List ℕ)) (core : CoreData) → core_of above file ≡ Ok core → (q : Parts) × (parts_of file ≡ Ok q) × (core_with file above q ≡ core)
 stands_with file above core h = by (parts_of file) refl h
   where
     by : (r : Result Parts NameFault) → parts_of file ≡ r → if_ok r (λ p. Ok (core_with file above p)) ≡ Ok core → (q : Parts) × (parts_of file ≡ Ok q) × (core_with file above q ≡ core)
     by (Ok q) e g = (q, e, same_ok (core_with file above q) core (Ok (core_with file above q)) refl g)
     by (Err f) e g = absurd (subst IsOk (sym g) tt)
 
-parts_are : (file : t.File) (q : Parts) → parts_of file ≡ Ok q → AllAt file built_in_parts (all_members file) q
+pub parts_are : (file : t.File) (q : Parts) → parts_of file ≡ Ok q → AllAt file built_in_parts (all_members file) q
 parts_are file q h = all_at file (all_members file) built_in_parts q first_good h
 
 pub stands_is_formed : StandsIsFormed
@@ -117,7 +117,7 @@ cores_small file core stands =
     let above = stands.0.above in
     let w = stands_with file above core stands.2 in
     let parts = parts_are file w.0 w.1 in
-    let members = members_limited file above (collects file stands.0 stands.1) stands.1.above in
+    let members = members_limited file above (collects file stands.0 stands.1) in
     let methods = parts.count in
     let slots = parts.good.slots in
     let few_slots : length w.0.slots ≤ 640000 = omega (arith, members, methods, slots) in

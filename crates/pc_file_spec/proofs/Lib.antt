@@ -16,7 +16,9 @@ pub mod Locals
 pub mod Methods
 pub mod Nodes
 pub mod Mains
+pub mod Aboves
 pub mod Counts
 pub mod Formation
 pub mod SmallCores
 pub mod Bounds
+pub mod Takings

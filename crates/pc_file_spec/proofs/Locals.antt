@@ -26,7 +26,8 @@ use Rattle.pc_body_spec.proofs.BodyScopes.{bodies_are_scoped, added_bodies_are_s
 use Rattle.pc_body_spec.proofs.Locals.{locals_are_defined}
 use Rattle.pc_body_spec.proofs.Nodes.{beyond}
 use Rattle.pc_body_spec.proofs.Once.{locals_are_defined_once, added_locals_are_defined_once}
-use Rattle.pc_file_spec.specs.Members.{Member, written, added, Owned}
+use Rattle.pc_members.specs.Members.{Member, written, added}
+use Rattle.pc_file_spec.specs.Members.{Owned}
 use Rattle.pc_file_spec.specs.Signatures.{context_of, placed_of, locals_of, params_of, param_of}
 use Rattle.pc_file_spec.specs.Parts.{Parts}
 use Rattle.pc_file_spec.specs.Cores.{core_with}

@@ -1,5 +1,5 @@
 -- The actor with which a file's program begins.
-use Rattle.std.proofs.Common.{◌≡◌, ℕ, suc, ◌+◌, ◌&&◌, ◌||◌, List, [], ◌∷◌, length, map, Option, Some, None, Bool, true, false, refl, sym, ap, ◌∙◌, subst, if◌then◌else◌}
+use Rattle.std.proofs.Common.{◌≡◌, ℕ, suc, ◌+◌, ◌&&◌, ◌||◌, List, [], ◌∷◌, map, Option, Some, None, Bool, true, false, refl, sym, ap, ◌∙◌, subst, if◌then◌else◌}
 use Rattle.std.specs.Prelude.{slice_get, codes}
 use Rattle.std.specs.List.{list_any}
 use Rattle.std.specs.Str.{bytes_eq}
@@ -17,17 +17,19 @@ use Rattle.pc_core.specs.CoreData.{CoreData}
 use Rattle.pc_core.specs.Entities.{HasMain}
 use Rattle.pc_core.specs.Methods.{word_kind}
 use Rattle.pc_names.specs.declared.fault.NameFault.TheVariants as fault
-use Rattle.pc_names.specs.Words.{is_new}
-use Rattle.pc_names.specs.Chains.{first_own}
+use Rattle.pc_members.specs.Words.{is_new}
+use Rattle.pc_members.specs.Chains.{first_own}
+use Rattle.pc_members.proofs.Differences.{equal_texts}
 use Rattle.pc_names.specs.Mains.{is_actor, is_val, is_env, takes_env, begins, is_main, main_faults}
 use Rattle.pc_lists.proofs.Bools.{true_false}
 use Rattle.pc_body_spec.specs.Slots.{cap_or}
-use Rattle.pc_file_spec.specs.Members.{written, added_if, trait_methods, methods_of, members, Owned, owned}
+use Rattle.pc_members.specs.Members.{written, abstract_members, concrete_members, members}
+use Rattle.pc_file_spec.specs.Members.{Owned, owned}
 use Rattle.pc_file_spec.specs.Known.{known_of}
 use Rattle.pc_file_spec.specs.Signatures.{param_of}
 use Rattle.pc_file_spec.specs.Parts.{Parts}
 use Rattle.pc_file_spec.specs.Cores.{core_with, entity_of}
-use Rattle.pc_file_spec.proofs.Tables.{equal_texts, text_found}
+use Rattle.pc_file_spec.proofs.Tables.{text_found}
 use Rattle.pc_file_spec.proofs.Owners.{starts, own_member}
 use Rattle.pc_file_spec.proofs.Types.{env_type}
 use Rattle.pc_file_spec.proofs.Parts.{At}
@@ -87,8 +89,9 @@ new_is word.New h = refl
 new_is word.Fun h = absurd (true_false (sym h))
 new_is word.Be h = absurd (true_false (sym h))
 
-own_methods : (all : List t.Entity) (e : t.Entity) → e.kind ≡ kind.Actor → methods_of all e ≡ e.methods
-own_methods all e h = ap (λ k. if is_abstract k then trait_methods (length all) all e else e.methods) h
+-- The members of an actor begin with its own methods.
+actor_members : (all : List t.Entity) (e : t.Entity) → e.kind ≡ kind.Actor → members all e ≡ concrete_members all e
+actor_members all e h = ap (λ k. if is_abstract k then abstract_members all e else concrete_members all e) h
 
 pub has_main : (file : t.File) (above : List (List ℕ)) (q : Parts) → Setting file above q → HasMain (core_with file above q)
 has_main file above q s =
@@ -108,7 +111,7 @@ has_main file above q s =
     let p : ParamDef = param.0 in
     let ty = and_parts (bytes_eq p.ty.name.text (codes "Env")) (is_val p.ty.cap) param.2 in
     let env = env_type file p.ty (equal_texts p.ty.name.text (codes "Env") ty.0) in
-    let member : slice_get (members es e) j ≡ Some (written x) = get_front (map written (methods_of es e)) (added_if _) j (written x) (get_map written (methods_of es e) j x (ap (λ ms. slice_get ms j) (own_methods es e actor) ∙ any.2)) in
+    let member : slice_get (members es e) j ≡ Some (written x) = ap (λ ms. slice_get ms j) (actor_members es e actor) ∙ get_front (map written e.methods) _ j (written x) (get_map written e.methods j x any.2) in
     let o : Owned = owned (first_own + i) e (written x) in
     let place : slice_get (all_members file) (starts es es i + j) ≡ Some o = own_member es es first_own i j e (written x) main.2 member in
     let a : At file q (1 + (starts es es i + j)) o = s.parts.at (starts es es i + j) o place in

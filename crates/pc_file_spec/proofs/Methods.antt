@@ -16,16 +16,16 @@ use Rattle.pc_core.specs.Entities.{print_method}
 use Rattle.pc_core.specs.Lookup.{own_slots}
 use Rattle.pc_core.specs.Methods.{MethodFits, SlotsFit, LocalFits, BodyFits}
 use Rattle.pc_lists.specs.Places.{Each, Has}
-use Rattle.pc_names.specs.Chains.{first_own}
-use Rattle.pc_body_spec.specs.Roses.{Rose}
+use Rattle.pc_members.specs.Chains.{first_own}
 use Rattle.pc_body_spec.specs.Slots.{local_slot}
-use Rattle.pc_file_spec.specs.Members.{Owned, members}
+use Rattle.pc_members.specs.Members.{members}
+use Rattle.pc_file_spec.specs.Members.{Owned}
 use Rattle.pc_file_spec.specs.Known.{known_of}
 use Rattle.pc_file_spec.specs.Signatures.{context_of, slots_from, locals_of}
 use Rattle.pc_file_spec.specs.Parts.{Parts}
 use Rattle.pc_file_spec.specs.Cores.{core_with, entity_of}
 use Rattle.pc_file_spec.proofs.Tables.{text_below, language_kept}
-use Rattle.pc_file_spec.proofs.Steps.{member_rose, member_names, slots_count}
+use Rattle.pc_file_spec.proofs.Steps.{member_names, slots_count}
 use Rattle.pc_file_spec.proofs.Owners.{starts, Owner, owner_of}
 use Rattle.pc_file_spec.proofs.Origins.{Sort, sort_of}
 use Rattle.pc_file_spec.proofs.Types.{all_count}
@@ -68,8 +68,8 @@ module _ (file : t.File) (above : List (List ℕ)) (q : Parts) (s : Setting file
     pub owner_below : o.number < first_own + length file.entities
     owner_below = let low = get_below file.entities owner.entity o.owner owner.is_owner in let e = owner.number in omega (arith, low, e)
 
-    pub ordered : (r : Rose) → member_rose (context_of file o) o.owner o.member ≡ Some r → MemberOrder o.owner o.member
-    ordered r is = member_order file (context_of file o) o.owner o.member r s.ordered s.placed is_entity sort is
+    pub ordered : MemberOrder o.owner o.member
+    ordered = member_order file o.owner o.member s.ordered s.placed is_entity sort
 
     own_slots_are : own_slots core this_method ≡ new_slots
     own_slots_are =
@@ -88,7 +88,7 @@ module _ (file : t.File) (above : List (List ℕ)) (q : Parts) (s : Setting file
               let all = all_count file in
               let total = entities_length file above q in
               let size : length (context_of file o).entities ≤ length core.entities = omega (arith, all, total) in
-              let fits : LocalFits core number (1 + param_count o.member + i) (local_slot (context_of file o) number r.0) = local_fits file above q m o a b i r.0 (ordered y.3.rose y.3.is_rose) a.made.no_fault size r.1 in
+              let fits : LocalFits core number (1 + param_count o.member + i) (local_slot (context_of file o) number r.0) = local_fits file above q m o a b i r.0 ordered a.made.no_fault size r.1 in
               let count : param_count o.member ≡ length this_method.params = sym (params_count (context_of file o) o.member) in
               subst (λ k. LocalFits core number (1 + k + i) x) count (subst (λ z. LocalFits core number (1 + param_count o.member + i) z) r.2 fits)
         ]

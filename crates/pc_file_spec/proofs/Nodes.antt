@@ -18,14 +18,15 @@ use Rattle.pc_core.specs.CoreData.{CoreData}
 use Rattle.pc_core.specs.Methods.{constructor_kind, word_kind, Uses, is_local, param_slot}
 use Rattle.pc_core.specs.Nodes.{NodeFits, NamesFit, NamesPrimitive, NamesMethod, NamesSlot, NamesLocal}
 use Rattle.pc_lists.specs.Places.{Each, Has}
-use Rattle.pc_names.specs.Words.{is_new}
-use Rattle.pc_names.specs.Chains.{first_own}
+use Rattle.pc_members.specs.Words.{is_new}
+use Rattle.pc_members.specs.Chains.{first_own}
 use Rattle.pc_lists.proofs.Bools.{true_false}
 use Rattle.pc_body_spec.specs.Scopes.{Context, Known, Constructor}
 use Rattle.pc_body_spec.specs.Slots.{Local, local_slot, local_kind}
 use Rattle.pc_body_spec.specs.Meanings.{Names, IsOfKind, IsConstructor}
 use Rattle.pc_body_spec.specs.Laws.{HasChildren}
-use Rattle.pc_file_spec.specs.Members.{Member, written, added, members, is_constructor, Owned, owned}
+use Rattle.pc_members.specs.Members.{Member, written, added, members, is_constructor}
+use Rattle.pc_file_spec.specs.Members.{Owned, owned}
 use Rattle.pc_file_spec.specs.Known.{known_of, known_from, built_in_known}
 use Rattle.pc_file_spec.specs.Signatures.{context_of, slots_from, own_this, params_of, locals_of, kind_of}
 use Rattle.pc_file_spec.specs.Parts.{Parts}
@@ -145,7 +146,7 @@ module _ (file : t.File) (above : List (List ℕ)) (q : Parts) (s : Setting file
         omega (arith, all, names, params)
 
     within : (i : ℕ) (y : Node) (k : ℕ) → length a.before.nodes ≤ i → slice_get b.after i ≡ Some y → y.kind ≡ node.Define k → (1 + param_count o.member ≤ k) × (k < 1 + param_count o.member + local_count)
-    within i y k low h d = defined_within (context_of file o) o.owner o.member b.built.rose number b.last a.before.nodes b.after refl (ordered file above q s place o is m a b.built.rose b.built.is_rose) a.made.no_fault b.built.is_rose b.built.put_is i y k low h d
+    within i y k low h d = defined_within (context_of file o) o.owner o.member b.built.rose number b.last a.before.nodes b.after refl (ordered file above q s place o is m a) a.made.no_fault b.built.is_rose b.built.put_is i y k low h d
 
     slot_there : (i : ℕ) (y : Node) (k : ℕ) → length a.before.nodes ≤ i → slice_get b.after i ≡ Some y → Uses k y.kind → NamesSlot core number k
     slot_there i y k low h u = elim ((used file above q m o a b i y low h).0 k u) [

@@ -1,29 +1,28 @@
 -- Where the members of an entity come from.
-use Rattle.std.proofs.Common.{◌≡◌, ℕ, zero, suc, ◌+◌, List, [], ◌∷◌, ◌++◌, length, map, Option, Some, None, Bool, true, false, refl, sym, ap, ◌∙◌, subst, arith, if◌then◌else◌, inl, inr, append-nil}
-use Rattle.std.specs.Prelude.{slice_get, ◌⊎◌, codes}
-use Rattle.std.specs.Str.{bytes_eq}
+use Rattle.std.proofs.Common.{◌≡◌, ℕ, zero, suc, ◌&&◌, List, [], ◌∷◌, ◌++◌, length, map, Option, Some, None, Bool, true, false, not, refl, sym, ap, ◌∙◌, subst, if◌then◌else◌, inl, inr, append-nil}
+use Rattle.std.specs.Prelude.{◌⊎◌, codes}
+use Rattle.std.proofs.lemmas.Bool.{not-true}
 use Rattle.std.proofs.lemmas.Option.{same_Some, none-some}
 use Rattle.std.proofs.lemmas.List.{append_assoc, map-append}
 use Rattle.pc_tree.specs.declared.kinds.EntityKind.{EntityKind}
 use Rattle.pc_tree.specs.declared.kinds.EntityKind.TheVariants as kind
 use Rattle.pc_tree.specs.declared.names.Name.{Name}
-use Rattle.pc_tree.specs.declared.kinds.MethodWord.{MethodWord}
 use Rattle.pc_tree.specs.declared.kinds.MethodWord.TheVariants as word
 use Rattle.pc_tree.specs.Kinds.{is_abstract, may_stand, FieldsIf, MayHaveFields}
 use Rattle.pc_tree.specs.Tree as t
-use Rattle.pc_tree.proofs.KindFacts.{created, no_fields, same_methods}
+use Rattle.pc_tree.proofs.KindFacts.{created, no_fields}
 use Rattle.pc_lists.specs.Places.{Has, Differ}
-use Rattle.pc_lists.proofs.Gets.{get_append, get_map, map_get}
-use Rattle.pc_names.specs.Words.{Text, is_among, built_in_names, texts_of, entity_names, has_added, has_constructor}
-use Rattle.pc_names.specs.Tables.{with_name, with_traits, trait_names}
-use Rattle.pc_names.specs.Faults.{field_texts, method_texts}
-use Rattle.pc_names.proofs.Differences.{differ_push}
-use Rattle.pc_lists.proofs.Bools.{true_false}
-use Rattle.pc_file_spec.specs.Members.{Member, written, added, firsts, entity_named, of_entity, of_each, trait_methods, methods_of, added_if, members, member_text}
+use Rattle.pc_lists.proofs.Gets.{map_get}
+use Rattle.pc_members.specs.Words.{Text, is_among, has_added, has_constructor}
+use Rattle.pc_members.specs.Words.{field_texts, method_texts}
+use Rattle.pc_members.proofs.Differences.{differ_push}
+use Rattle.pc_members.proofs.Named.{named_is, one_entity, is_trait_named}
+use Rattle.pc_lists.proofs.Bools.{true_false, first_true, second_true}
+use Rattle.pc_members.specs.Members.{Member, written, added, firsts, entity_named, of_entity, of_each, trait_methods, abstract_methods, without_body, added_text, own_texts, is_takable, taken, taken_over, added_if, abstract_members, concrete_members, members, member_text}
 use Rattle.pc_file_spec.specs.Order.{InPlace}
-use Rattle.pc_file_spec.proofs.Tables.{equal_texts}
 use Rattle.pc_lists.proofs.Elements.{has_on, has_either, differ_none}
-use Rattle.pc_file_spec.proofs.Collects.{Adds, adds_differ, Collects}
+use Rattle.pc_names.proofs.Founded.{Adds, adds_differ}
+use Rattle.pc_file_spec.proofs.Collects.{Collects}
 
 -- ---- the first of each name
 
@@ -47,51 +46,7 @@ firsts_add known (m ∷ ms) = by (λ k. firsts_add k ms) (is_among m.name.text k
     by rest true e = rest known
     by rest false e = (e, rest (known ++ m.name.text ∷ []))
 
--- ---- entities by their names
-
-pub named_is : (es : List t.Entity) (name : Text) (f : t.Entity) → entity_named es name ≡ Some f → Has es f × (f.name.text ≡ name)
-named_is [] name f h = absurd (none-some f h)
-named_is (e ∷ es) name f h = by (λ g. named_is es name f g) (bytes_eq e.name.text name) refl h
-  where
-    by : (entity_named es name ≡ Some f → Has es f × (f.name.text ≡ name)) → (b : Bool) → bytes_eq e.name.text name ≡ b → (if b then Some e else entity_named es name) ≡ Some f → Has (e ∷ es) f × (f.name.text ≡ name)
-    by rest true d g = ((0, g), ap (λ (x : t.Entity). x.name.text) (sym (same_Some e f g)) ∙ equal_texts e.name.text name d)
-    by rest false d g = let r = rest g in (has_on e es f r.0, r.1)
-
--- Entities of one name are one.
-pub one_entity : (file : t.File) (f g : t.Entity) → Differ (entity_names file) → Has file.entities f → Has file.entities g → f.name.text ≡ g.name.text → f ≡ g
-one_entity file f g d hf hg e =
-    let at : (i : ℕ) (x : t.Entity) → slice_get file.entities i ≡ Some x → slice_get (entity_names file) (length built_in_names + i) ≡ Some x.name.text = λ i x h. get_append built_in_names (texts_of file.entities) i ∙ get_map (λ (y : t.Entity). y.name.text) file.entities i x h in
-    let there : slice_get (entity_names file) (length built_in_names + hg.0) ≡ Some f.name.text = at hg.0 g hg.1 ∙ ap (λ x. Some x) (sym e) in
-    let same : length built_in_names + hf.0 ≡ length built_in_names + hg.0 = d (length built_in_names + hf.0) (length built_in_names + hg.0) f.name.text (at hf.0 f hf.1) there in
-    let place : hf.0 ≡ hg.0 = omega (arith, same) in
-    same_Some f g (sym hf.1 ∙ ap (slice_get file.entities) place ∙ hg.1)
-
--- The name of a trait is that of a trait.
-name_of_trait : (names : List Text) (x y : Text) → Has (with_name names x) y → Has names y ⊎ (x ≡ y)
-name_of_trait names x y h = by (is_among x names) h
-  where
-    single : (h : Has (x ∷ []) y) → x ≡ y
-    single (zero, g) = same_Some x y g
-    single (suc i, g) = absurd (none-some y g)
-
-    by : (b : Bool) → Has (if b then names else names ++ x ∷ []) y → Has names y ⊎ (x ≡ y)
-    by true g = inl g
-    by false g = elim (has_either names (x ∷ []) y g) [ inl a ↦ inl a | inr b ↦ inr (single b) ]
-
-abbrev TraitNamed : List t.Entity → Text → Type 0
-TraitNamed es x = (f : t.Entity) × Has es f × (is_abstract f.kind ≡ true) × (f.name.text ≡ x)
-
-trait_named : (known : List Text) (es : List t.Entity) (x : Text) → Has (with_traits known es) x → Has known x ⊎ TraitNamed es x
-trait_named known [] x h = inl h
-trait_named known (e ∷ es) x h = by (is_abstract e.kind) refl (trait_named (if is_abstract e.kind then with_name known e.name.text else known) es x h)
-  where
-    by : (b : Bool) → is_abstract e.kind ≡ b → Has (if b then with_name known e.name.text else known) x ⊎ TraitNamed es x → Has known x ⊎ TraitNamed (e ∷ es) x
-    by b d (inr r) = inr (r.0, has_on e es r.0 r.1, r.2, r.3)
-    by true d (inl g) = elim (name_of_trait known e.name.text x g) [ inl a ↦ inl a | inr s ↦ inr (e, (0, refl), d, s) ]
-    by false d (inl g) = inl g
-
-pub is_trait_named : (es : List t.Entity) (x : Text) → Has (trait_names es) x → TraitNamed es x
-is_trait_named es x h = elim (trait_named [] es x h) [ inl a ↦ absurd (none-some x a.1) | inr b ↦ b ]
+-- ---- traits
 
 -- What an `is` list names is a trait of the file.
 pub provided_trait : (file : t.File) (above : List (List ℕ)) (e f : t.Entity) (n : Name) → Collects file above → Has file.entities e → Has e.provides n → Has file.entities f → f.name.text ≡ n.text → is_abstract f.kind ≡ true
@@ -127,64 +82,130 @@ written_in file above c (suc k) e x he is h = elim (has_either e.methods (of_eac
       written_in file above c k r.1 x s.0 (provided_trait file above e r.1 r.0 c he r.2 s.0 s.1) r.4
 ]
 
+-- ---- the methods that are taken over
+
+pub taken_has : (k : EntityKind) (known : List Text) (ms : List t.Method) (x : t.Method) → Has (taken k known ms) x → Has ms x × (is_takable k x ≡ true)
+taken_has k known [] x h = absurd (none-some x h.1)
+taken_has k known (m ∷ ms) x h = by (λ l g. taken_has k l ms x g) (is_takable k m && not (is_among m.name.text known)) refl h
+  where
+    first : (rest : List t.Method) → is_takable k m ≡ true → (Has rest x → Has ms x × (is_takable k x ≡ true)) → Has (m ∷ rest) x → Has (m ∷ ms) x × (is_takable k x ≡ true)
+    first rest e f (zero, g) = ((0, g), subst (λ y. is_takable k y ≡ true) (same_Some m x g) e)
+    first rest e f (suc i, g) = let r = f (i, g) in (has_on m ms x r.0, r.1)
+
+    by : ((l : List Text) → Has (taken k l ms) x → Has ms x × (is_takable k x ≡ true)) → (b : Bool) → (is_takable k m && not (is_among m.name.text known)) ≡ b
+        → Has (if b then m ∷ taken k (known ++ m.name.text ∷ []) ms else taken k known ms) x → Has (m ∷ ms) x × (is_takable k x ≡ true)
+    by rest true e g = first (taken k (known ++ m.name.text ∷ []) ms) (first_true (is_takable k m) (not (is_among m.name.text known)) e) (rest (known ++ m.name.text ∷ [])) g
+    by rest false e g = let r = rest known g in (has_on m ms x r.0, r.1)
+
+pub taken_add : (k : EntityKind) (known : List Text) (ms : List t.Method) → Adds known (method_texts (taken k known ms))
+taken_add k known [] = tt
+taken_add k known (m ∷ ms) = by (λ l. taken_add k l ms) (is_takable k m && not (is_among m.name.text known)) refl
+  where
+    by : ((l : List Text) → Adds l (method_texts (taken k l ms))) → (b : Bool) → (is_takable k m && not (is_among m.name.text known)) ≡ b → Adds known (method_texts (if b then m ∷ taken k (known ++ m.name.text ∷ []) ms else taken k known ms))
+    by rest true e = (not-true (is_among m.name.text known) (second_true (is_takable k m) (not (is_among m.name.text known)) e), rest (known ++ m.name.text ∷ []))
+    by rest false e = rest known
+
+-- A method that is taken over is written in a trait.
+taken_from : (file : t.File) (above : List (List ℕ)) (e : t.Entity) (x : t.Method) → Collects file above → Has file.entities e → Has (taken_over file.entities e) x
+    → (f : t.Entity) × Has file.entities f × Has f.methods x × (is_abstract f.kind ≡ true) × (is_takable e.kind x ≡ true)
+taken_from file above e x c he h =
+    let named = taken_has e.kind (own_texts e) (of_each (abstract_methods file.entities) file.entities e.provides) x h in
+    let r = each_has (abstract_methods file.entities) file.entities e.provides x named.0 in
+    let s = named_is file.entities r.0.text r.1 r.3 in
+    let w = written_in file above c (length file.entities) r.1 x s.0 (provided_trait file above e r.1 r.0 c he r.2 s.0 s.1) r.4 in
+    (w.0, w.1, w.2, w.3, named.1)
+
 -- ---- the methods of entities
 
--- The entity in which a method is written: it holds the same methods, and is itself where it is no trait or interface.
+-- A method x of an entity comes from a source in another or in itself: a trait has it without its body, and another entity has
+-- its own methods and those that it takes over from traits.
+pub data Comes (e origin : t.Entity) (source x : t.Method) : Type 0 where
+  as_declared : is_abstract e.kind ≡ true → is_abstract origin.kind ≡ true → without_body source ≡ x → Comes e origin source x
+  as_own : is_abstract e.kind ≡ false → origin ≡ e → source ≡ x → Comes e origin source x
+  as_taken : is_abstract e.kind ≡ false → is_abstract origin.kind ≡ true → is_takable e.kind x ≡ true → source ≡ x → Comes e origin source x
+
+-- Where a method of an entity is written. Nothing but its body may differ there.
 pub record Origin (file : t.File) (e : t.Entity) (x : t.Method) : Type 0 where
   pub origin : t.Entity
   pub is_entity : Has file.entities origin
-  pub is_method : Has origin.methods x
-  pub abstract : is_abstract origin.kind ≡ is_abstract e.kind
-  pub holds : (w : MethodWord) → may_stand origin.kind w ≡ may_stand e.kind w
-  pub own : is_abstract e.kind ≡ false → origin ≡ e
-
-pub origin_of : (file : t.File) (above : List (List ℕ)) (e : t.Entity) (x : t.Method) → Collects file above → Has file.entities e → Has (methods_of file.entities e) x → Origin file e x
-origin_of file above e x c he h = by (is_abstract e.kind) refl h
-  where
-    by : (b : Bool) → is_abstract e.kind ≡ b → Has (if b then trait_methods (length file.entities) file.entities e else e.methods) x → Origin file e x
-    by true d g =
-        let r = written_in file above c (length file.entities) e x he d g in
-        record { origin = r.0; is_entity = r.1; is_method = r.2; abstract = r.3 ∙ sym d; holds = λ w. same_methods r.0.kind e.kind w r.3 d; own = λ f. absurd (true_false (sym d ∙ f)) }
-    by false d g = record { origin = e; is_entity = he; is_method = g; abstract = refl; holds = λ w. refl; own = λ f. refl }
+  pub source : t.Method
+  pub is_method : Has origin.methods source
+  pub same : without_body source ≡ without_body x
+  pub comes : Comes e origin source x
 
 -- A member is written, or added.
 abbrev pub Sort : t.File → t.Entity → Member → Type 0
 Sort file e (written x) = Origin file e x
 Sort file e added = has_added e ≡ true
 
-pub sort_of : (file : t.File) (above : List (List ℕ)) (e : t.Entity) (m : Member) → Collects file above → Has file.entities e → Has (members file.entities e) m → Sort file e m
-sort_of file above e m c he h = elim (has_either (map written (methods_of file.entities e)) (added_if (has_added e)) m h) [
-  | inl a ↦ let r = map_get written (methods_of file.entities e) a.0 m a.1 in subst (λ y. Sort file e y) r.2 (origin_of file above e r.0 c he (a.0, r.1))
-  | inr b ↦ last (has_added e) refl m b
+abstract_sort : (file : t.File) (above : List (List ℕ)) (e : t.Entity) (m : Member) → Collects file above → Has file.entities e → is_abstract e.kind ≡ true → Has (abstract_members file.entities e) m → Sort file e m
+abstract_sort file above e m c he d h =
+    let r = map_get (λ (y : t.Method). written (without_body y)) (abstract_methods file.entities e) h.0 m h.1 in
+    let w = written_in file above c (length file.entities) e r.0 he d (h.0, r.1) in
+    let o : Origin file e (without_body r.0) = record { origin = w.0; is_entity = w.1; source = r.0; is_method = w.2; same = refl; comes = as_declared d w.3 refl } in
+    subst (λ y. Sort file e y) r.2 o
+
+added_sort : (file : t.File) (e : t.Entity) (b : Bool) → has_added e ≡ b → (m : Member) → Has (added_if b) m → Sort file e m
+added_sort file e true d m (zero, g) = subst (λ y. Sort file e y) (same_Some added m g) d
+added_sort file e true d m (suc i, g) = absurd (none-some m g)
+added_sort file e false d m g = absurd (none-some m g.1)
+
+concrete_sort : (file : t.File) (above : List (List ℕ)) (e : t.Entity) (m : Member) → Collects file above → Has file.entities e → is_abstract e.kind ≡ false → Has (concrete_members file.entities e) m → Sort file e m
+concrete_sort file above e m c he d h = elim (has_either (map written e.methods) (added_if (has_added e) ++ map written (taken_over file.entities e)) m h) [
+  | inl a ↦
+      let r = map_get written e.methods a.0 m a.1 in
+      let o : Origin file e r.0 = record { origin = e; is_entity = he; source = r.0; is_method = (a.0, r.1); same = refl; comes = as_own d refl refl } in
+      subst (λ y. Sort file e y) r.2 o
+  | inr b ↦ elim (has_either (added_if (has_added e)) (map written (taken_over file.entities e)) m b) [
+    | inl a ↦ added_sort file e (has_added e) refl m a
+    | inr k ↦
+        let r = map_get written (taken_over file.entities e) k.0 m k.1 in
+        let w = taken_from file above e r.0 c he (k.0, r.1) in
+        let o : Origin file e r.0 = record { origin = w.0; is_entity = w.1; source = r.0; is_method = w.2; same = refl; comes = as_taken d w.3 w.4 refl } in
+        subst (λ y. Sort file e y) r.2 o
+  ]
 ]
+
+pub sort_of : (file : t.File) (above : List (List ℕ)) (e : t.Entity) (m : Member) → Collects file above → Has file.entities e → Has (members file.entities e) m → Sort file e m
+sort_of file above e m c he h = by (is_abstract e.kind) refl h
   where
-    last : (b : Bool) → has_added e ≡ b → (m : Member) → Has (added_if b) m → Sort file e m
-    last true d m (zero, g) = subst (λ y. Sort file e y) (same_Some added m g) d
-    last true d m (suc i, g) = absurd (none-some m g)
-    last false d m g = absurd (none-some m g.1)
+    by : (b : Bool) → is_abstract e.kind ≡ b → Has (if b then abstract_members file.entities e else concrete_members file.entities e) m → Sort file e m
+    by true d g = abstract_sort file above e m c he d g
+    by false d g = concrete_sort file above e m c he d g
 
 -- ---- their names
 
-pub texts_written : (ms : List t.Method) → map member_text (map written ms) ≡ method_texts ms
+texts_written : (ms : List t.Method) → map member_text (map written ms) ≡ method_texts ms
 texts_written [] = refl
 texts_written (m ∷ ms) = ap (λ xs. m.name.text ∷ xs) (texts_written ms)
 
-fieldless : (k : EntityKind) (fs : List t.Field) → is_abstract k ≡ true → MayHaveFields k fs → fs ≡ []
+texts_declared : (ms : List t.Method) → map member_text (map (λ (m : t.Method). written (without_body m)) ms) ≡ method_texts ms
+texts_declared [] = refl
+texts_declared (m ∷ ms) = ap (λ xs. m.name.text ∷ xs) (texts_declared ms)
+
+texts_added : (b : Bool) → map member_text (added_if b) ≡ added_text b
+texts_added true = refl
+texts_added false = refl
+
+-- The names of a trait's members are those of its methods.
+pub abstract_texts : (all : List t.Entity) (e : t.Entity) → is_abstract e.kind ≡ true → map member_text (members all e) ≡ method_texts (abstract_methods all e)
+abstract_texts all e d = ap (λ b. map member_text (if b then abstract_members all e else concrete_members all e)) d ∙ texts_declared (abstract_methods all e)
+
+-- Those of another entity's members are its own, and those of the methods that it takes over.
+pub concrete_texts : (all : List t.Entity) (e : t.Entity) → is_abstract e.kind ≡ false → map member_text (members all e) ≡ (method_texts e.methods ++ added_text (has_added e)) ++ method_texts (taken_over all e)
+concrete_texts all e d =
+    let over = taken_over all e in
+    let behind : map member_text (added_if (has_added e) ++ map written over) ≡ added_text (has_added e) ++ method_texts over =
+    map-append member_text (added_if (has_added e)) (map written over) ∙ ap (λ xs. xs ++ map member_text (map written over)) (texts_added (has_added e)) ∙ ap (λ xs. added_text (has_added e) ++ xs) (texts_written over) in
+    ap (λ b. map member_text (if b then abstract_members all e else concrete_members all e)) d
+    ∙ map-append member_text (map written e.methods) (added_if (has_added e) ++ map written over)
+    ∙ ap (λ xs. xs ++ map member_text (added_if (has_added e) ++ map written over)) (texts_written e.methods)
+    ∙ ap (λ xs. method_texts e.methods ++ xs) behind
+    ∙ sym (append_assoc (method_texts e.methods) (added_text (has_added e)) (method_texts over))
+
+-- Traits have no fields.
+pub fieldless : (k : EntityKind) (fs : List t.Field) → is_abstract k ≡ true → MayHaveFields k fs → fs ≡ []
 fieldless k fs h m = subst (λ b. FieldsIf b fs) (no_fields k h) m
-
-methods_differ : (file : t.File) (above : List (List ℕ)) (e : t.Entity) → Collects file above → InPlace file → Has file.entities e → Differ (field_texts e.fields ++ method_texts (methods_of file.entities e))
-methods_differ file above e c p he = by (is_abstract e.kind) refl
-  where
-    by : (b : Bool) → is_abstract e.kind ≡ b → Differ (field_texts e.fields ++ method_texts (if b then trait_methods (length file.entities) file.entities e else e.methods))
-    by false d = (c.sound e he).differ
-    by true d = subst (λ fs. Differ (field_texts fs ++ method_texts (trait_methods (length file.entities) file.entities e))) (sym (fieldless e.kind e.fields d (p e he).0)) (of_trait (length file.entities))
-      where
-        of_trait : (k : ℕ) → Differ (method_texts (trait_methods k file.entities e))
-        of_trait zero = differ_none
-        of_trait (suc k) = adds_differ [] (method_texts (firsts [] (e.methods ++ of_each (trait_methods k file.entities) file.entities e.provides))) differ_none (firsts_add [] (e.methods ++ of_each (trait_methods k file.entities) file.entities e.provides))
-
-abbrev Spread : t.Entity → List t.Method → Bool → Type 0
-Spread e ms b = Differ (field_texts e.fields ++ map member_text (map written ms ++ added_if b))
 
 -- Where `create` is added there are no traits.
 pub added_kind : (e : t.Entity) → has_added e ≡ true → (e.kind ≡ kind.Class) ⊎ (e.kind ≡ kind.Actor)
@@ -194,32 +215,36 @@ added_kind e h = by (has_constructor e) h
     by true g = absurd (true_false (sym g))
     by false g = created e.kind g
 
-pub creator_is_none : (k : EntityKind) → (k ≡ kind.Class) ⊎ (k ≡ kind.Actor) → is_abstract k ≡ false
-creator_is_none k (inl e) = ap is_abstract e
-creator_is_none k (inr e) = ap is_abstract e
+trait_differ : (k : ℕ) (all : List t.Entity) (e : t.Entity) → Differ (method_texts (trait_methods k all e))
+trait_differ zero all e = differ_none
+trait_differ (suc k) all e = adds_differ [] (method_texts (firsts [] (e.methods ++ of_each (trait_methods k all) all e.provides))) differ_none (firsts_add [] (e.methods ++ of_each (trait_methods k all) all e.provides))
 
-added_methods : (file : t.File) (e : t.Entity) → has_added e ≡ true → methods_of file.entities e ≡ e.methods
-added_methods file e h = by (is_abstract e.kind) refl
+-- The names that an entity has itself differ,
+own_differ : (file : t.File) (above : List (List ℕ)) (e : t.Entity) → Collects file above → Has file.entities e → Differ (own_texts e)
+own_differ file above e c he = by (has_added e) refl
   where
-    by : (b : Bool) → is_abstract e.kind ≡ b → (if b then trait_methods (length file.entities) file.entities e else e.methods) ≡ e.methods
-    by false d = refl
-    by true d = absurd (true_false (sym d ∙ creator_is_none e.kind (added_kind e h)))
+    fields : List Text
+    fields = field_texts e.fields
 
+    own : List Text
+    own = method_texts e.methods
+
+    by : (b : Bool) → has_added e ≡ b → Differ (fields ++ (own ++ added_text b))
+    by false d = subst (λ xs. Differ (fields ++ xs)) (sym (append-nil own)) (c.sound e he).differ
+    by true d = subst (λ xs. Differ xs) (append_assoc fields own (codes "create" ∷ [])) (differ_push (codes "create") (fields ++ own) (c.sound e he).differ ((c.sound e he).added d))
+
+-- and so do those of its fields and members.
 pub members_differ : (file : t.File) (above : List (List ℕ)) (e : t.Entity) → Collects file above → InPlace file → Has file.entities e → Differ (field_texts e.fields ++ map member_text (members file.entities e))
-members_differ file above e c p he = by (has_added e) refl
+members_differ file above e c p he = by (is_abstract e.kind) refl
   where
-    ms : List t.Method
-    ms = methods_of file.entities e
+    all : List t.Entity
+    all = file.entities
 
-    differ : Differ (field_texts e.fields ++ method_texts ms)
-    differ = methods_differ file above e c p he
-
-    by : (b : Bool) → has_added e ≡ b → Spread e ms b
-    by false d = subst (λ xs. Differ (field_texts e.fields ++ xs)) (sym (ap (map member_text) (append-nil (map written ms)) ∙ texts_written ms)) differ
-    by true d =
+    by : (b : Bool) → is_abstract e.kind ≡ b → Differ (field_texts e.fields ++ map member_text (members all e))
+    by true d = subst (λ fs. Differ (field_texts fs ++ map member_text (members all e))) (sym (fieldless e.kind e.fields d (p e he).0)) (subst (λ xs. Differ xs) (sym (abstract_texts all e d)) (trait_differ (length all) all e))
+    by false d =
         let fields = field_texts e.fields in
-        let create : List Text = codes "create" ∷ [] in
-        let own : methods_of file.entities e ≡ e.methods = added_methods file e d in
-        let fresh : is_among (codes "create") (fields ++ method_texts ms) ≡ false = subst (λ xs. is_among (codes "create") (fields ++ method_texts xs) ≡ false) (sym own) ((c.sound e he).added d) in
-        let texts : map member_text (map written ms ++ added ∷ []) ≡ method_texts ms ++ create = map-append member_text (map written ms) (added ∷ []) ∙ ap (λ xs. xs ++ create) (texts_written ms) in
-        subst (λ xs. Differ xs) (append_assoc fields (method_texts ms) create ∙ ap (λ xs. fields ++ xs) (sym texts)) (differ_push (codes "create") (fields ++ method_texts ms) differ fresh)
+        let own = method_texts e.methods ++ added_text (has_added e) in
+        let over = method_texts (taken_over all e) in
+        let spread : Differ (own_texts e ++ over) = adds_differ (own_texts e) over (own_differ file above e c he) (taken_add e.kind (own_texts e) (of_each (abstract_methods all) all e.provides)) in
+        subst (λ xs. Differ xs) (append_assoc fields own over ∙ ap (λ xs. fields ++ xs) (sym (concrete_texts all e d))) spread

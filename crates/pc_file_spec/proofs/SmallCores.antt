@@ -7,11 +7,11 @@ use Rattle.pc_tree.specs.Kinds.{may_stand, MayHaveFields, HasBody}
 use Rattle.pc_tree.specs.Tree as t
 use Rattle.pc_core.specs.CoreData.{CoreData}
 use Rattle.pc_lists.specs.Places.{Has, Ascends}
-use Rattle.pc_names.specs.Words.{entity_names}
-use Rattle.pc_names.specs.Reach.{above_all}
-use Rattle.pc_names.specs.Chains.{edges_of}
+use Rattle.pc_members.specs.Words.{entity_names}
+use Rattle.pc_members.specs.Reach.{above_all}
+use Rattle.pc_members.specs.Chains.{edges_of}
 use Rattle.pc_names.specs.Names.{Collected, name_faults}
-use Rattle.pc_names.proofs.Closings.{closes}
+use Rattle.pc_members.proofs.Closings.{closes}
 use Rattle.pc_lists.proofs.Bools.{true_false}
 use Rattle.pc_lists.proofs.Elements.{differ_none}
 use Rattle.pc_body_spec.specs.Roses.{push}
@@ -19,7 +19,7 @@ use Rattle.pc_body_spec.specs.Places.{body_places, initial_places}
 use Rattle.pc_file_spec.specs.Known.{texts_of}
 use Rattle.pc_file_spec.specs.Cores.{core_of, Stands}
 use Rattle.pc_file_spec.specs.Order.{InOrder, InPlace}
-use Rattle.pc_file_spec.specs.Example.{FirstStands, SecondStands, ThirdIsRefused, first_file, first_core, second_file, second_core, third_file, trait_a, trait_b, trait_t, trait_u, class_c, main, class_d, primitive_p, second_main}
+use Rattle.pc_file_spec.specs.Example.{FirstStands, SecondStands, ThirdIsRefused, first_file, first_core, second_file, second_core, third_file, trait_a, trait_b, trait_t, trait_u, class_c, main, class_d, primitive_p, second_main, FourthStands, fourth_file, fourth_core, trait_with_bodies, trait_above, class_with_field, fourth_main}
 use Rattle.pc_file_spec.proofs.Formation.{stands_is_formed}
 
 -- ---- properties of all elements
@@ -81,13 +81,20 @@ first_ordered = all_has Ordered first_file.entities
 
 first_placed : InPlace first_file
 first_placed = all_has Placed first_file.entities
-    (placed trait_a refl ((refl, refl), ((refl, refl), tt)), (placed trait_b refl ((refl, refl), ((refl, refl), tt)), (placed trait_t refl ((refl, refl), tt), (placed trait_u refl tt, (placed class_c tt tt, (placed main tt ((refl, tt), tt), tt))))))
+    (placed trait_a refl ((refl, tt), ((refl, tt), tt)), (placed trait_b refl ((refl, tt), ((refl, tt), tt)), (placed trait_t refl ((refl, tt), tt), (placed trait_u refl tt, (placed class_c tt tt, (placed main tt ((refl, tt), tt), tt))))))
 
 second_ordered : InOrder second_file
 second_ordered = all_has Ordered second_file.entities (ordered class_d refl (refl, (refl, (refl, tt))), (ordered primitive_p refl tt, (ordered second_main refl (refl, tt), tt)))
 
 second_placed : InPlace second_file
 second_placed = all_has Placed second_file.entities (placed class_d tt ((refl, tt), ((refl, tt), ((refl, tt), tt))), (placed primitive_p refl tt, (placed second_main tt ((refl, tt), tt), tt)))
+
+fourth_ordered : InOrder fourth_file
+fourth_ordered = all_has Ordered fourth_file.entities (ordered trait_with_bodies refl (refl, (refl, tt)), (ordered trait_above refl (refl, (refl, tt)), (ordered class_with_field refl (refl, tt), (ordered fourth_main refl (refl, tt), tt))))
+
+fourth_placed : InPlace fourth_file
+fourth_placed = all_has Placed fourth_file.entities
+    (placed trait_with_bodies refl ((refl, tt), ((refl, tt), tt)), (placed trait_above refl ((refl, tt), ((refl, tt), tt)), (placed class_with_field tt ((refl, tt), tt), (placed fourth_main tt ((refl, tt), tt), tt))))
 
 -- ---- cores that stand
 
@@ -117,3 +124,10 @@ second_stands =
 pub third_is_refused : ThirdIsRefused
 unfolding push
 third_is_refused = (record { entities = entity_names third_file; texts = []; above = above_of third_file }, collected third_file refl, refl)
+
+pub fourth_stands : FourthStands
+unfolding push
+fourth_stands =
+    let count : length (texts_of fourth_file) ≡ 8 = refl in
+    let s : Stands fourth_file fourth_core = stands fourth_file fourth_core refl refl (omega (arith, count)) in
+    (s, stands_is_formed fourth_file fourth_core fourth_ordered fourth_placed s)

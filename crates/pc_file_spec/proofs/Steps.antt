@@ -20,7 +20,8 @@ use Rattle.pc_body_spec.specs.Slots.{Local, initial_locals, method_locals, local
 use Rattle.pc_body_spec.specs.Methods.{Outcome, slot_names, local_names, param_names, unless_fault, unless_name, unless_full, numbered, put_body}
 use Rattle.pc_body_spec.specs.Laws.{BodyStands}
 use Rattle.pc_body_spec.proofs.Bodies.{bodies_stand, added_bodies_stand}
-use Rattle.pc_file_spec.specs.Members.{Member, written, added, Owned}
+use Rattle.pc_members.specs.Members.{Member, written, added}
+use Rattle.pc_file_spec.specs.Members.{Owned}
 use Rattle.pc_file_spec.specs.Signatures.{slots_from, params_of, param_of, locals_of}
 use Rattle.pc_file_spec.specs.Parts.{outcome}
 

@@ -1,40 +1,23 @@
 -- The texts of a file.
-use Rattle.std.proofs.Common.{◌≡◌, ℕ, zero, suc, ◌+◌, ◌<◌, ◌||◌, List, [], ◌∷◌, ◌++◌, length, Some, Bool, true, false, refl, sym, ap, ◌∙◌, subst, if◌then◌else◌, inl, inr, arith, ⊎_elim}
-use Rattle.std.specs.Prelude.{slice_get, ◌⊎◌, codes}
+use Rattle.std.proofs.Common.{◌≡◌, ℕ, zero, suc, ◌+◌, ◌<◌, List, [], ◌∷◌, ◌++◌, length, Some, Bool, true, false, refl, sym, ap, ◌∙◌, subst, if◌then◌else◌, inl, inr, arith, ⊎_elim}
+use Rattle.std.specs.Prelude.{slice_get, codes}
 use Rattle.std.specs.Str.{bytes_eq}
 use Rattle.std.proofs.lemmas.Option.{same_Some, none-some}
-use Rattle.std.proofs.lemmas.Slice.Eq.{bytes_eq-Decides}
 use Rattle.pc_lists.proofs.Gets.{get_front, get_behind, get_below}
 use Rattle.pc_lists.specs.Places.{Has, Differ}
 use Rattle.pc_tree.specs.Tree as t
-use Rattle.pc_names.specs.Words.{Text, is_among}
-use Rattle.pc_names.specs.Faults.{field_texts, method_texts}
+use Rattle.pc_members.specs.Words.{Text, is_among}
+use Rattle.pc_members.specs.Words.{field_texts, method_texts}
 use Rattle.pc_names.specs.Texts.{with_members}
-use Rattle.pc_names.specs.Tables.{with_name, with_names}
-use Rattle.pc_names.proofs.Differences.{names_differ, members_differ, among_at, same_text}
+use Rattle.pc_members.specs.Tables.{with_name, with_names}
+use Rattle.pc_members.proofs.Differences.{names_differ, same_text, equal_texts, among_has}
+use Rattle.pc_names.proofs.OtherTexts.{members_differ}
 use Rattle.pc_lists.proofs.Bools.{true_false}
-use Rattle.pc_lists.proofs.Elements.{differ_none, has_on, has_front, has_behind}
+use Rattle.pc_lists.proofs.Elements.{differ_none, has_front, has_behind}
 use Rattle.pc_body_spec.specs.Scopes.{text_from}
 use Rattle.pc_file_spec.specs.Texts.{entities_texts}
 use Rattle.pc_file_spec.specs.Known.{texts_of}
 use Rattle.pc_file_spec.specs.Laws.{IsNeeded, TextsAreThere}
-
--- ---- equal texts
-
-pub equal_texts : (x y : Text) → bytes_eq x y ≡ true → x ≡ y
-equal_texts x y h = (bytes_eq-Decides x y).0 h
-
--- A text that is among others is one of them.
-pub among_has : (x : Text) (xs : List Text) → is_among x xs ≡ true → Has xs x
-among_has x [] h = absurd (true_false (sym h))
-among_has x (y ∷ xs) h = by (λ g. among_has x xs g) (bytes_eq x y) refl h
-  where
-    by : (is_among x xs ≡ true → Has xs x) → (b : Bool) → bytes_eq x y ≡ b → (b || is_among x xs) ≡ true → Has (y ∷ xs) x
-    by rest true e g = (0, ap (λ z. Some z) (sym (equal_texts x y e)))
-    by rest false e g = has_on y xs x (rest g)
-
-pub has_among : (x : Text) (xs : List Text) → Has xs x → is_among x xs ≡ true
-has_among x xs h = among_at x xs h.0 h.1
 
 -- ---- tables
 

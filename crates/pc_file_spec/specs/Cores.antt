@@ -8,12 +8,12 @@ use Rattle.pc_core.specs.declared.declarations.FieldInfo.{FieldInfo}
 use Rattle.pc_core.specs.CoreData.{CoreData}
 use Rattle.pc_core.specs.Entities.{built_in, built_in_value, out_field}
 use Rattle.pc_names.specs.declared.fault.NameFault.{NameFault}
-use Rattle.pc_names.specs.Words.{Text, entity_names}
-use Rattle.pc_names.specs.Chains.{first_own, numbers_of}
-use Rattle.pc_names.specs.Reach.{or_nil}
+use Rattle.pc_members.specs.Words.{Text, entity_names}
+use Rattle.pc_members.specs.Chains.{first_own, numbers_of}
+use Rattle.pc_members.specs.Reach.{or_nil}
 use Rattle.pc_names.specs.Names.{NamesData, Collected}
 use Rattle.pc_body_spec.specs.Scopes.{Known, text_from}
-use Rattle.pc_file_spec.specs.Members.{members}
+use Rattle.pc_members.specs.Members.{members}
 use Rattle.pc_file_spec.specs.Known.{texts_of, known_of, default_cap}
 use Rattle.pc_file_spec.specs.Signatures.{type_in}
 use Rattle.pc_file_spec.specs.Parts.{Parts, if_ok, parts_of}

@@ -1,4 +1,4 @@
--- Two small files with their whole cores, and one with a fault, written out by hand.
+-- Three small files with their whole cores, and one with a fault, written out by hand.
 use Rattle.std.specs.Prelude.{ℕ, List, [], ◌∷◌, ◌++◌, true, false, Option, Some, None, codes}
 use Rattle.pc_caps.specs.declared.span.Span.{Span}
 use Rattle.pc_caps.specs.declared.capability.Cap.{Cap}
@@ -252,3 +252,104 @@ third_file = record { entities = class_d ∷ second_main ∷ [] }
 
 abbrev pub ThirdIsRefused : Type 0
 ThirdIsRefused = IsElabFault third_file (fault.Unknown (at 187 188))
+
+-- ---- Bodies in traits, each of which stands once in each class or actor that takes it over:
+--
+--     trait T
+--       fun a(): U64
+--       fun m(n: U64): U64 => a(); n
+--     trait U is T
+--       be b() => None
+--       fun a(): U64 => 3
+--     class C is T
+--       let n: U64 = 1
+--       fun a(): U64 => n
+--     actor Main is U
+--       new create(env: Env) => None
+
+abbrev pub trait_with_bodies : t.Entity
+trait_with_bodies = record { kind = kind.Trait; cap = None; name = (name (codes "T") (at 6 7)); provides = []; fields = []; methods = record { word = word.Fun; cap = None; name = (name (codes "a") (at 14 15)); params = []; result = Some (sort (codes "U64") (at 19 22)); body = None } ∷ record { word = word.Fun; cap = None; name = (name (codes "m") (at 29 30)); params = record { name = (name (codes "n") (at 31 32)); ty = (sort (codes "U64") (at 34 37)) } ∷ []; result = Some (sort (codes "U64") (at 40 43)); body = Some (t.seq (t.item (t.plain (t.chain (t.name (name (codes "a") (at 47 48))) (t.suffix (t.args t.no_exprs (at 48 50)) t.no_suffixes) (at 47 50))) (t.item (t.plain (t.name (name (codes "n") (at 52 53)))) t.no_items)) (at 47 53)) } ∷ [] }
+
+abbrev pub trait_above : t.Entity
+trait_above = record { kind = kind.Trait; cap = None; name = (name (codes "U") (at 60 61)); provides = (name (codes "T") (at 65 66)) ∷ []; fields = []; methods = record { word = word.Be; cap = None; name = (name (codes "b") (at 72 73)); params = []; result = None; body = Some (t.seq (t.item (t.plain (t.type_name (name (codes "None") (at 79 83)))) t.no_items) (at 79 83)) } ∷ record { word = word.Fun; cap = None; name = (name (codes "a") (at 90 91)); params = []; result = Some (sort (codes "U64") (at 95 98)); body = Some (t.seq (t.item (t.plain (t.number 3 (at 102 103))) t.no_items) (at 102 103)) } ∷ [] }
+
+abbrev pub class_with_field : t.Entity
+class_with_field = record { kind = kind.Class; cap = None; name = (name (codes "C") (at 110 111)); provides = (name (codes "T") (at 115 116)) ∷ []; fields = record { fixed = true; name = (name (codes "n") (at 123 124)); ty = (sort (codes "U64") (at 126 129)); value = Some (t.number 1 (at 132 133)) } ∷ []; methods = record { word = word.Fun; cap = None; name = (name (codes "a") (at 140 141)); params = []; result = Some (sort (codes "U64") (at 145 148)); body = Some (t.seq (t.item (t.plain (t.name (name (codes "n") (at 152 153)))) t.no_items) (at 152 153)) } ∷ [] }
+
+abbrev pub fourth_main : t.Entity
+fourth_main = record { kind = kind.Actor; cap = None; name = (name (codes "Main") (at 160 164)); provides = (name (codes "U") (at 168 169)) ∷ []; fields = []; methods = record { word = word.New; cap = None; name = (name (codes "create") (at 176 182)); params = record { name = (name (codes "env") (at 183 186)); ty = (sort (codes "Env") (at 188 191)) } ∷ []; result = None; body = Some (t.seq (t.item (t.plain (t.type_name (name (codes "None") (at 196 200)))) t.no_items) (at 196 200)) } ∷ [] }
+
+abbrev pub fourth_file : t.File
+fourth_file = record { entities = trait_with_bodies ∷ trait_above ∷ class_with_field ∷ fourth_main ∷ [] }
+
+-- C has `a` and an added `create`, and takes over `m`, in which `n` is the parameter and no field; Main takes over all three
+-- methods of U, of which `m` is that of T.
+abbrev pub fourth_core : CoreData
+fourth_core = record {
+  entities = language ++
+      (entity kind.Trait cap.Ref (codes "T") (at 6 7) [] [] [] 1 2
+      ∷ entity kind.Trait cap.Ref (codes "U") (at 60 61) (6 ∷ []) (6 ∷ []) [] 3 3
+      ∷ entity kind.Class cap.Ref (codes "C") (at 110 111) (6 ∷ []) (6 ∷ []) (record { name = 7; fixed = true; entity = 1; cap = cap.Val } ∷ []) 6 3
+      ∷ entity kind.Actor cap.Tag (codes "Main") (at 160 164) (7 ∷ []) (6 ∷ 7 ∷ []) [] 9 4 ∷ []);
+  methods =
+      print
+      ∷ method_of 6 4 method.Fun cap.Box [] (1, form.Val) 0 1 0 None (at 14 15)
+      ∷ method_of 6 5 method.Fun cap.Box (param 1 cap.Val (at 31 32) ∷ []) (1, form.Val) 1 2 0 None (at 29 30)
+      ∷ method_of 7 6 method.Be cap.Ref [] (0, form.Val) 3 1 0 None (at 72 73)
+      ∷ method_of 7 4 method.Fun cap.Box [] (1, form.Val) 4 1 0 None (at 90 91)
+      ∷ method_of 7 5 method.Fun cap.Box (param 1 cap.Val (at 31 32) ∷ []) (1, form.Val) 5 2 0 None (at 29 30)
+      ∷ method_of 8 4 method.Fun cap.Box [] (1, form.Val) 7 1 0 (Some 3) (at 140 141)
+      ∷ method_of 8 2 method.New cap.Ref [] (8, form.IsoE) 8 1 4 (Some 9) (at 110 111)
+      ∷ method_of 8 5 method.Fun cap.Box (param 1 cap.Val (at 31 32) ∷ []) (1, form.Val) 9 2 10 (Some 14) (at 29 30)
+      ∷ method_of 9 2 method.Spawn cap.Ref (param 4 cap.Val (at 183 186) ∷ []) (9, form.Tag) 11 2 15 (Some 17) (at 176 182)
+      ∷ method_of 9 6 method.Be cap.Ref [] (0, form.Val) 13 1 18 (Some 20) (at 72 73)
+      ∷ method_of 9 4 method.Fun cap.Box [] (1, form.Val) 14 1 21 (Some 23) (at 90 91)
+      ∷ method_of 9 5 method.Fun cap.Box (param 1 cap.Val (at 31 32) ∷ []) (1, form.Val) 15 2 24 (Some 28) (at 29 30) ∷ [];
+  slots =
+      slot_of 1 slot.This 6 cap.Box
+      ∷ slot_of 2 slot.This 6 cap.Box ∷ slot_of 2 slot.Param 1 cap.Val
+      ∷ slot_of 3 slot.This 7 cap.Ref
+      ∷ slot_of 4 slot.This 7 cap.Box
+      ∷ slot_of 5 slot.This 7 cap.Box ∷ slot_of 5 slot.Param 1 cap.Val
+      ∷ slot_of 6 slot.This 8 cap.Box
+      ∷ slot_of 7 slot.This 8 cap.Ref
+      ∷ slot_of 8 slot.This 8 cap.Box ∷ slot_of 8 slot.Param 1 cap.Val
+      ∷ slot_of 9 slot.This 9 cap.Ref ∷ slot_of 9 slot.Param 4 cap.Val
+      ∷ slot_of 10 slot.This 9 cap.Ref
+      ∷ slot_of 11 slot.This 9 cap.Box
+      ∷ slot_of 12 slot.This 9 cap.Box ∷ slot_of 12 slot.Param 1 cap.Val ∷ [];
+  nodes =
+      node_of 6 node.This [] (at 152 153)
+      ∷ node_of 6 (node.Field 7) (0 ∷ []) (at 152 153)
+      ∷ node_of 6 node.Seq (1 ∷ []) (at 152 153)
+      ∷ node_of 6 node.Body (2 ∷ []) (at 140 141)
+      ∷ node_of 7 (node.Number 1) [] (at 132 133)
+      ∷ node_of 7 node.This [] (at 123 124)
+      ∷ node_of 7 (node.SetField 7) (4 ∷ 5 ∷ []) (at 123 124)
+      ∷ node_of 7 (node.Prim 0) [] (at 110 111)
+      ∷ node_of 7 node.Seq (6 ∷ 7 ∷ []) (at 110 111)
+      ∷ node_of 7 node.Body (8 ∷ []) (at 110 111)
+      ∷ node_of 8 node.This [] (at 47 48)
+      ∷ node_of 8 (node.Call 4) (10 ∷ []) (at 47 50)
+      ∷ node_of 8 (node.Local 1) [] (at 52 53)
+      ∷ node_of 8 node.Seq (11 ∷ 12 ∷ []) (at 47 53)
+      ∷ node_of 8 node.Body (13 ∷ []) (at 29 30)
+      ∷ node_of 9 (node.Prim 0) [] (at 196 200)
+      ∷ node_of 9 node.Seq (15 ∷ []) (at 196 200)
+      ∷ node_of 9 node.Body (16 ∷ []) (at 176 182)
+      ∷ node_of 10 (node.Prim 0) [] (at 79 83)
+      ∷ node_of 10 node.Seq (18 ∷ []) (at 79 83)
+      ∷ node_of 10 node.Body (19 ∷ []) (at 72 73)
+      ∷ node_of 11 (node.Number 3) [] (at 102 103)
+      ∷ node_of 11 node.Seq (21 ∷ []) (at 102 103)
+      ∷ node_of 11 node.Body (22 ∷ []) (at 90 91)
+      ∷ node_of 12 node.This [] (at 47 48)
+      ∷ node_of 12 (node.Call 4) (24 ∷ []) (at 47 50)
+      ∷ node_of 12 (node.Local 1) [] (at 52 53)
+      ∷ node_of 12 node.Seq (25 ∷ 26 ∷ []) (at 47 53)
+      ∷ node_of 12 node.Body (27 ∷ []) (at 29 30) ∷ [];
+  names = codes "out" ∷ codes "print" ∷ codes "create" ∷ codes "apply" ∷ codes "a" ∷ codes "m" ∷ codes "b" ∷ codes "n" ∷ [];
+}
+
+abbrev pub FourthStands : Type 0
+FourthStands = Stands fourth_file fourth_core × Formed fourth_core

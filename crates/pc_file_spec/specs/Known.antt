@@ -5,13 +5,13 @@ use Rattle.pc_caps.specs.declared.capability.Cap.TheVariants as cap
 use Rattle.pc_tree.specs.declared.kinds.EntityKind.{EntityKind}
 use Rattle.pc_tree.specs.declared.kinds.EntityKind.TheVariants as kind
 use Rattle.pc_tree.specs.Tree as t
-use Rattle.pc_names.specs.Words.{Text}
+use Rattle.pc_members.specs.Words.{Text}
 use Rattle.pc_names.specs.Texts.{built_in_texts, with_members}
-use Rattle.pc_names.specs.Tables.{with_names}
+use Rattle.pc_members.specs.Tables.{with_names}
 use Rattle.pc_body_spec.specs.Scopes.{Known, Constructor}
 use Rattle.pc_body_spec.specs.Slots.{cap_or}
 use Rattle.pc_file_spec.specs.Texts.{entities_texts}
-use Rattle.pc_file_spec.specs.Members.{Member, members, member_text, is_constructor}
+use Rattle.pc_members.specs.Members.{Member, members, member_text, is_constructor}
 
 -- ---- texts
 

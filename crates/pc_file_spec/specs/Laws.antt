@@ -1,17 +1,18 @@
 -- What is true of the cores of files.
-use Rattle.std.specs.Prelude.{◌≡◌, ◌⊎◌, ◌↔◌, ℕ, ◌+◌, ◌<◌, ◌≤◌, ◌^◌, true, [], ◌∷◌, ◌++◌, map, length, Some, slice_get, codes}
+use Rattle.std.specs.Prelude.{◌≡◌, ◌⊎◌, ◌↔◌, ℕ, ◌+◌, ◌<◌, ◌≤◌, ◌^◌, true, false, [], ◌∷◌, ◌++◌, map, length, Some, slice_get, codes}
 use Rattle.pc_core.specs.CoreData.{CoreData}
 use Rattle.pc_core.specs.Formed.{Formed}
 use Rattle.pc_lists.specs.Places.{Has, Differ}
 use Rattle.pc_tree.specs.Kinds.{is_abstract}
 use Rattle.pc_tree.specs.Tree as t
 use Rattle.pc_names.specs.declared.fault.NameFault.{NameFault}
-use Rattle.pc_names.specs.Words.{Text}
-use Rattle.pc_names.specs.Chains.{Leads, first_own}
+use Rattle.pc_members.specs.Words.{Text}
+use Rattle.pc_members.specs.Chains.{Leads, first_own}
 use Rattle.pc_names.specs.Names.{NamesData, Collected}
-use Rattle.pc_names.specs.Faults.{field_texts, method_texts}
+use Rattle.pc_members.specs.Words.{field_texts, method_texts}
 use Rattle.pc_file_spec.specs.Texts.{entities_texts}
-use Rattle.pc_file_spec.specs.Members.{trait_methods, members, member_text}
+use Rattle.pc_tree.specs.declared.names.Name.{Name}
+use Rattle.pc_members.specs.Members.{Member, written, trait_methods, abstract_methods, without_body, is_takable, own_texts, members, member_text}
 use Rattle.pc_file_spec.specs.Known.{texts_of}
 use Rattle.pc_file_spec.specs.Cores.{Stands, IsElabFault}
 use Rattle.pc_file_spec.specs.Order.{InOrder, InPlace}
@@ -65,3 +66,28 @@ TraitsInherit =
 -- The names of an entity's fields and members differ.
 abbrev pub MembersDiffer : Type 0
 MembersDiffer = (file : t.File) (names : NamesData) → Collected file names → InPlace file → (e : t.Entity) → Has file.entities e → Differ (field_texts e.fields ++ map member_text (members file.entities e))
+
+-- ---- where members come from
+
+-- The method is written in a trait or an interface to which a chain of `is` leads from the entity at this place of the file.
+abbrev pub WrittenAbove : t.File → ℕ → t.Method → Type 0
+WrittenAbove file a x = (b : ℕ) × (f : t.Entity) × Leads file (first_own + a) (first_own + b) × (slice_get file.entities b ≡ Some f) × (is_abstract f.kind ≡ true) × Has f.methods x
+
+-- A member of a trait or an interface is a method of its own or one that is written above it, without the body.
+abbrev pub TraitsHaveNoBodies : Type 0
+TraitsHaveNoBodies =
+    (file : t.File) (names : NamesData) → Collected file names → (a : ℕ) (e : t.Entity) → slice_get file.entities a ≡ Some e → is_abstract e.kind ≡ true
+    → (m : Member) → Has (members file.entities e) m → (x : t.Method) × (m ≡ written (without_body x)) × (Has e.methods x ⊎ WrittenAbove file a x)
+
+-- A written member of another entity is a method of its own, or one that is written above it: with a body, where it may stand in
+-- the entity, which has no field or method of its own, and no added `create`, of the name.
+abbrev pub BodiesAreTaken : Type 0
+BodiesAreTaken =
+    (file : t.File) (names : NamesData) → Collected file names → (a : ℕ) (e : t.Entity) → slice_get file.entities a ≡ Some e → is_abstract e.kind ≡ false
+    → (x : t.Method) → Has (members file.entities e) (written x) → Has e.methods x ⊎ ((is_takable e.kind x ≡ true) × (Has (own_texts e) x.name.text → ⊥) × WrittenAbove file a x)
+
+-- No such method of a trait that its `is` list names is left out: a field or member of the entity has the name.
+abbrev pub BodiesAreThere : Type 0
+BodiesAreThere =
+    (file : t.File) (names : NamesData) → Collected file names → (e f : t.Entity) (n : Name) → Has file.entities e → is_abstract e.kind ≡ false → Has e.provides n → Has file.entities f → f.name.text ≡ n.text
+    → (x : t.Method) → Has (abstract_methods file.entities f) x → is_takable e.kind x ≡ true → Has (field_texts e.fields ++ map member_text (members file.entities e)) x.name.text

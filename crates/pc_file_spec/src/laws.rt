@@ -1,14 +1,16 @@
 //! What is true of the definitions. Each call does nothing, and its contract is the fact.
-ghost use Rattle.pc_file_spec.specs.Example.{FirstStands, SecondStands, ThirdIsRefused};
-ghost use Rattle.pc_file_spec.specs.Laws.{BoundIsEnough, CoreOrFault, CoresAreSmall, MembersDiffer, NotBoth, OneCore, OneFault, StandsIsFormed, TextsAreThere, TraitsInherit};
+ghost use Rattle.pc_file_spec.specs.Example.{FirstStands, FourthStands, SecondStands, ThirdIsRefused};
+ghost use Rattle.pc_file_spec.specs.Laws.{BodiesAreTaken, BodiesAreThere, BoundIsEnough, CoreOrFault, CoresAreSmall, MembersDiffer, NotBoth, OneCore, OneFault, StandsIsFormed, TextsAreThere, TraitsHaveNoBodies, TraitsInherit};
 
-/// The cores of two small files stand as they are written out by hand, and are formed: traits that inherit from each other, one
-/// method of each name, and a `create` that is added, with the local of an initial value; and constructors that are written,
-/// each with that local behind its parameters. Where a name in a body is unknown, that is the fault.
+/// The cores of three small files stand as they are written out by hand, and are formed: traits that inherit from each other, one
+/// method of each name, and a `create` that is added, with the local of an initial value; constructors that are written, each
+/// with that local behind its parameters; and bodies in traits, which a class and an actor take over. Where a name in a body
+/// is unknown, that is the fault.
 pub fn small_files_stand()
     ensures first { FirstStands }
     ensures second { SecondStands }
     ensures third { ThirdIsRefused }
+    ensures fourth { FourthStands }
 {}
 
 /// A file whose names have no fault has a core or a fault of its members; it has at most one of them, and not both.
@@ -32,6 +34,15 @@ pub fn traits_inherit()
     ensures names { TraitsInherit }
     ensures bound { BoundIsEnough }
     ensures differ { MembersDiffer }
+{}
+
+/// Where the names of a file have no fault: a member of a trait or an interface has no body, and is a method of its own or of
+/// what is above it. A written member of another entity is a method of its own, or one with a body that is written above it
+/// and whose name the entity does not have itself; and none of these is left out.
+pub fn members_come_from_above()
+    ensures traits { TraitsHaveNoBodies }
+    ensures taken { BodiesAreTaken }
+    ensures there { BodiesAreThere }
 {}
 
 /// A core that stands for a file is formed, where the file's tree is one that a text spells: the names in its bodies stand in

@@ -2,13 +2,14 @@
 //!
 //! Proved: Which core stands for a file, as definitions. A file has one core or one fault (`cores_are_one`); its texts
 //! differ and each that is needed is there (`texts_are_there`); the core of a file whose parts stand where and in the
-//! order that the grammar has is formed (`cores_are_formed`). Two small files stand as written out by hand
-//! (`small_files_stand`).
+//! order that the grammar has is formed (`cores_are_formed`). A trait's members have no body; other entities take over
+//! methods with a body that are written above them, and none is left out (`members_come_from_above`). Three small files
+//! stand as written out by hand (`small_files_stand`).
 #![tactic(auto)]
 
 mod laws;
 
 pub use laws::{
-    cores_are_formed, cores_are_one, cores_are_small, small_files_stand, texts_are_there,
-    traits_inherit,
+    cores_are_formed, cores_are_one, cores_are_small, members_come_from_above, small_files_stand,
+    texts_are_there, traits_inherit,
 };

@@ -1,0 +1,10 @@
+pub mod Lists
+pub mod Numbers
+pub mod Texts
+pub mod Types
+pub mod Contexts
+pub mod Members
+pub mod Files
+pub mod Equals
+pub mod Walks
+pub mod Ones

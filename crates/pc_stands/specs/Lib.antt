@@ -1,0 +1,9 @@
+pub mod Numbers
+pub mod Lists
+pub mod Texts
+pub mod Types
+pub mod Contexts
+pub mod Methods
+pub mod Entities
+pub mod Files
+pub mod Laws

@@ -1,0 +1,24 @@
+-- The texts that a file needs, and a list of them.
+use Rattle.std.specs.Prelude.{◌≡◌, ◌↔◌, ℕ, ◌<◌, List, [], ◌∷◌, ◌++◌, Some, slice_get, codes}
+use Rattle.pc_lists.specs.Places.{Has}
+use Rattle.pc_tree.specs.Tree as t
+use Rattle.pc_members.specs.Words.{Text, field_texts, method_texts}
+use Rattle.pc_file_spec.specs.Texts.{entities_texts}
+
+-- The names of the fields and methods, entity by entity.
+abbrev pub declared_texts : List t.Entity → List Text
+declared_texts [] = []
+declared_texts (e ∷ es) = (field_texts e.fields ++ method_texts e.methods) ++ declared_texts es
+
+-- All in their order: those of the language, those that are declared, and the names behind a `.`.
+abbrev pub needed_texts : t.File → List Text
+needed_texts file = (codes "out" ∷ codes "print" ∷ codes "create" ∷ codes "apply" ∷ []) ++ (declared_texts file.entities ++ entities_texts file.entities)
+
+-- In a list one text appears before another does.
+abbrev pub Before : List Text → Text → Text → Type 0
+Before all x y = (p : ℕ) × (slice_get all p ≡ Some x) × ((q : ℕ) → slice_get all q ≡ Some y → p < q)
+
+-- The names are the texts of a list in the order in which they first appear there: so each is one name.
+pub record AreFirsts (all names : List Text) : Type 0 where
+  pub same : (x : Text) → Has names x ↔ Has all x
+  pub order : (i j : ℕ) (x y : Text) → i < j → slice_get names i ≡ Some x → slice_get names j ≡ Some y → Before all x y
