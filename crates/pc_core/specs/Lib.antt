@@ -1,5 +1,6 @@
 pub mod CoreData
 pub mod Lookup
+pub mod MethodKeys
 pub mod Entities
 pub mod Methods
 pub mod Nodes

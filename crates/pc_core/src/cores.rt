@@ -4,8 +4,10 @@ ghost use Rattle.std.specs.Option.{option_copied};
 ghost use Rattle.pc_core.specs.Formed.{Formed};
 
 use crate::declarations::{EntityDef, Method};
+use crate::index::MethodIndex;
 use crate::nodes::{Node, Slot};
 use pc_caps::List;
+use std::alloc::{AllocError, Global};
 use std::marker::Model;
 
 /// A program whose parts fit together: `Formed`, in this crate's definitions, says how, and is true of every core.
@@ -16,17 +18,21 @@ pub struct Core {
     slots: List<Slot>,
     nodes: List<Node>,
     names: List<List<u8>>,
+    // Where there is an index, it is that of all the methods.
+    pub(crate) index: Option<MethodIndex>,
 }
 
 impl Model for Core {
     ghost use Rattle.pc_core.specs.CoreData.{CoreData};
     ghost use Rattle.pc_core.specs.Formed.{Formed};
+    ghost use Rattle.pc_core.specs.MethodKeys.{method_key};
+    ghost use Rattle.std.specs.Prelude.{◌≡◌, IfSome, map};
 
     ghost Value = { CoreData };
 
     ghost view = { λ a. record { entities = a.entities; methods = a.methods; slots = a.slots; nodes = a.nodes; names = a.names } };
 
-    ghost invariant = { λ a. Formed (record { entities = a.entities; methods = a.methods; slots = a.slots; nodes = a.nodes; names = a.names }) };
+    ghost invariant = { λ a. Formed (record { entities = a.entities; methods = a.methods; slots = a.slots; nodes = a.nodes; names = a.names }) × IfSome a.index (λ keys. keys ≡ map method_key a.methods) };
 }
 
 impl Core {
@@ -47,7 +53,18 @@ impl Core {
             slots,
             nodes,
             names,
+            index: None,
         }
+    }
+
+    /// Makes the index by which later calls of `method` take a time that does not grow with the number of methods. It takes
+    /// memory. What a contract sees of the core stays, and an `Err` leaves the core as it was.
+    pub fn index_methods(&mut self, alloc: Global) -> Result<(), AllocError>
+        ensures { self.new ≡ self.old }
+    {
+        self.formed();
+        self.index = MethodIndex::of(self.methods.as_slice(), alloc)?;
+        Ok(())
     }
 
     /// The entities: 0 None, 1 U64, 2 Bool, 3 String, 4 Env, 5 OutStream, and then the file's.
@@ -99,7 +116,8 @@ impl Core {
         self.methods.get(method as usize)
     }
 
-    /// The slot of this index in a method.
+    /// The slot of this index in a method, counted on from the method's first slot: past its last slot stands one of a later
+    /// method. `None` exactly where no slot of the core stands there.
     pub fn slot_at(&self, method: &Method, slot: u32) -> Option<&Slot>
         ensures { option_copied result ≡ slice_get self.now.slots (method.now.first_slot + slot) }
     {

@@ -1,11 +1,12 @@
 //! The core of a program: its entities, methods, slots and nodes as lists in which everything is named by its number.
 //!
 //! Proved: A core is formed, in all its parts, as an invariant of its type; `field` and `method` find exactly what is
-//! there.
+//! there, `method` with an index of the methods as without one. How long a look-up takes is not proved.
 #![tactic(auto)]
 
 mod cores;
 mod declarations;
+mod index;
 mod lookup;
 mod nodes;
 

@@ -19,10 +19,22 @@ impl Core {
     }
 
     /// The number of the entity's method of this name. `None` exactly where there is no such entity or it has no such
-    /// method. Takes no memory.
+    /// method. Takes no memory. Where `index_methods` has made an index, it is one look-up in a hash table, in a time that does
+    /// not grow with the number of methods.
     pub fn method(&self, entity: u32, name: u32) -> Option<u32>
         ensures value { result ≡ spec.method_named self.now entity name }
         ensures exact { MatchOption result ((m : ℕ) → ¬ (spec.IsMethod self.now entity name m)) (λ m. spec.IsMethod self.now entity name m) }
+    {
+        self.formed();
+        match &self.index {
+            Some(index) => index.number_of(entity, name),
+            None => self.method_among(entity, name),
+        }
+    }
+
+    // The number of the entity's method of this name, found by going through the entity's methods.
+    fn method_among(&self, entity: u32, name: u32) -> Option<u32>
+        ensures { result ≡ spec.method_named self.now entity name }
     {
         self.formed();
         let found = self.entity_at(entity)?;

@@ -10,7 +10,7 @@ ghost use Rattle.pc_emit.specs.Closing.{Begins, IsCut, IsBefore, IsSplit, taken}
 use crate::names::object_kind;
 use pc_caps::Span;
 use pc_core::NodeKind;
-use pc_resolve::{Constructor, Context, Meaning, TypeMeaning, Visible, constructor_named};
+use pc_resolve::{Constructors, Context, Meaning, TypeMeaning, Visible};
 use pc_tree::{Expr, Name, Suffix};
 
 /// What the first arguments of a chain make with the atom and the suffixes before them.
@@ -133,7 +133,7 @@ fn begin_with_primitive(context: &Context, entity: u32, suffixes: &[Suffix]) -> 
 fn begin_with_object(
     context: &Context,
     actor: bool,
-    constructors: &[Constructor],
+    constructors: &Constructors,
     suffixes: &[Suffix],
 ) -> Beginning
     ensures begins { Begins context.now (with_type (created actor constructors.now)) (map suffix_view suffixes.now) result }
@@ -151,7 +151,7 @@ fn begin_with_object(
 // With the name of a class or an actor, and the name of a constructor behind it, where arguments follow.
 fn begin_behind_name(
     actor: bool,
-    constructors: &[Constructor],
+    constructors: &Constructors,
     name: &Name,
     suffixes: &[Suffix],
 ) -> Beginning
@@ -203,10 +203,10 @@ fn is_empty_args(suffix: &Suffix) -> bool
 }
 
 // With a new object by the constructor of this name.
-fn begin_object(actor: bool, constructors: &[Constructor], name: &[u8], at: usize) -> Beginning
+fn begin_object(actor: bool, constructors: &Constructors, name: &[u8], at: usize) -> Beginning
     ensures { result ≡ spec.object actor (constructor_in constructors.now name.now) at }
 {
-    match constructor_named(constructors, name) {
+    match constructors.find(name) {
         Some(method) => Beginning::With(First::Made(object_kind(actor, method)), at),
         None => Beginning::With(First::Missing, at),
     }

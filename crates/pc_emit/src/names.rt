@@ -13,7 +13,7 @@ use crate::setting::Setting;
 use crate::stop::EmitStop;
 use pc_caps::{List, Span};
 use pc_core::{Node, NodeKind};
-use pc_resolve::{Constructor, Meaning, TypeMeaning, Visible, constructor_named, slot_of};
+use pc_resolve::{Constructors, Meaning, TypeMeaning, Visible, slot_of};
 use pc_tree::Name;
 
 /// A bare name that is read.
@@ -116,11 +116,11 @@ fn create(
     nodes: &mut List<Node>,
     span: Span,
     actor: bool,
-    constructors: &[Constructor],
+    constructors: &Constructors,
 ) -> Result<u32, EmitStop>
     ensures { Gives result nodes.new (put setting.now.number (spec.new_object actor span setting.now.depth roses.no_roses (constructor_in constructors.now spec.create_name)) nodes.old) }
 {
-    match constructor_named(constructors, b"create") {
+    match constructors.find(b"create") {
         Some(method) => leaf(setting, nodes, object_kind(actor, method), span),
         None => gap(setting, nodes, span),
     }

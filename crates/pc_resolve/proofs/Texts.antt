@@ -16,10 +16,10 @@ both_or_none true q f g = sym (f refl)
 both_or_none false true f g = g refl
 both_or_none false false f g = refl
 
-nat_eq_sym : (a b : ℕ) → nat_eq a b ≡ nat_eq b a
+pub nat_eq_sym : (a b : ℕ) → nat_eq a b ≡ nat_eq b a
 nat_eq_sym a b = both_or_none (nat_eq a b) (nat_eq b a) (λ h. eq-eqb b a (sym (eqb-true a b h))) (λ h. eq-eqb a b (sym (eqb-true b a h)))
 
-bytes_eq_sym : (a b : List ℕ) → bytes_eq a b ≡ bytes_eq b a
+pub bytes_eq_sym : (a b : List ℕ) → bytes_eq a b ≡ bytes_eq b a
 bytes_eq_sym [] [] = refl
 bytes_eq_sym [] (y ∷ b) = refl
 bytes_eq_sym (x ∷ a) [] = refl

@@ -4,10 +4,11 @@ ghost use Rattle.pc_body_spec.specs.Scopes.{constructor_named as constructor_in,
 ghost use Rattle.pc_body_spec.specs.Faults as spec;
 ghost use Rattle.pc_resolve.specs.Checking.{Tells};
 
-use crate::context::{Constructor, Context, constructor_named};
+use crate::constructors::Constructors;
+use crate::context::Context;
 use crate::fault::BodyFault;
 use crate::meaning::{Meaning, TypeMeaning};
-use crate::scope::{Visible, slot_of};
+use crate::scope::Scope;
 use pc_caps::Span;
 use pc_tree::{Name, TypeRef};
 
@@ -26,10 +27,10 @@ pub(crate) fn check_text(bytes: &[u8], span: Span) -> Result<(), BodyFault>
 }
 
 /// A bare name that no arguments follow is a visible local or parameter, or a field.
-pub(crate) fn check_name(context: &Context, scope: &[Visible], name: &Name) -> Result<(), BodyFault>
+pub(crate) fn check_name(context: &Context, scope: &Scope, name: &Name) -> Result<(), BodyFault>
     ensures { Tells result (spec.name_faults (resolve context.now scope.now name.now.text) name.now.span) }
 {
-    match context.resolve(scope, name.text.as_slice()) {
+    match context.meaning(scope.find(name.text.as_slice()), name.text.as_slice()) {
         Meaning::Local(_) | Meaning::Field => Ok(()),
         Meaning::Method | Meaning::Nothing => Err(BodyFault::Unknown(name.span)),
     }
@@ -50,33 +51,33 @@ pub(crate) fn check_type_name(context: &Context, name: &Name) -> Result<(), Body
 
 /// One of these constructors has the name, which stands at this place.
 pub(crate) fn check_constructor(
-    constructors: &[Constructor],
+    constructors: &Constructors,
     name: &[u8],
     span: Span,
 ) -> Result<(), BodyFault>
     ensures { Tells result (spec.unless_some (constructor_in constructors.now name.now) (spec.unknown span)) }
 {
-    match constructor_named(constructors, name) {
+    match constructors.find(name) {
         Some(_) => Ok(()),
         None => Err(BodyFault::Unknown(span)),
     }
 }
 
 /// What is consumed is a visible local or parameter.
-pub(crate) fn check_consumed(scope: &[Visible], name: &Name) -> Result<(), BodyFault>
+pub(crate) fn check_consumed(scope: &Scope, name: &Name) -> Result<(), BodyFault>
     ensures { Tells result (spec.unless_some (slot_in scope.now name.now.text) (spec.unknown name.now.span)) }
 {
-    match slot_of(scope, name.text.as_slice()) {
+    match scope.find(name.text.as_slice()) {
         Some(_) => Ok(()),
         None => Err(BodyFault::Unknown(name.span)),
     }
 }
 
 /// A new local has the name of no visible local or parameter, and of no field.
-pub(crate) fn check_new(context: &Context, scope: &[Visible], name: &Name) -> Result<(), BodyFault>
+pub(crate) fn check_new(context: &Context, scope: &Scope, name: &Name) -> Result<(), BodyFault>
     ensures { Tells result (spec.when (spec.is_taken (resolve context.now scope.now name.now.text)) (spec.double name.now.span)) }
 {
-    match context.resolve(scope, name.text.as_slice()) {
+    match context.meaning(scope.find(name.text.as_slice()), name.text.as_slice()) {
         Meaning::Local(_) | Meaning::Field => Err(BodyFault::Double(name.span)),
         Meaning::Method | Meaning::Nothing => Ok(()),
     }

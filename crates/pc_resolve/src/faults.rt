@@ -12,7 +12,7 @@ use crate::checks::{
 use crate::context::Context;
 use crate::fault::BodyFault;
 use crate::params::params_scope;
-use crate::scope::Visible;
+use crate::scope::Scope;
 use crate::starts::{Next, check_head_name, is_called, next_of};
 use pc_caps::List;
 use pc_tree::{Arm, Expr, FieldDef, Item, MethodDef, MethodWord, Seq, Suffix};
@@ -33,7 +33,8 @@ pub fn check(
         MethodWord::New => check_added(alloc, context, fields)?,
         MethodWord::Fun | MethodWord::Be => (),
     }
-    let mut scope = params_scope(alloc, method.params.as_slice())?;
+    let params = params_scope(alloc, method.params.as_slice())?;
+    let mut scope = Scope::of(alloc, params.as_slice())?;
     body(alloc, context, &mut scope, &method.body)
 }
 
@@ -56,7 +57,7 @@ fn initial_value(alloc: Global, context: &Context, value: &Option<Expr>) -> Resu
     match value {
         None => Ok(()),
         Some(value) => {
-            let mut scope = List::new(alloc);
+            let mut scope = Scope::new(alloc);
             expr(alloc, context, &mut scope, value)
         }
     }
@@ -66,7 +67,7 @@ fn initial_value(alloc: Global, context: &Context, value: &Option<Expr>) -> Resu
 fn body(
     alloc: Global,
     context: &Context,
-    scope: &mut List<Visible>,
+    scope: &mut Scope,
     body: &Option<Seq>,
 ) -> Result<(), BodyFault>
     ensures { Tells result (spec.written_body_faults context.now scope.old (maybe_seq body.now)) }
@@ -79,21 +80,16 @@ fn body(
 
 #[cycle(walk)]
 #[tactic(auto, using(crate::proofs::Firsts::is_first_on))]
-fn expr(
-    alloc: Global,
-    context: &Context,
-    scope: &mut List<Visible>,
-    e: &Expr,
-) -> Result<(), BodyFault>
+fn expr(alloc: Global, context: &Context, scope: &mut Scope, e: &Expr) -> Result<(), BodyFault>
     ensures tells { Tells result (spec.faults_of context.now scope.old (expr_view e.now)) }
     ensures scope { OnOk result (scope.new ≡ scope.old) }
 {
     match e {
         Expr::Number { .. } | Expr::Truth { .. } | Expr::This(_) => Ok(()),
         Expr::Text { bytes, span } => check_text(bytes.as_slice(), *span),
-        Expr::Name(name) => check_name(context, scope.as_slice(), name),
+        Expr::Name(name) => check_name(context, scope, name),
         Expr::TypeName(name) => check_type_name(context, name),
-        Expr::Consume { name, .. } => check_consumed(scope.as_slice(), name),
+        Expr::Consume { name, .. } => check_consumed(scope, name),
         Expr::Not { inner, .. } => expr(alloc, context, scope, inner),
         Expr::Infix { terms, .. } => exprs(alloc, context, scope, terms.as_slice()),
         Expr::Chain { head, suffixes, .. } => {
@@ -125,14 +121,14 @@ fn expr(
 fn chain_head(
     alloc: Global,
     context: &Context,
-    scope: &mut List<Visible>,
+    scope: &mut Scope,
     e: &Expr,
     next: Next,
 ) -> Result<(), BodyFault>
     ensures tells { Tells result (spec.start_faults (start_of context.now scope.old (expr_view e.now)) (next_view next) (spec.faults_of context.now scope.old (expr_view e.now))) }
     ensures scope { OnOk result (scope.new ≡ scope.old) }
 {
-    if is_called(context, scope.as_slice(), e, next) {
+    if is_called(context, scope, e, next) {
         return Ok(());
     }
     expr(alloc, context, scope, e)
@@ -140,12 +136,7 @@ fn chain_head(
 
 #[cycle(walk)]
 #[tactic(auto, using(crate::proofs::Firsts::is_first_on))]
-fn exprs(
-    alloc: Global,
-    context: &Context,
-    scope: &mut List<Visible>,
-    xs: &[Expr],
-) -> Result<(), BodyFault>
+fn exprs(alloc: Global, context: &Context, scope: &mut Scope, xs: &[Expr]) -> Result<(), BodyFault>
     ensures tells { Tells result (spec.exprs_faults context.now scope.old (exprs_view xs.now)) }
     ensures scope { OnOk result (scope.new ≡ scope.old) }
 {
@@ -161,7 +152,7 @@ fn exprs(
 fn suffix_list(
     alloc: Global,
     context: &Context,
-    scope: &mut List<Visible>,
+    scope: &mut Scope,
     xs: &[Suffix],
 ) -> Result<(), BodyFault>
     ensures tells { Tells result (args_faults context.now scope.old (suffixes_view xs.now)) }
@@ -174,12 +165,7 @@ fn suffix_list(
 }
 
 #[cycle(walk)]
-fn suffix(
-    alloc: Global,
-    context: &Context,
-    scope: &mut List<Visible>,
-    x: &Suffix,
-) -> Result<(), BodyFault>
+fn suffix(alloc: Global, context: &Context, scope: &mut Scope, x: &Suffix) -> Result<(), BodyFault>
     ensures tells { Tells result (suffix_faults context.now scope.old (suffix_view x.now)) }
     ensures scope { OnOk result (scope.new ≡ scope.old) }
 {
@@ -194,7 +180,7 @@ fn suffix(
 fn arm_list(
     alloc: Global,
     context: &Context,
-    scope: &mut List<Visible>,
+    scope: &mut Scope,
     xs: &[Arm],
 ) -> Result<(), BodyFault>
     ensures tells { Tells result (spec.arms_faults context.now scope.old (arms_view xs.now)) }
@@ -208,12 +194,7 @@ fn arm_list(
 
 #[cycle(walk)]
 #[tactic(auto, using(crate::proofs::Firsts::is_first_on))]
-fn arm(
-    alloc: Global,
-    context: &Context,
-    scope: &mut List<Visible>,
-    x: &Arm,
-) -> Result<(), BodyFault>
+fn arm(alloc: Global, context: &Context, scope: &mut Scope, x: &Arm) -> Result<(), BodyFault>
     ensures tells { Tells result (spec.arm_faults context.now scope.old (arm_view x.now)) }
     ensures scope { OnOk result (scope.new ≡ scope.old) }
 {
@@ -225,7 +206,7 @@ fn arm(
 fn otherwise(
     alloc: Global,
     context: &Context,
-    scope: &mut List<Visible>,
+    scope: &mut Scope,
     other: &Option<Box<Seq>>,
 ) -> Result<(), BodyFault>
     ensures tells { Tells result (spec.other_faults context.now scope.old (other_view other.now)) }
@@ -239,12 +220,7 @@ fn otherwise(
 
 // The locals of a sequence are visible up to its end.
 #[cycle(walk)]
-fn sequence(
-    alloc: Global,
-    context: &Context,
-    scope: &mut List<Visible>,
-    seq: &Seq,
-) -> Result<(), BodyFault>
+fn sequence(alloc: Global, context: &Context, scope: &mut Scope, seq: &Seq) -> Result<(), BodyFault>
     ensures tells { Tells result (spec.seq_faults context.now scope.old (seq_view seq.now)) }
     ensures scope { OnOk result (scope.new ≡ scope.old) }
 {
@@ -256,12 +232,7 @@ fn sequence(
 
 #[cycle(walk)]
 #[tactic(auto, using(crate::proofs::Firsts::is_first_on))]
-fn items(
-    alloc: Global,
-    context: &Context,
-    scope: &mut List<Visible>,
-    xs: &[Item],
-) -> Result<(), BodyFault>
+fn items(alloc: Global, context: &Context, scope: &mut Scope, xs: &[Item]) -> Result<(), BodyFault>
     ensures tells { Tells result (spec.items_faults context.now scope.old (items_view xs.now)) }
     ensures scope { OnOk result (take (length scope.old) scope.new ≡ scope.old) }
 {
@@ -273,12 +244,7 @@ fn items(
 
 #[cycle(walk)]
 #[tactic(auto, using(crate::proofs::Firsts::is_first_on))]
-fn item(
-    alloc: Global,
-    context: &Context,
-    scope: &mut List<Visible>,
-    x: &Item,
-) -> Result<(), BodyFault>
+fn item(alloc: Global, context: &Context, scope: &mut Scope, x: &Item) -> Result<(), BodyFault>
     ensures tells { Tells result (spec.item_faults context.now scope.old (item_view x.now)) }
     ensures scope { OnOk result (scope.new ≡ scope_after context.now scope.old (item_view x.now)) }
 {
@@ -289,11 +255,11 @@ fn item(
             value,
             ..
         } => {
-            check_new(context, scope.as_slice(), name)?;
+            check_new(context, scope, name)?;
             check_written(context, ty)?;
             expr(alloc, context, scope, value)?;
             let text = List::from_slice(alloc, name.text.as_slice())?;
-            scope.push(Visible::new(text, context.slot_at(name.span.start)))?;
+            scope.push(text, context.slot_at(name.span.start))?;
             Ok(())
         }
         Item::Plain(e) => expr(alloc, context, scope, e),

@@ -1,6 +1,6 @@
 //! What a name may mean.
 
-use crate::context::Constructor;
+use crate::constructors::Constructors;
 
 /// What a bare name means.
 #[derive(Clone, Copy, Debug, PartialEq, Eq)]
@@ -23,7 +23,7 @@ pub enum TypeMeaning<'a> {
     /// A class or an actor, which has these constructors.
     Created {
         actor: bool,
-        constructors: &'a [Constructor],
+        constructors: &'a Constructors,
     },
     /// Nothing that has a value.
     NoValue,

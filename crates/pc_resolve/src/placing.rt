@@ -2,14 +2,14 @@
 ghost use Rattle.std.specs.Prelude.{◌≡◌, IfOk};
 ghost use Rattle.pc_body_spec.specs.Slots.{placed_from};
 
-use crate::context::Placed;
 use crate::local::Local;
+use crate::local_slots::{LocalSlots, Placed};
 use pc_caps::List;
 use std::alloc::{AllocError, Global};
 
 /// These locals with the slots from this one on, each found by the place of its name. An `Err` where memory runs out, or
 /// where the slot behind the last one is no number of 32 bits.
-pub fn slots(alloc: Global, first: u32, locals: &[Local]) -> Result<List<Placed>, AllocError>
+pub fn slots(alloc: Global, first: u32, locals: &[Local]) -> Result<LocalSlots, AllocError>
     ensures { IfOk result (λ placed. placed ≡ placed_from first locals.now) }
 {
     let mut placed = List::new(alloc);
@@ -21,5 +21,5 @@ pub fn slots(alloc: Global, first: u32, locals: &[Local]) -> Result<List<Placed>
         };
         slot = next;
     }
-    Ok(placed)
+    LocalSlots::of(alloc, placed)
 }

@@ -1,8 +1,10 @@
 //! The locals and parameters that are visible.
-ghost use Rattle.std.specs.Prelude.{◌≡◌};
+ghost use Rattle.std.specs.Prelude.{◌≡◌, ◌∷◌, [], ◌++◌, IfOk, OnOk, OnErr, length, map, take};
 ghost use Rattle.pc_body_spec.specs.Scopes as spec;
 
+use crate::index::Index;
 use pc_caps::List;
+use std::alloc::{AllocError, Global};
 use std::marker::Model;
 
 /// A local or parameter that is visible, and the index of its slot.
@@ -30,6 +32,7 @@ impl Visible {
 }
 
 /// The slot of the visible local or parameter of this name. `None` exactly where there is none; the first in the scope counts.
+/// It walks over the scope: where a body gets nodes, it has at most 64 slots.
 pub fn slot_of(scope: &[Visible], name: &[u8]) -> Option<u32>
     ensures { result ≡ spec.slot_of scope.now name.now }
 {
@@ -39,4 +42,100 @@ pub fn slot_of(scope: &[Visible], name: &[u8]) -> Option<u32>
         }
     }
     None
+}
+
+// A local or parameter in a scope, and how many names there are before it.
+#[derive(Drop)]
+struct Entered {
+    visible: Visible,
+    names_before: usize,
+}
+
+/// The visible locals and parameters, each found by its name in the same time however many there are.
+#[derive(Drop)]
+pub(crate) struct Scope {
+    row: List<Entered>,
+    slots: Index,
+}
+
+impl Model for Scope {
+    ghost use Rattle.std.specs.Prelude.{◌≡◌, [], List as Sequence, map};
+    ghost use Rattle.std.specs.Str.{bytes_eq};
+    ghost use Rattle.pc_body_spec.specs.Scopes.{Visible as Seen};
+    ghost use Rattle.pc_resolve.specs.Indexes.{firsts, marks};
+    ghost use Rattle.pc_resolve.specs.Pairs.{visible_pair};
+
+    ghost Value = { Sequence Seen };
+
+    ghost view = { λ s. map (λ e. e.visible) s.row };
+
+    ghost invariant = { λ s. (s.slots ≡ firsts bytes_eq (map visible_pair (map (λ e. e.visible) s.row))) × (map (λ e. e.names_before) s.row ≡ marks bytes_eq [] (map visible_pair (map (λ e. e.visible) s.row))) };
+}
+
+impl Scope {
+    /// Nothing is visible. It takes no memory.
+    pub(crate) fn new(alloc: Global) -> Scope
+        ensures { result ≡ [] }
+    {
+        Scope {
+            row: List::new(alloc),
+            slots: Index::new(alloc),
+        }
+    }
+
+    /// These are visible. An `Err` where memory runs out.
+    pub(crate) fn of(alloc: Global, row: &[Visible]) -> Result<Scope, AllocError>
+        ensures { IfOk result (λ scope. scope ≡ row.now) }
+    {
+        let mut scope = Scope::new(alloc);
+        for visible in row {
+            let name = List::from_slice(alloc, visible.name.as_slice())?;
+            scope.push(name, visible.slot)?;
+        }
+        Ok(scope)
+    }
+
+    /// How many locals and parameters are visible.
+    pub(crate) fn len(&self) -> usize
+        ensures { result ≡ length self.now }
+    {
+        self.row.len()
+    }
+
+    /// The slot of the visible local or parameter of this name. `None` exactly where there is none; the first counts.
+    pub(crate) fn find(&self, name: &[u8]) -> Option<u32>
+        ensures { result ≡ spec.slot_of self.now name.now }
+    {
+        self.slots.find(name)
+    }
+
+    /// The local of this name, in the slot of this index, becomes visible. An `Err` changes nothing.
+    pub(crate) fn push(&mut self, name: List<u8>, slot: u32) -> Result<(), AllocError>
+        ensures ok { OnOk result (self.new ≡ self.old ++ record { name = name; slot = slot } ∷ []) }
+        ensures err { OnErr result (self.new ≡ self.old) }
+    {
+        let names_before = self.slots.len();
+        self.slots.add(name.as_slice(), slot)?;
+        let visible = Visible::new(name, slot);
+        match self.row.push(Entered {
+            visible,
+            names_before,
+        }) {
+            Ok(()) => Ok(()),
+            Err(refused) => {
+                self.slots.truncate(names_before);
+                Err(refused)
+            }
+        }
+    }
+
+    /// Only the first `len` stay visible.
+    pub(crate) fn truncate(&mut self, len: usize)
+        ensures { self.new ≡ take len self.old }
+    {
+        if let Some(entered) = self.row.get(len) {
+            self.slots.truncate(entered.names_before);
+            self.row.truncate(len);
+        }
+    }
 }

@@ -9,10 +9,11 @@ ghost use Rattle.pc_body_spec.specs.Faults.{Fault};
 ghost use Rattle.pc_resolve.specs.Checking.{Tells, head_name_faults, next_view};
 
 use crate::checks::check_constructor;
-use crate::context::{Constructor, Context};
+use crate::constructors::Constructors;
+use crate::context::Context;
 use crate::fault::BodyFault;
 use crate::meaning::{Meaning, TypeMeaning};
-use crate::scope::Visible;
+use crate::scope::Scope;
 use pc_tree::{Expr, Name, Suffix};
 
 /// What follows a part of a chain.
@@ -45,7 +46,7 @@ fn next_is(first: &Suffix) -> Next
 
 /// Whether the head of a chain is nothing alone, but belongs to what follows it: the bare name of a method before
 /// arguments, or the name of a class or an actor before `.m`.
-pub(crate) fn is_called(context: &Context, scope: &[Visible], head: &Expr, next: Next) -> bool
+pub(crate) fn is_called(context: &Context, scope: &Scope, head: &Expr, next: Next) -> bool
     ensures { (alone : List Fault) → spec.start_faults (start_of context.now scope.now (expr_view head.now)) (next_view next) alone ≡ if result then [] else alone }
 {
     match head {
@@ -55,10 +56,10 @@ pub(crate) fn is_called(context: &Context, scope: &[Visible], head: &Expr, next:
     }
 }
 
-fn is_called_method(context: &Context, scope: &[Visible], name: &Name, next: Next) -> bool
+fn is_called_method(context: &Context, scope: &Scope, name: &Name, next: Next) -> bool
     ensures { (alone : List Fault) → spec.start_faults (start_with_name name.now (resolve context.now scope.now name.now.text)) (next_view next) alone ≡ if result then [] else alone }
 {
-    match context.resolve(scope, name.text.as_slice()) {
+    match context.meaning(scope.find(name.text.as_slice()), name.text.as_slice()) {
         Meaning::Method => matches!(next, Next::Arguments),
         Meaning::Local(_) | Meaning::Field | Meaning::Nothing => false,
     }
@@ -111,7 +112,7 @@ fn check_type_dot(context: &Context, head: &Name, name: &Name, next: Next) -> Re
 }
 
 // The name of one of these constructors, which has arguments.
-fn check_called(constructors: &[Constructor], name: &Name, next: Next) -> Result<(), BodyFault>
+fn check_called(constructors: &Constructors, name: &Name, next: Next) -> Result<(), BodyFault>
     ensures { Tells result (spec.constructor_faults constructors.now name.now (next_view next)) }
 {
     match next {

@@ -1,48 +1,24 @@
-use Rattle.std.proofs.Common.{◌≡◌, ◌+◌, ◌<◌, ◌≤◌, ◌^◌, length, sym, ap, subst, ◌∙◌}
-use Rattle.std.specs.Prelude.{List, None, Option, slice_get, slice_range}
-use Rattle.std.specs.Option.{option_copied}
-use Rattle.pc_core.specs.declared.declarations.EntityDef.{EntityDef}
-use Rattle.pc_core.specs.declared.declarations.Method.{Method}
-use Rattle.pc_lists.specs.Options.{◌>>=◌}
+use Rattle.std.proofs.Common.{◌≡◌, ℕ, List, map, ap, subst, ◌∙◌}
+use Rattle.std.specs.Prelude.{Option, IfSome}
+use Rattle.pc_core.specs.CoreData.{CoreData}
 use Rattle.pc_core.specs.Lookup as spec
-use Rattle.pc_core.specs.Members.{method_exact, methods_within, own_methods_within}
+use Rattle.pc_core.specs.Members.{method_exact}
+use Rattle.pc_core.specs.MethodKeys.{method_key}
+use Rattle.pc_core.proofs.Keys.{named_by_key}
 use Rattle.pc_core.proofs.cores.Core.method.Goals as goal
-use Rattle.pc_lists.specs.Lookup.{place_of}
 
-pub returns-in_err-found-clause-exact : goal.returns-in_err-found-clause-exact
-returns-in_err-found-clause-exact c =
-    let missing : None ≡ slice_get c.args.self.now.entities c.args.entity = c.in_err-found.ensures in
-    method_exact c.args.self.now c.args.entity c.args.name c.from_residual.result c.formed.ensures
-    (c.from_residual.ensures ∙ ap (λ (o : Option EntityDef). o >>= λ x. place_of spec.method_name c.args.name (spec.own_methods c.args.self.now x) x.first_method) missing)
+pub returns-in-None-clause-exact : goal.returns-in-None-clause-exact
+returns-in-None-clause-exact c = method_exact c.args.self.now c.args.entity c.args.name c.method_among.result c.formed.ensures c.method_among.ensures
 
-pub part-methods-requires : goal.part-methods-requires
-part-methods-requires c =
-    let there = sym c.entity_at.ensures ∙ ap option_copied c.in_ok-found.was in
-    subst (λ (ms : List Method). c.in_ok-found.found.now.first_method + c.in_ok-found.found.now.methods ≤ length ms) (sym c.methods.ensures)
-    (methods_within c.args.self.now c.args.entity c.in_ok-found.found.now c.formed.ensures there)
-
-own : (c : goal.After-part-methods) → c.part-methods.result.now ≡ spec.own_methods c.args.self.now c.in_ok-found.found.now
-own c =
-    c.part-methods.ensures
-    ∙ ap (λ (ms : List Method). slice_range ms c.in_ok-found.found.now.first_method (c.in_ok-found.found.now.first_method + c.in_ok-found.found.now.methods)) c.methods.ensures
-
-pub place_of_method-requires : goal.place_of_method-requires
-place_of_method-requires c =
-    let there = sym c.entity_at.ensures ∙ ap option_copied c.in_ok-found.was in
-    subst (λ (ms : List Method). c.in_ok-found.found.now.first_method + length ms < 2 ^ 32) (sym (own c))
-    (own_methods_within c.args.self.now c.args.entity c.in_ok-found.found.now c.formed.ensures there)
-
-value : (c : goal.After-place_of_method) → c.place_of_method.result ≡ spec.method_named c.args.self.now c.args.entity c.args.name
+value : (c : goal.After-number_of) → c.number_of.result ≡ spec.method_named c.args.self.now c.args.entity c.args.name
 value c =
-    let found = c.in_ok-found.found.now in
-    let same : c.part-methods.result.now ≡ spec.own_methods c.args.self.now found =
-    c.part-methods.ensures ∙ ap (λ (ms : List Method). slice_range ms found.first_method (found.first_method + found.methods)) c.methods.ensures in
-    c.place_of_method.ensures
-    ∙ ap (λ (ms : List Method). place_of spec.method_name c.args.name ms found.first_method) same
-    ∙ sym (ap (λ (o : Option EntityDef). o >>= λ x. place_of spec.method_name c.args.name (spec.own_methods c.args.self.now x) x.first_method) (sym c.entity_at.ensures ∙ ap option_copied c.in_ok-found.was))
+    let keys : c.in-Some.index ≡ map method_key c.self.inside.methods =
+    subst (λ (o : Option (List (ℕ × ℕ))). IfSome o (λ ks. ks ≡ map method_key c.self.inside.methods)) c.in-Some.is c.self.invariant.1 in
+    let all : c.in-Some.index ≡ map method_key c.args.self.now.methods = keys ∙ ap (λ (x : CoreData). map method_key x.methods) c.self.view_is in
+    c.number_of.ensures ∙ named_by_key c.args.self.now c.args.entity c.args.name c.in-Some.index c.formed.ensures all
 
-pub returns-clause-value : goal.returns-clause-value
-returns-clause-value c = value c
+pub returns-in-Some-clause-value : goal.returns-in-Some-clause-value
+returns-in-Some-clause-value c = value c
 
-pub returns-clause-exact : goal.returns-clause-exact
-returns-clause-exact c = method_exact c.args.self.now c.args.entity c.args.name c.place_of_method.result c.formed.ensures (value c)
+pub returns-in-Some-clause-exact : goal.returns-in-Some-clause-exact
+returns-in-Some-clause-exact c = method_exact c.args.self.now c.args.entity c.args.name c.number_of.result c.formed.ensures (value c)

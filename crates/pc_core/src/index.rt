@@ -1,0 +1,58 @@
+//! An index of the methods by their entities and names.
+ghost use Rattle.std.specs.Prelude.{◌≡◌, ◌<◌, ◌^◌, IfOk, MatchOption, length, map, position};
+ghost use Rattle.pc_lists.specs.Places.{Differ};
+ghost use Rattle.pc_core.specs.MethodKeys.{method_key, is_key};
+
+use crate::declarations::Method;
+use indexmap::IndexSet;
+use std::alloc::{AllocError, Global};
+use std::fmt;
+use std::marker::Model;
+
+/// The entities and names of methods, in the order of the methods.
+#[derive(Drop)]
+pub(crate) struct MethodIndex {
+    keys: IndexSet<(u32, u32)>,
+}
+
+impl Model for MethodIndex {
+    ghost use Rattle.std.specs.Prelude.{List as Sequence, ℕ, length, ◌<◌, ◌^◌};
+
+    ghost Value = { Sequence (ℕ × ℕ) };
+
+    ghost view = { λ i. i.keys.keys };
+
+    ghost invariant = { λ i. length i.keys.keys < 2 ^ 32 };
+}
+
+impl fmt::Debug for MethodIndex {
+    fn fmt<W: fmt::Write>(&self, f: &mut fmt::Formatter<W>) -> fmt::Result {
+        f.write_str("MethodIndex")
+    }
+}
+
+impl MethodIndex {
+    /// The index of these methods. `None` exactly where two of them have one entity and one name, as no two methods of a core do.
+    pub(crate) fn of(methods: &[Method], alloc: Global) -> Result<Option<MethodIndex>, AllocError>
+        requires { length methods.now < 2 ^ 32 }
+        ensures { IfOk result (λ index. MatchOption index (¬ (Differ (map method_key methods.now))) (λ keys. keys ≡ map method_key methods.now)) }
+    {
+        let mut keys = IndexSet::with_capacity(alloc, methods.len())?;
+        for method in methods {
+            let (_, added) = keys.insert_full((method.entity, method.name))?;
+            if !added {
+                return Ok(None);
+            }
+        }
+        Ok(Some(MethodIndex { keys }))
+    }
+
+    /// The number of the method of this entity and name.
+    pub(crate) fn number_of(&self, entity: u32, name: u32) -> Option<u32>
+        ensures { result ≡ position (is_key entity name) self.now }
+    {
+        self.keys
+            .get_index_of(&(entity, name))
+            .map(|number| number as u32)
+    }
+}

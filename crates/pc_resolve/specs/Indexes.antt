@@ -1,0 +1,21 @@
+-- Keys with values, of which the first of each key counts.
+use Rattle.std.specs.Prelude.{ℕ, Bool, List, [], ◌∷◌, ◌++◌, is_some, length, if◌then◌else◌}
+use Rattle.std.specs.Map.{lookup}
+
+module _ {K X : Type 0} (eq : K → K → Bool) where
+  -- The pair goes behind the others, unless its key is there.
+  abbrev pub with_first : List (K × X) → K × X → List (K × X)
+  with_first es p = if is_some (lookup (eq p.0) es) then es else es ++ p ∷ []
+
+  abbrev pub with_firsts : List (K × X) → List (K × X) → List (K × X)
+  with_firsts es [] = es
+  with_firsts es (p ∷ ps) = with_firsts (with_first es p) ps
+
+  -- Of the pairs with each key the first.
+  abbrev pub firsts : List (K × X) → List (K × X)
+  firsts ps = with_firsts [] ps
+
+  -- For each pair, how many keys there are before it, behind those of the first list.
+  abbrev pub marks : List (K × X) → List (K × X) → List ℕ
+  marks es [] = []
+  marks es (p ∷ ps) = length es ∷ marks (with_first es p) ps

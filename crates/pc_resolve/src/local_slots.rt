@@ -1,0 +1,107 @@
+//! The slots of locals, found by the places of their names.
+ghost use Rattle.std.specs.Prelude.{◌≡◌, [], IfOk, OnOk, map, nat_eq};
+ghost use Rattle.pc_body_spec.specs.Scopes as spec;
+ghost use Rattle.pc_resolve.specs.Indexes.{firsts, with_first};
+ghost use Rattle.pc_resolve.specs.Pairs.{placed_pair};
+
+use indexmap::IndexMap;
+use pc_caps::List;
+use std::alloc::{AllocError, Global};
+use std::marker::Model;
+
+/// The slot of a local, and the place at which the local's name stands where it is defined.
+#[derive(Drop)]
+pub struct Placed {
+    start: u32,
+    slot: u32,
+}
+
+impl Model for Placed {
+    ghost use Rattle.pc_body_spec.specs.Scopes.{Placed as Seen};
+
+    ghost Value = { Seen };
+
+    ghost view = { λ p. record { start = p.start; slot = p.slot } };
+}
+
+impl Placed {
+    /// The slot of this index, of the local whose name begins at this byte.
+    pub fn new(start: u32, slot: u32) -> Placed
+        ensures { result ≡ record { start = start; slot = slot } }
+    {
+        Placed { start, slot }
+    }
+}
+
+/// The slots of locals in order, each found by the place of its local's name in the same time however many there are.
+#[derive(Drop)]
+pub struct LocalSlots {
+    row: List<Placed>,
+    by_start: IndexMap<u32, u32>,
+}
+
+impl Model for LocalSlots {
+    ghost use Rattle.std.specs.Prelude.{◌≡◌, List as Sequence, map, nat_eq};
+    ghost use Rattle.pc_body_spec.specs.Scopes.{Placed as Seen};
+    ghost use Rattle.pc_resolve.specs.Indexes.{firsts};
+    ghost use Rattle.pc_resolve.specs.Pairs.{placed_pair};
+
+    ghost Value = { Sequence Seen };
+
+    ghost view = { λ s. s.row };
+
+    ghost invariant = { λ s. s.by_start.entries ≡ firsts nat_eq (map placed_pair s.row) };
+}
+
+impl LocalSlots {
+    /// No slots. It takes no memory.
+    pub fn new(alloc: Global) -> LocalSlots
+        ensures { result ≡ [] }
+    {
+        LocalSlots {
+            row: List::new(alloc),
+            by_start: IndexMap::new(alloc),
+        }
+    }
+
+    /// These slots. An `Err` where memory runs out.
+    pub fn of(alloc: Global, row: List<Placed>) -> Result<LocalSlots, AllocError>
+        ensures { IfOk result (λ slots. slots ≡ row) }
+    {
+        let by_start = index_starts(alloc, row.as_slice())?;
+        Ok(LocalSlots { row, by_start })
+    }
+
+    /// The slot of the local whose name begins at this byte, or 0 where there is none; the first counts.
+    #[tactic(auto, using(crate::proofs::Found::slot_found))]
+    pub(crate) fn at(&self, start: u32) -> u32
+        ensures { result ≡ spec.slot_at self.now start }
+    {
+        match self.by_start.get(&start) {
+            Some(slot) => *slot,
+            None => 0,
+        }
+    }
+}
+
+// The slot of each place, of which the first counts.
+fn index_starts(alloc: Global, row: &[Placed]) -> Result<IndexMap<u32, u32>, AllocError>
+    ensures { IfOk result (λ m. m.entries ≡ firsts nat_eq (map placed_pair row.now)) }
+{
+    let mut by_start = IndexMap::new(alloc);
+    for placed in row {
+        note(&mut by_start, placed.start, placed.slot)?;
+    }
+    Ok(by_start)
+}
+
+// Notes the slot of a place, unless the place has one.
+fn note(by_start: &mut IndexMap<u32, u32>, start: u32, slot: u32) -> Result<(), AllocError>
+    ensures { OnOk result (by_start.new.entries ≡ with_first nat_eq by_start.old.entries (start, slot)) }
+{
+    if by_start.contains_key(&start) {
+        return Ok(());
+    }
+    by_start.insert(start, slot)?;
+    Ok(())
+}
