@@ -1,6 +1,5 @@
-pub mod Ranks
-pub mod Firsts
-pub mod Tables
+pub mod Behind
+pub mod Items
 pub mod Outcomes
 pub mod Growing
 pub mod Wholes

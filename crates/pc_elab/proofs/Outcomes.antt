@@ -15,7 +15,7 @@ use Rattle.pc_resolve.specs.declared.fault.BodyFault.{BodyFault}
 use Rattle.pc_resolve.specs.declared.fault.BodyFault.TheVariants as body
 use Rattle.pc_resolve.specs.Checking.{IsFirst}
 use Rattle.pc_emit.specs.Giving.{put_written}
-use Rattle.pc_file_spec.specs.Members.{Member}
+use Rattle.pc_members.specs.Members.{Member}
 use Rattle.pc_elab.specs.Outcomes.{Passes, as_name_fault, member_faults, member_params, span_of, extra_slot, before_nodes}
 
 pub no_fault : (c : Context) (e : t.Entity) (x : Member) (locals : List Local) → member_faults c e x ≡ [] → extra_slot x locals ≡ None → (rest : Outcome) → before_nodes c e x locals rest ≡ rest

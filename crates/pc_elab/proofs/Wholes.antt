@@ -1,8 +1,9 @@
 -- The whole of a file.
 use Rattle.std.proofs.Common.{◌≡◌, ℕ, zero, suc, ◌+◌, ◌<◌, ◌^◌, List, [], ◌∷◌, ◌++◌, map, length, Some, Ok, Err, Result, refl, sym, ap, ◌∙◌, subst, arith}
-use Rattle.std.specs.Prelude.{slice_get}
+use Rattle.std.specs.Prelude.{slice_get, IfOk}
 use Rattle.std.proofs.lemmas.List.{length-map}
 use Rattle.std.proofs.lemmas.Option.{same_Some, none-some}
+use Rattle.std.proofs.lemmas.Result.{IfOk-weaker}
 use Rattle.pc_tree.specs.declared.file.File.{File}
 use Rattle.pc_tree.specs.View.{entity_view, file_view}
 use Rattle.pc_tree.specs.Tree as t
@@ -14,11 +15,12 @@ use Rattle.pc_core.specs.Formed.{Formed}
 use Rattle.pc_core.specs.CoreData.{CoreData}
 use Rattle.pc_names.specs.declared.fault.NameFault.{NameFault}
 use Rattle.pc_names.specs.declared.fault.NameFault.TheVariants as fault
-use Rattle.pc_names.specs.Chains.{first_own}
+use Rattle.pc_members.specs.Chains.{first_own}
 use Rattle.pc_names.specs.Names.{NamesData, Collected}
 use Rattle.pc_order.specs.Laws.{BodiesAscend}
 use Rattle.pc_body_spec.specs.Scopes.{Context}
-use Rattle.pc_file_spec.specs.Members.{Member, members, members_from}
+use Rattle.pc_members.specs.Members.{Member, members}
+use Rattle.pc_file_spec.specs.Members.{members_from}
 use Rattle.pc_file_spec.specs.Known.{known_of, known_from, texts_of, built_in_known}
 use Rattle.pc_file_spec.specs.Order as o
 use Rattle.pc_file_spec.specs.Cores.{built_ins, entities_from, core_with, core_of, Stands}
@@ -29,8 +31,8 @@ use Rattle.pc_file_spec.proofs.Steps.{same_ok}
 use Rattle.pc_file_spec.proofs.Owners.{known_count}
 use Rattle.pc_elab.specs.Cores.{Makes, Spelled, made_view}
 use Rattle.pc_elab.specs.declared.elaborating.Made.{Made}
-use Rattle.pc_elab.specs.declared.member.Member.{Member as CodeMember}
-use Rattle.pc_elab.specs.Views.{members_view, table_view}
+use Rattle.pc_members.specs.declared.member.Member.{Member as CodeMember}
+use Rattle.pc_members.specs.Views.{members_view, table_view}
 use Rattle.pc_elab.specs.Outcomes.{Grows, row_members}
 use Rattle.pc_elab.specs.Rows.{known_with, known_rows, entity_rows}
 use Rattle.pc_elab.proofs.Growing.{rows_same}
@@ -81,6 +83,10 @@ in_place file h e he =
     (q.16, λ m hm. let u = (all_methods e.kind e.methods q.6 hm.0 m q.14 hm.1).1 in (u.15, u.18))
 
 -- ---- as the code has them
+
+-- A part of what was made.
+pub ok_part : {A B E : Type 0} → (part : A → B) (r : Result A E) (made : A) (b : B) → part made ≡ b → IfOk r (λ a. a ≡ made) → IfOk r (λ a. part a ≡ b)
+ok_part part r made b e h = IfOk-weaker r (λ a. a ≡ made) (λ a. part a ≡ b) (λ a g. ap part g ∙ e) h
 
 pub as_many : (file : File) (table : List (List CodeMember)) → table_view table ≡ map (members (file_view file).entities) (file_view file).entities → length table ≡ length file.entities
 as_many file table h =

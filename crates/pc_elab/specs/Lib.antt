@@ -1,4 +1,3 @@
-pub mod Rounds
 pub mod Views
 pub mod Rows
 pub mod Slots

@@ -9,14 +9,15 @@ use Rattle.pc_names.specs.declared.fault.NameFault.TheVariants as fault
 use Rattle.pc_names.specs.declared.fault.Which.TheVariants as which
 use Rattle.pc_resolve.specs.declared.fault.BodyFault.{BodyFault}
 use Rattle.pc_resolve.specs.declared.fault.BodyFault.TheVariants as body
-use Rattle.pc_names.specs.Faults.{field_texts}
+use Rattle.pc_members.specs.Words.{field_texts}
 use Rattle.pc_body_spec.specs.Roses.{Rose}
 use Rattle.pc_body_spec.specs.Scopes.{Context, Placed}
 use Rattle.pc_body_spec.specs.Bodies.{body_of, added_body}
 use Rattle.pc_body_spec.specs.Faults.{Fault, body_faults, initial_faults}
 use Rattle.pc_body_spec.specs.Slots.{Local}
 use Rattle.pc_body_spec.specs.Methods.{MethodFault, Outcome, param_names, local_names, unless_fault, unless_full, put_body}
-use Rattle.pc_file_spec.specs.Members.{Member, written, added, Owned, owned, member_span, member_text}
+use Rattle.pc_members.specs.Members.{Member, written, added, member_span, member_text}
+use Rattle.pc_file_spec.specs.Members.{Owned, owned}
 use Rattle.pc_file_spec.specs.Signatures.{placed_of, slots_from, declared}
 use Rattle.pc_file_spec.specs.Parts.{Parts, name_fault, if_ok, and_member}
 

@@ -6,7 +6,7 @@ use Rattle.pc_core.specs.declared.nodes.SlotKind.TheVariants as slot
 use Rattle.pc_core.specs.Methods.{param_slot}
 use Rattle.pc_body_spec.specs.Scopes.{Context}
 use Rattle.pc_body_spec.specs.Slots.{Local, local_slot}
-use Rattle.pc_file_spec.specs.Members.{Member, written, added}
+use Rattle.pc_members.specs.Members.{Member, written, added}
 use Rattle.pc_file_spec.specs.Signatures.{receiver_of}
 
 -- The index of the slot of the first local.

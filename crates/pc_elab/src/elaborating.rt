@@ -4,23 +4,22 @@ ghost use Rattle.pc_tree.specs.View.{file_view};
 ghost use Rattle.pc_names.specs.Names.{Collected};
 ghost use Rattle.pc_file_spec.specs.Cores.{Stands, core_of};
 ghost use Rattle.pc_file_spec.specs.Known.{known_of, texts_of};
-ghost use Rattle.pc_file_spec.specs.Members.{members};
+ghost use Rattle.pc_members.specs.Members.{members};
+ghost use Rattle.pc_members.specs.Views.{table_view};
 ghost use Rattle.pc_elab.specs.Cores as spec;
-ghost use Rattle.pc_elab.specs.Views.{table_view};
 
 use crate::entities::list_entities;
-use crate::inherited::list_members;
 use crate::known::list_known;
-use crate::member::Member;
 use crate::members::add_entities;
 use crate::parts::{Parts, built_in_parts};
 use crate::texts::{list_texts, table_texts};
 use pc_caps::List;
 use pc_core::{Core, EntityDef};
 use pc_file_spec::cores_are_formed;
+use pc_members::{Member, list_members};
 use pc_names::{NameFault, Names};
 use pc_order::names_are_in_order;
-use pc_resolve::Context;
+use pc_resolve::{Context, LocalSlots};
 use pc_tree::File;
 use std::alloc::{AllocError, Global};
 
@@ -46,34 +45,67 @@ fn make_context(
 {
     let entities = list_known(alloc, file.entities.as_slice(), table)?;
     let texts = table_texts(alloc, file)?;
-    Ok(Context::new(
+    Context::new(
+        alloc,
         List::new(alloc),
         List::new(alloc),
         entities,
         texts,
-        List::new(alloc),
-    ))
+        LocalSlots::new(alloc),
+    )
 }
 
-/// What the core of a file is made of, or the first fault of its members.
-#[tactic(auto, using(crate::proofs::Wholes::few_own, crate::proofs::Wholes::as_many))]
-pub(crate) fn make(alloc: Global, file: &File, names: &Names) -> Result<Made, NameFault>
+// The members of each entity of a file whose names were collected.
+fn members_of<'a>(
+    alloc: Global,
+    file: &'a File,
+    names: &Names,
+) -> Result<List<List<Member<'a>>>, AllocError>
     requires { Collected (file_view file.now) names.now }
+    ensures { IfOk result (λ l. table_view l ≡ map (members (file_view file.now).entities) (file_view file.now).entities) }
+{
+    list_members(alloc, names.entities(), names.all_above(), file)
+}
+
+// What the core of a file is made of, or the first fault of its members. The table has the members of its entities, and the
+// context is what the bodies of the file see of it.
+#[tactic(auto, using(crate::proofs::Wholes::few_own, crate::proofs::Wholes::as_many))]
+fn make_parts(
+    alloc: Global,
+    file: &File,
+    names: &Names,
+    table: &[List<Member>],
+    context: &mut Context,
+) -> Result<Made, NameFault>
+    requires collected { Collected (file_view file.now) names.now }
+    requires members { table_view table.now ≡ map (members (file_view file.now).entities) (file_view file.now).entities }
+    requires entities { context.old.entities ≡ known_of (file_view file.now) }
+    requires texts { context.old.texts ≡ texts_of (file_view file.now) }
     ensures core { spec.Makes result (core_of names.now.above (file_view file.now)) }
     ensures few { IfOk result (λ m. length m.names < 2 ^ 32) }
 {
-    let table = list_members(alloc, file, names)?;
-    let mut context = make_context(alloc, file, names, table.as_slice())?;
     let mut parts = built_in_parts(alloc)?;
     let own = file.entities.as_slice();
-    add_entities(alloc, &mut context, &mut parts, own, table.as_slice())?;
-    let entities = list_entities(alloc, &context, names, own, table.as_slice())?;
+    add_entities(alloc, context, &mut parts, own, table)?;
+    let entities = list_entities(alloc, context, names, own, table)?;
     let names = list_texts(alloc, context.texts())?;
     Ok(Made {
         entities,
         parts,
         names,
     })
+}
+
+/// What the core of a file is made of, or the first fault of its members.
+pub(crate) fn make(alloc: Global, file: &File, names: &Names) -> Result<Made, NameFault>
+    requires { Collected (file_view file.now) names.now }
+    ensures core { spec.Makes result (core_of names.now.above (file_view file.now)) }
+    ensures few { IfOk result (λ m. length m.names < 2 ^ 32) }
+{
+    let table = members_of(alloc, file, names)?;
+    let table = table.as_slice();
+    let mut context = make_context(alloc, file, names, table)?;
+    make_parts(alloc, file, names, table, &mut context)
 }
 
 /// The core of a file whose names were collected. It is `Err` exactly where a member of the file has a fault, and then it
@@ -98,5 +130,7 @@ pub fn elaborate(alloc: Global, file: &File, names: &Names) -> Result<Core, Name
         slots,
         nodes,
     } = parts;
-    Ok(Core::from_parts(entities, methods, slots, nodes, names))
+    let mut core = Core::from_parts(entities, methods, slots, nodes, names);
+    core.index_methods(alloc)?;
+    Ok(core)
 }

@@ -1,18 +1,18 @@
 //! The entities of a core.
 ghost use Rattle.std.specs.Prelude.{◌≡◌, ◌++◌, ◌+◌, ◌<◌, ◌^◌, map, length, slice_get, IfOk};
 ghost use Rattle.pc_tree.specs.View.{entity_view, field_view};
-ghost use Rattle.pc_names.specs.Chains.{first_own, numbers_of};
-ghost use Rattle.pc_names.specs.Reach.{or_nil};
+ghost use Rattle.pc_members.specs.Chains.{first_own, numbers_of};
+ghost use Rattle.pc_members.specs.Reach.{or_nil};
+ghost use Rattle.pc_members.specs.Views.{table_view};
 ghost use Rattle.pc_file_spec.specs.Cores as spec;
 ghost use Rattle.pc_elab.specs.Rows as rows;
-ghost use Rattle.pc_elab.specs.Views.{table_view};
 
 use crate::known::{default_cap, number_after};
 use crate::language::list_built_ins;
-use crate::member::Member;
 use crate::signature::type_in;
 use pc_caps::List;
 use pc_core::{EntityDef, FieldInfo};
+use pc_members::Member;
 use pc_names::Names;
 use pc_resolve::Context;
 use pc_tree::{Entity, FieldDef, Name};

@@ -3,12 +3,12 @@ ghost use Rattle.std.specs.Prelude.{◌≡◌, ◌++◌, [], ◌+◌, ◌<◌, �
 ghost use Rattle.pc_tree.specs.View.{entity_view};
 ghost use Rattle.pc_file_spec.specs.Known as spec;
 ghost use Rattle.pc_body_spec.specs.Slots.{cap_or as either_cap};
+ghost use Rattle.pc_members.specs.Views.{members_view, table_view};
 ghost use Rattle.pc_elab.specs.Rows as rows;
-ghost use Rattle.pc_elab.specs.Views.{members_view, table_view};
 
-use crate::member::Member;
 use pc_caps::{Cap, List};
-use pc_resolve::{Constructor, Known};
+use pc_members::Member;
+use pc_resolve::{Constructor, Constructors, Known};
 use pc_tree::{Entity, EntityKind};
 use std::alloc::{AllocError, Global};
 
@@ -80,7 +80,7 @@ fn make_known(
 {
     let name = List::from_slice(alloc, entity.name.text.as_slice())?;
     let cap = default_cap(entity.kind, entity.cap);
-    let constructors = list_constructors(alloc, first, members)?;
+    let constructors = Constructors::of(alloc, list_constructors(alloc, first, members)?)?;
     Ok(Known::new(name, entity.kind, cap, constructors))
 }
 
@@ -94,7 +94,7 @@ fn make_built_in(
     ensures { IfOk result (λ k. k ≡ record { name = name.now; kind = kind; cap = cap; constructors = [] }) }
 {
     let name = List::from_slice(alloc, name)?;
-    Ok(Known::new(name, kind, cap, List::new(alloc)))
+    Ok(Known::new(name, kind, cap, Constructors::new(alloc)))
 }
 
 // The entities of the language.

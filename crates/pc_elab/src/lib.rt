@@ -8,11 +8,9 @@
 
 mod elaborating;
 mod entities;
-mod inherited;
 mod known;
 mod language;
 mod laws;
-mod member;
 mod members;
 mod parts;
 mod signature;

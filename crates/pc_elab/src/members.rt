@@ -1,17 +1,19 @@
 //! The parts of a program, entity by entity.
 ghost use Rattle.std.specs.Prelude.{◌≡◌, ◌+◌, ◌<◌, ◌^◌, map, length, IfOk, OnOk};
 ghost use Rattle.pc_tree.specs.View.{entity_view, field_view};
-ghost use Rattle.pc_names.specs.Chains.{first_own};
-ghost use Rattle.pc_names.specs.Faults.{field_texts};
-ghost use Rattle.pc_file_spec.specs.Members.{member_text, owned};
+ghost use Rattle.pc_members.specs.Chains.{first_own};
+ghost use Rattle.pc_members.specs.Words.{field_texts};
+ghost use Rattle.pc_members.specs.Members.{member_text};
+ghost use Rattle.pc_members.specs.Views.{member_view, members_view, table_view};
+ghost use Rattle.pc_file_spec.specs.Members.{owned};
 ghost use Rattle.pc_file_spec.specs.Signatures.{placed_of as placed_in};
 ghost use Rattle.pc_elab.specs.Outcomes as spec;
-ghost use Rattle.pc_elab.specs.Views.{member_view, members_view, parts_view, table_view};
+ghost use Rattle.pc_elab.specs.Views.{parts_view};
 
-use crate::member::Member;
 use crate::parts::{Parts, add_member};
 use crate::slots::{locals_of, placed_of};
 use pc_caps::List;
+use pc_members::Member;
 use pc_names::NameFault;
 use pc_resolve::Context;
 use pc_tree::{Entity, FieldDef};
@@ -91,7 +93,7 @@ fn add_entity(
 {
     let fields = list_field_names(alloc, entity.fields.as_slice())?;
     let methods = list_member_names(alloc, members)?;
-    context.set_members(fields, methods);
+    context.set_members(alloc, fields, methods)?;
     add_members(alloc, context, parts, number, entity, members)
 }
 

@@ -3,23 +3,24 @@ ghost use Rattle.std.specs.Prelude.{◌≡◌, slice_get, IfOk, OnOk};
 ghost use Rattle.pc_tree.specs.View.{entity_view};
 ghost use Rattle.pc_resolve.specs.Checking.{Tells};
 ghost use Rattle.pc_emit.specs.Giving.{GivesBody};
+ghost use Rattle.pc_members.specs.Views.{member_view};
 ghost use Rattle.pc_body_spec.specs.Methods.{local_names};
 ghost use Rattle.pc_file_spec.specs.Members.{owned};
 ghost use Rattle.pc_file_spec.specs.Parts.{and_member, built_in_parts as language_parts};
 ghost use Rattle.pc_file_spec.specs.Signatures as signatures;
 ghost use Rattle.pc_elab.specs.Outcomes as spec;
-ghost use Rattle.pc_elab.specs.Views.{member_view, parts_view};
+ghost use Rattle.pc_elab.specs.Views.{parts_view};
 
 use crate::language::make_print;
-use crate::member::Member;
 use crate::signature::{kind_of, params_of, receiver_of, result_of};
 use crate::slots::add_slots;
 use pc_caps::{List, Span};
 use pc_core::{Method, Node, ParamInfo, Slot};
 use pc_emit::{EmitStop, emit, emit_added};
+use pc_members::Member;
 use pc_names::{NameFault, Which};
 use pc_resolve::{BodyFault, Context, Local, check, check_added};
-use pc_tree::Entity;
+use pc_tree::{Entity, MethodWord};
 use std::alloc::{AllocError, Global};
 
 /// How many methods, slots or nodes a program may have at most. No memory holds so many.
@@ -58,7 +59,8 @@ fn name_fault(fault: BodyFault) -> NameFault
     }
 }
 
-// Whether the body of a member is without a fault.
+// Whether the body of a member is without a fault. Where there is no body, a constructor has that of its initial values.
+#[tactic(auto, using(crate::proofs::Behind::nothing_behind))]
 fn check_body(
     alloc: Global,
     context: &Context,
@@ -70,6 +72,10 @@ fn check_body(
     let fields = entity.fields.as_slice();
     match member {
         Member::Written(method) => check(alloc, context, fields, method),
+        Member::Bodiless(method) => match method.word {
+            MethodWord::New => check_added(alloc, context, fields),
+            MethodWord::Fun | MethodWord::Be => Ok(()),
+        },
         Member::Added => check_added(alloc, context, fields),
     }
 }
@@ -79,7 +85,7 @@ fn extra_slot(member: Member, locals: &[Local]) -> Option<Span>
     ensures { result ≡ spec.extra_slot (member_view member.entry) locals.now }
 {
     match member {
-        Member::Written(method) => match method.params.get(EXTRA_SLOT) {
+        Member::Written(method) | Member::Bodiless(method) => match method.params.get(EXTRA_SLOT) {
             Some(param) => Some(param.name.span),
             None => local_at(locals, EXTRA_SLOT.saturating_sub(method.params.len())),
         },
@@ -97,7 +103,7 @@ fn local_at(locals: &[Local], index: usize) -> Option<Span>
     }
 }
 
-// The nodes of a member that is this method go behind the others.
+// The nodes of a member that is this method go behind the others. A trait's method has none.
 fn put_body(
     alloc: Global,
     context: &Context,
@@ -111,6 +117,7 @@ fn put_body(
     let fields = entity.fields.as_slice();
     match member {
         Member::Written(written) => emit(alloc, context, method, nodes, fields, written),
+        Member::Bodiless(_) => Ok(None),
         Member::Added => {
             let body = emit_added(alloc, context, method, nodes, fields, entity.name.span)?;
             Ok(Some(body))

@@ -3,12 +3,12 @@ ghost use Rattle.std.specs.Prelude.{◌≡◌, map, IfOk};
 ghost use Rattle.pc_tree.specs.View.{method_view};
 ghost use Rattle.pc_core.specs.Methods as core_spec;
 ghost use Rattle.pc_file_spec.specs.Signatures as spec;
-ghost use Rattle.pc_elab.specs.Views.{member_view};
+ghost use Rattle.pc_members.specs.Views.{member_view};
 
 use crate::known::cap_or;
-use crate::member::Member;
 use pc_caps::{Cap, Form, List, plain, unalias};
 use pc_core::{MethodKind, ParamInfo};
+use pc_members::Member;
 use pc_resolve::Context;
 use pc_tree::{EntityKind, MethodDef, MethodWord, ParamDef, TypeRef};
 use std::alloc::{AllocError, Global};
@@ -59,7 +59,11 @@ pub(crate) fn params_of(
     ensures { IfOk result (λ l. l ≡ spec.params_of context.now.entities (member_view member.entry)) }
 {
     match member {
-        Member::Written(method) => list_params(alloc, context, method.params.as_slice()),
+        Member::Written(method) | Member::Bodiless(method) => list_params(
+            alloc,
+            context,
+            method.params.as_slice(),
+        ),
         Member::Added => Ok(List::new(alloc)),
     }
 }
@@ -80,7 +84,7 @@ pub(crate) fn kind_of(entity: EntityKind, member: Member) -> MethodKind
     ensures { result ≡ spec.kind_of entity (member_view member.entry) }
 {
     match member {
-        Member::Written(method) => match method.word {
+        Member::Written(method) | Member::Bodiless(method) => match method.word {
             MethodWord::Fun => MethodKind::Fun,
             MethodWord::Be => MethodKind::Be,
             MethodWord::New => constructor_kind(entity),
@@ -95,7 +99,7 @@ pub(crate) fn receiver_of(member: Member) -> Cap
     ensures { result ≡ spec.receiver_of (member_view member.entry) }
 {
     match member {
-        Member::Written(method) => match method.word {
+        Member::Written(method) | Member::Bodiless(method) => match method.word {
             MethodWord::Fun => cap_or(method.cap, Cap::Box),
             MethodWord::Be | MethodWord::New => Cap::Ref,
         },
@@ -163,7 +167,9 @@ pub(crate) fn result_of(
     ensures { result ≡ spec.result_of context.now.entities entity number (member_view member.entry) }
 {
     match member {
-        Member::Written(method) => method_result(context, entity, number, method),
+        Member::Written(method) | Member::Bodiless(method) => method_result(
+            context, entity, number, method,
+        ),
         Member::Added => object_of(entity, number, Cap::Iso),
     }
 }

@@ -3,23 +3,24 @@ ghost use Rattle.std.specs.Prelude.{◌≡◌, ◌++◌, map, IfOk, OnOk};
 ghost use Rattle.std.specs.Option.{option_copied};
 ghost use Rattle.pc_tree.specs.View.{entity_view};
 ghost use Rattle.pc_core.specs.Methods as methods;
+ghost use Rattle.pc_members.specs.Views.{member_view};
 ghost use Rattle.pc_body_spec.specs.Slots as local_specs;
 ghost use Rattle.pc_file_spec.specs.Signatures as spec;
 ghost use Rattle.pc_elab.specs.Slots as counts;
-ghost use Rattle.pc_elab.specs.Views.{member_view};
 
-use crate::member::Member;
 use crate::signature::receiver_of;
 use pc_caps::{Cap, List};
 use pc_core::{ParamInfo, Slot, SlotKind};
-use pc_resolve::{Context, Local, Placed, added_locals, locals, slots};
-use pc_tree::{Entity, TypeRef};
+use pc_members::Member;
+use pc_resolve::{Context, Local, LocalSlots, added_locals, locals, slots};
+use pc_tree::{Entity, MethodWord, TypeRef};
 use std::alloc::{AllocError, Global};
 
 /// How many slots a program may have at most. No memory holds so many.
 const MOST_SLOTS: usize = 4_294_967_295;
 
-/// The locals of a member of this entity.
+/// The locals of a member of this entity. Where there is no body, a constructor has those of its initial values.
+#[tactic(auto, using(crate::proofs::Behind::nothing_behind))]
 pub(crate) fn locals_of(
     alloc: Global,
     entity: &Entity,
@@ -29,6 +30,10 @@ pub(crate) fn locals_of(
 {
     match member {
         Member::Written(method) => locals(alloc, entity.fields.as_slice(), method),
+        Member::Bodiless(method) => match method.word {
+            MethodWord::New => added_locals(alloc, entity.fields.as_slice()),
+            MethodWord::Fun | MethodWord::Be => Ok(List::new(alloc)),
+        },
         Member::Added => added_locals(alloc, entity.fields.as_slice()),
     }
 }
@@ -38,7 +43,7 @@ fn first_local(member: Member) -> Result<u32, AllocError>
     ensures { IfOk result (λ n. n ≡ counts.first_local (member_view member.entry)) }
 {
     match member {
-        Member::Written(method) => {
+        Member::Written(method) | Member::Bodiless(method) => {
             let params = method.params.len();
             if params >= MOST_SLOTS {
                 return Err(AllocError);
@@ -54,7 +59,7 @@ pub(crate) fn placed_of(
     alloc: Global,
     member: Member,
     locals: &[Local],
-) -> Result<List<Placed>, AllocError>
+) -> Result<LocalSlots, AllocError>
     ensures { IfOk result (λ l. l ≡ local_specs.placed_from (counts.first_local (member_view member.entry)) locals.now) }
 {
     slots(alloc, first_local(member)?, locals)

@@ -4,7 +4,8 @@ ghost use Rattle.pc_tree.specs.View.{file_view};
 ghost use Rattle.pc_file_spec.specs.Known.{texts_of};
 
 use pc_caps::List;
-use pc_names::{NameTable, add_member_texts};
+use pc_members::NameTable;
+use pc_names::add_member_texts;
 use pc_resolve::add_texts;
 use pc_tree::File;
 use std::alloc::{AllocError, Global};
@@ -25,7 +26,7 @@ pub(crate) fn table_texts(alloc: Global, file: &File) -> Result<NameTable, Alloc
 }
 
 /// The texts of a table by their numbers.
-#[tactic(auto, using(crate::proofs::Firsts::get_some, crate::proofs::Firsts::get_none))]
+#[tactic(auto, using(crate::proofs::Items::get_some, crate::proofs::Items::get_none))]
 pub(crate) fn list_texts(alloc: Global, table: &NameTable) -> Result<List<List<u8>>, AllocError>
     ensures texts { IfOk result (λ l. l ≡ table.now) }
     ensures few { IfOk result (λ l. length l < 2 ^ 32) }

@@ -1,9 +1,8 @@
 -- The passes over names behind the declarations: counts of methods, `Main`, and cycles.
-use Rattle.std.proofs.Common.{◌≡◌, ℕ, zero, suc, ◌+◌, ◌<◌, List, [], ◌∷◌, ◌++◌, map, drop, length, Some, Bool, true, false, refl, sym, ap, ◌∙◌, subst, inl, inr, ⊎_elim, arith, if◌then◌else◌}
+use Rattle.std.proofs.Common.{◌≡◌, ℕ, zero, suc, ◌+◌, ◌<◌, List, [], ◌∷◌, ◌++◌, map, Some, Bool, true, false, refl, sym, ap, ◌∙◌, inl, inr, ⊎_elim, arith, if◌then◌else◌}
 use Rattle.std.specs.Prelude.{◌⊎◌, slice_get, nat_lt, codes}
 use Rattle.std.specs.Str.{bytes_eq}
 use Rattle.std.proofs.lemmas.Bool.{ltb-true}
-use Rattle.std.proofs.lemmas.List.{length-drop}
 use Rattle.std.proofs.lemmas.Option.{same_Some, none-some}
 use Rattle.pc_lists.specs.Places.{Has}
 use Rattle.pc_lists.proofs.Bools.{true_false, false_true}
@@ -11,16 +10,13 @@ use Rattle.pc_tree.specs.Tree as t
 use Rattle.pc_names.specs.declared.fault.NameFault.{NameFault}
 use Rattle.pc_names.specs.declared.fault.NameFault.TheVariants as fault
 use Rattle.pc_names.specs.declared.fault.Which.TheVariants as which
-use Rattle.pc_names.specs.Words.{Text, texts_of}
-use Rattle.pc_names.specs.Chains.{Closes, first_own}
-use Rattle.pc_names.specs.Counts.{methods_of, count_faults, method_limit}
+use Rattle.pc_members.specs.Words.{Text, texts_of}
+use Rattle.pc_names.specs.Counts.{method_count, count_faults, method_limit}
 use Rattle.pc_names.specs.Mains.{is_main, main_faults}
 use Rattle.pc_names.specs.Faults.{where_}
 use Rattle.pc_names.specs.Laws.{fault_start}
-use Rattle.pc_names.proofs.Differences.{same_text}
-use Rattle.pc_names.proofs.Ones.{one_closing}
+use Rattle.pc_members.proofs.Differences.{same_text, equal_texts}
 use Rattle.pc_body_spec.proofs.Places.{Sub, none, skip, take}
-use Rattle.pc_file_spec.proofs.Tables.{equal_texts}
 use Rattle.pc_name_laws.specs.Declared.{HasBefore}
 use Rattle.pc_name_laws.specs.Turns.{methods_to, IsCountFault, IsMainFault}
 use Rattle.pc_name_laws.proofs.Lists.{Lists, lists_none, lists_one, lists_both, lists_turned, lists_where, Tests}
@@ -29,14 +25,13 @@ use Rattle.pc_name_laws.proofs.Firsts.{Heads}
 
 -- ---- counts
 
-none_counted : (all es : List t.Entity) (ls : List (List ℕ)) → methods_to all es ls 0 ≡ 0
-none_counted all [] ls = refl
-none_counted all (e ∷ es) [] = refl
-none_counted all (e ∷ es) (l ∷ ls) = refl
+none_counted : (all es : List t.Entity) → methods_to all es 0 ≡ 0
+none_counted all [] = refl
+none_counted all (e ∷ es) = refl
 
 -- Behind n methods.
-abbrev Counted : List t.Entity → ℕ → List t.Entity → List (List ℕ) → NameFault → Type 0
-Counted all n es ls f = (i : ℕ) × (e : t.Entity) × (slice_get es i ≡ Some e) × (method_limit < n + methods_to all es ls (suc i)) × (f ≡ fault.TooMany which.Methods e.name.span)
+abbrev Counted : List t.Entity → ℕ → List t.Entity → NameFault → Type 0
+Counted all n es f = (i : ℕ) × (e : t.Entity) × (slice_get es i ≡ Some e) × (method_limit < n + methods_to all es (suc i)) × (f ≡ fault.TooMany which.Methods e.name.span)
 
 tests_less : (a b : ℕ) → Tests (nat_lt a b) (a < b)
 tests_less a b = by (nat_lt a b) refl
@@ -48,50 +43,41 @@ tests_less a b = by (nat_lt a b) refl
     by true e = ltb-true a b e
     by false e = λ l. false_true (sym e ∙ less l)
 
-pub counts_list : (all : List t.Entity) (n : ℕ) (es : List t.Entity) (ls : List (List ℕ)) → length ls ≡ length es → Lists (count_faults all n es ls) (Counted all n es ls)
-counts_list all n [] ls h = lists_turned [] (λ f. ⊥) (Counted all n [] ls) (λ f a. absurd a) (λ f a. none-some a.1 a.2) lists_none
-counts_list all n (e ∷ es) [] h = absurd (omega (arith, h))
-counts_list all n (e ∷ es) (l ∷ ls) h =
-    let m = methods_of all e l in
-    lists_turned (where_ (nat_lt method_limit (n + m)) (fault.TooMany which.Methods e.name.span) ++ count_faults all (n + m) es ls)
-    (λ f. ((f ≡ fault.TooMany which.Methods e.name.span) × (method_limit < n + m)) ⊎ Counted all (n + m) es ls f) (Counted all n (e ∷ es) (l ∷ ls)) (λ f a. ⊎_elim (here f) (later f) a) (λ f a. back f a.0 a.1 a.2 a.3 a.4)
-    (lists_both (where_ (nat_lt method_limit (n + m)) (fault.TooMany which.Methods e.name.span)) (count_faults all (n + m) es ls) (λ f. (f ≡ fault.TooMany which.Methods e.name.span) × (method_limit < n + m)) (Counted all (n + m) es ls)
-    (lists_where (nat_lt method_limit (n + m)) (fault.TooMany which.Methods e.name.span) (method_limit < n + m) (tests_less method_limit (n + m))) (counts_list all (n + m) es ls (omega (arith, h))))
+counts_list : (all : List t.Entity) (n : ℕ) (es : List t.Entity) → Lists (count_faults all n es) (Counted all n es)
+counts_list all n [] = lists_turned [] (λ f. ⊥) (Counted all n []) (λ f a. absurd a) (λ f a. none-some a.1 a.2) lists_none
+counts_list all n (e ∷ es) =
+    let m = method_count all e in
+    lists_turned (where_ (nat_lt method_limit (n + m)) (fault.TooMany which.Methods e.name.span) ++ count_faults all (n + m) es)
+    (λ f. ((f ≡ fault.TooMany which.Methods e.name.span) × (method_limit < n + m)) ⊎ Counted all (n + m) es f) (Counted all n (e ∷ es)) (λ f a. ⊎_elim (here f) (later f) a) (λ f a. back f a.0 a.1 a.2 a.3 a.4)
+    (lists_both (where_ (nat_lt method_limit (n + m)) (fault.TooMany which.Methods e.name.span)) (count_faults all (n + m) es) (λ f. (f ≡ fault.TooMany which.Methods e.name.span) × (method_limit < n + m)) (Counted all (n + m) es)
+    (lists_where (nat_lt method_limit (n + m)) (fault.TooMany which.Methods e.name.span) (method_limit < n + m) (tests_less method_limit (n + m))) (counts_list all (n + m) es))
   where
-    here : (f : NameFault) → (f ≡ fault.TooMany which.Methods e.name.span) × (method_limit < n + methods_of all e l) → Counted all n (e ∷ es) (l ∷ ls) f
-    here f a = let z = none_counted all es ls in let b = a.1 in (0, e, refl, omega (arith, z, b), a.0)
+    here : (f : NameFault) → (f ≡ fault.TooMany which.Methods e.name.span) × (method_limit < n + method_count all e) → Counted all n (e ∷ es) f
+    here f a = let z = none_counted all es in let b = a.1 in (0, e, refl, omega (arith, z, b), a.0)
 
-    later : (f : NameFault) → Counted all (n + methods_of all e l) es ls f → Counted all n (e ∷ es) (l ∷ ls) f
+    later : (f : NameFault) → Counted all (n + method_count all e) es f → Counted all n (e ∷ es) f
     later f a = let b = a.3 in (suc a.0, a.1, a.2, omega (arith, b), a.4)
 
-    back : (f : NameFault) (i : ℕ) (d : t.Entity) → slice_get (e ∷ es) i ≡ Some d → method_limit < n + methods_to all (e ∷ es) (l ∷ ls) (suc i) → f ≡ fault.TooMany which.Methods d.name.span
-        → ((f ≡ fault.TooMany which.Methods e.name.span) × (method_limit < n + methods_of all e l)) ⊎ Counted all (n + methods_of all e l) es ls f
-    back f zero d at b is = let z = none_counted all es ls in inl (is ∙ ap (λ (x : t.Entity). fault.TooMany which.Methods x.name.span) (sym (same_Some e d at)), omega (arith, z, b))
+    back : (f : NameFault) (i : ℕ) (d : t.Entity) → slice_get (e ∷ es) i ≡ Some d → method_limit < n + methods_to all (e ∷ es) (suc i) → f ≡ fault.TooMany which.Methods d.name.span
+        → ((f ≡ fault.TooMany which.Methods e.name.span) × (method_limit < n + method_count all e)) ⊎ Counted all (n + method_count all e) es f
+    back f zero d at b is = let z = none_counted all es in inl (is ∙ ap (λ (x : t.Entity). fault.TooMany which.Methods x.name.span) (sym (same_Some e d at)), omega (arith, z, b))
     back f (suc i) d at b is = inr (i, d, at, omega (arith, b), is)
 
-pub counts_at : (all : List t.Entity) (n : ℕ) (es : List t.Entity) (ls : List (List ℕ)) → Sub fault_start (count_faults all n es ls) (map entity_start es)
-counts_at all n [] ls = none
-counts_at all n (e ∷ es) [] = nothing_at_all (map entity_start (e ∷ es))
+pub counts_at : (all : List t.Entity) (n : ℕ) (es : List t.Entity) → Sub fault_start (count_faults all n es) (map entity_start es)
+counts_at all n [] = none
+counts_at all n (e ∷ es) = by (nat_lt method_limit (n + method_count all e)) (counts_at all (n + method_count all e) es)
   where
-    nothing_at_all : (ns : List ℕ) → Sub fault_start [] ns
-    nothing_at_all [] = none
-    nothing_at_all (k ∷ ns) = skip [] k ns (nothing_at_all ns)
-counts_at all n (e ∷ es) (l ∷ ls) = by (nat_lt method_limit (n + methods_of all e l)) (counts_at all (n + methods_of all e l) es ls)
-  where
-    by : (b : Bool) → Sub fault_start (count_faults all (n + methods_of all e l) es ls) (map entity_start es) → Sub fault_start (where_ b (fault.TooMany which.Methods e.name.span) ++ count_faults all (n + methods_of all e l) es ls) (map entity_start (e ∷ es))
-    by true s = take (fault.TooMany which.Methods e.name.span) (count_faults all (n + methods_of all e l) es ls) (map entity_start es) s
-    by false s = skip (count_faults all (n + methods_of all e l) es ls) (entity_start e) (map entity_start es) s
+    by : (b : Bool) → Sub fault_start (count_faults all (n + method_count all e) es) (map entity_start es) → Sub fault_start (where_ b (fault.TooMany which.Methods e.name.span) ++ count_faults all (n + method_count all e) es) (map entity_start (e ∷ es))
+    by true s = take (fault.TooMany which.Methods e.name.span) (count_faults all (n + method_count all e) es) (map entity_start es) s
+    by false s = skip (count_faults all (n + method_count all e) es) (entity_start e) (map entity_start es) s
 
--- In a file with these lists above its entities.
-pub file_counts : (file : t.File) (above : List (List ℕ)) → Closes file above → Lists (count_faults file.entities 0 file.entities (drop first_own above)) (IsCountFault file)
-file_counts file above c =
-    let own = drop first_own above in
+pub file_counts : (file : t.File) → Lists (count_faults file.entities 0 file.entities) (IsCountFault file)
+file_counts file =
     let es = file.entities in
-    let many : length own ≡ length es = (let a = length-drop first_own above in let b = c.0 in omega (arith, a, b)) in
-    lists_turned (count_faults es 0 es own) (Counted es 0 es own) (IsCountFault file)
-    (λ f a. let b = a.3 in (above, a.0, a.1, c, a.2, omega (arith, b), a.4))
-    (λ f a. let b : 10000 < methods_to es es own (suc a.1) = subst (λ ls. 10000 < methods_to es es (drop first_own ls) (suc a.1)) (one_closing file a.0 above a.3 c) a.5 in (a.1, a.2, a.4, omega (arith, b), a.6))
-    (counts_list es 0 es own many)
+    lists_turned (count_faults es 0 es) (Counted es 0 es) (IsCountFault file)
+    (λ f a. let b = a.3 in (a.0, a.1, a.2, omega (arith, b), a.4))
+    (λ f a. let b = a.3 in (a.0, a.1, a.2, omega (arith, b), a.4))
+    (counts_list es 0 es)
 
 -- ---- Main
 

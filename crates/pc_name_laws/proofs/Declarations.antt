@@ -16,11 +16,12 @@ use Rattle.pc_tree.specs.Tree as t
 use Rattle.pc_names.specs.declared.fault.NameFault.{NameFault}
 use Rattle.pc_names.specs.declared.fault.NameFault.TheVariants as fault
 use Rattle.pc_names.specs.declared.fault.Which.TheVariants as which
-use Rattle.pc_names.specs.Words.{Text, is_among, built_in_names, entity_names, texts_of, has_added}
-use Rattle.pc_names.specs.Tables.{with_name, with_traits, trait_names}
+use Rattle.pc_members.specs.Words.{Text, is_among, built_in_names, entity_names, texts_of, has_added}
+use Rattle.pc_members.specs.Tables.{with_name, with_traits, trait_names}
 use Rattle.pc_names.specs.Faults as spec
-use Rattle.pc_names.specs.Faults.{where_, either, field_texts, method_texts}
-use Rattle.pc_file_spec.proofs.Origins.{is_trait_named}
+use Rattle.pc_names.specs.Faults.{where_, either}
+use Rattle.pc_members.specs.Words.{field_texts, method_texts}
+use Rattle.pc_members.proofs.Named.{is_trait_named}
 use Rattle.pc_file_spec.proofs.Tables.{names_there, names_kept}
 use Rattle.pc_name_laws.specs.Uses.{param_texts}
 use Rattle.pc_name_laws.specs.Declared as law

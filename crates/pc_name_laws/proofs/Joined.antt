@@ -14,10 +14,10 @@ use Rattle.pc_core.specs.CoreData.{CoreData}
 use Rattle.pc_names.specs.declared.fault.NameFault.{NameFault}
 use Rattle.pc_names.specs.declared.fault.NameFault.TheVariants as fault
 use Rattle.pc_names.specs.declared.fault.Which.TheVariants as which
-use Rattle.pc_names.specs.Words.{built_in_names, entity_names}
+use Rattle.pc_members.specs.Words.{built_in_names, entity_names}
 use Rattle.pc_names.specs.Faults.{where_, entity_name_faults, declaration_faults}
-use Rattle.pc_names.specs.Reach.{above_all, has}
-use Rattle.pc_names.specs.Chains.{Closes, first_own, edges_of}
+use Rattle.pc_members.specs.Reach.{above_all, has}
+use Rattle.pc_members.specs.Chains.{Closes, first_own, edges_of}
 use Rattle.pc_names.specs.Cycles.{cycle_faults}
 use Rattle.pc_names.specs.Counts.{count_faults}
 use Rattle.pc_names.specs.Mains.{main_faults}
@@ -25,17 +25,19 @@ use Rattle.pc_names.specs.Texts.{other_texts}
 use Rattle.pc_names.specs.Names.{NamesData, Collected, name_faults, above_faults}
 use Rattle.pc_names.specs.Laws.{OfFile, fault_start}
 use Rattle.pc_names.proofs.Ones.{first_is}
-use Rattle.pc_names.proofs.Closings.{closes}
-use Rattle.pc_names.proofs.Differences.{other_texts_differ}
+use Rattle.pc_members.proofs.Closings.{closes}
+use Rattle.pc_names.proofs.OtherTexts.{other_texts_differ}
 use Rattle.pc_body_spec.specs.Roses.{node_limit}
 use Rattle.pc_body_spec.specs.Faults.{Fault, unknown, double, long_text}
 use Rattle.pc_body_spec.specs.Places as body_places
-use Rattle.pc_file_spec.specs.Members.{Member, written, added, Owned, member_span}
+use Rattle.pc_members.specs.Members.{Member, written, added, member_span}
+use Rattle.pc_file_spec.specs.Members.{Owned}
 use Rattle.pc_file_spec.specs.Signatures.{context_of}
 use Rattle.pc_file_spec.specs.Parts.{Parts, body_fault, built_in_parts, and_members, parts_of, if_ok}
 use Rattle.pc_file_spec.specs.Cores.{core_of, core_with}
 use Rattle.pc_file_spec.proofs.Collects.{Collects, collects}
 use Rattle.pc_file_spec.proofs.Origins.{sort_of}
+use Rattle.pc_file_spec.proofs.Declared.{member_order}
 use Rattle.pc_file_spec.proofs.Owners.{owner_of}
 use Rattle.pc_file_spec.proofs.Steps.{member_faults, member_names}
 use Rattle.pc_file_spec.proofs.Parts.{all_at, first_good}
@@ -53,7 +55,7 @@ use Rattle.pc_name_laws.proofs.Walks.{member_tells}
 use Rattle.pc_name_laws.proofs.Firsts.{Least, Heads, heads_either, heads_first, none_has, has_head}
 use Rattle.pc_name_laws.proofs.Sizes.{nodes_next, nodes_grow}
 use Rattle.pc_name_laws.proofs.Members.{Stop, stop, StopsAt, at_body, at_slot, at_nodes, stops_at, all_nodes, failed}
-use Rattle.pc_name_laws.proofs.Orderings.{member_least, member_orders}
+use Rattle.pc_name_laws.proofs.Orderings.{member_least}
 use Rattle.pc_name_laws.proofs.Told.{Nothing, Told, Clear, clear_before, no_names, no_declared, no_cycles, no_counts, no_main, told_name, told_declaration, told_cycle, told_count, told_main, declared_by}
 
 -- ---- the passes over names
@@ -77,7 +79,7 @@ module _ (file : t.File) (above : List (List ℕ)) (c : Closes file above) where
   Third = cycle_faults first_own file.entities lists
 
   abbrev Fourth : List NameFault
-  Fourth = count_faults file.entities 0 file.entities lists
+  Fourth = count_faults file.entities 0 file.entities
 
   abbrev Fifth : List NameFault
   Fifth = main_faults file.entities
@@ -105,7 +107,7 @@ module _ (file : t.File) (above : List (List ℕ)) (c : Closes file above) where
     names = λ l. no_names file a;
     declared = λ l. no_declared file b;
     cycles = λ l. no_cycles file above c d;
-    counts = λ l. no_counts file above c e;
+    counts = λ l. no_counts file e;
     main = λ l. absurd (omega (arith, l));
   }
 
@@ -118,7 +120,7 @@ module _ (file : t.File) (above : List (List ℕ)) (c : Closes file above) where
         names = λ l. no_names file (none_left First (declaration_faults file ++ above_faults file.entities lists) h);
         declared = λ l. no_declared file (none_left (declaration_faults file) (above_faults file.entities lists) h1);
         cycles = λ l. no_cycles file above c (none_left Third (Fourth ++ Fifth) h2);
-        counts = λ l. no_counts file above c (none_left Fourth Fifth h3);
+        counts = λ l. no_counts file (none_left Fourth Fifth h3);
         main = λ l. no_main file (none_right Fourth Fifth h3);
       }
 
@@ -130,7 +132,7 @@ module _ (file : t.File) (above : List (List ℕ)) (c : Closes file above) where
       | inr b ↦ elim (heads_either Third (Fourth ++ Fifth) f b.1) [
         | inl d ↦ told_cycle file above f real c (clear_two a.0 b.0) d
         | inr d ↦ elim (heads_either Fourth Fifth f d.1) [
-          | inl e ↦ told_count file above f c (clear_three a.0 b.0 d.0) e
+          | inl e ↦ told_count file f (clear_three a.0 b.0 d.0) e
           | inr e ↦ told_main file f (clear_four a.0 b.0 d.0 e.0) e.1
         ]
       ]
@@ -249,7 +251,7 @@ module _ (file : t.File) (clear : Clear file 5) (collected : (above : List (List
       within s h at =
           let owner = owner_of file.entities file.entities first_own k o is in
           let entity : Has file.entities o.owner = (owner.entity, owner.is_owner) in
-          let order = member_orders file o.owner o.member (in_order file bodies_ascend s) (in_place file s) entity (sort_of file collected.0 o.owner o.member collected.1 entity (owner.place, owner.is_member)) in
+          let order = member_order file o.owner o.member (in_order file bodies_ascend s) (in_place file s) entity (sort_of file collected.0 o.owner o.member collected.1 entity (owner.place, owner.is_member)) in
           let there = ((member_tells (context_of file o) o.owner o.member).just at.1).1 (subst (λ (x : Owned). IsBodyFault (context_of file x) x.owner x.member at.1) (same_place file k o at.0 is at.2) at.3) in
           let first : fault_start f ≡ body_places.fault_start g = ap fault_start same ∙ body_start g in
           let other : fault_start h ≡ body_places.fault_start at.1 = ap fault_start at.4 ∙ body_start at.1 in
@@ -359,7 +361,7 @@ pub real_at : (file : t.File) (u : Turn) (f : NameFault) → At file u f → IsR
 real_at file all_names f at = real_entity file f at
 real_at file declarations f at = real_declaration file at.0 f at.2
 real_at file cycles f at = subst IsReal (sym at.4) tt
-real_at file method_counts f at = subst IsReal (sym at.6) tt
+real_at file method_counts f at = subst IsReal (sym at.4) tt
 real_at file main f at = real_main file f at
 real_at file (body k) f at = subst IsReal (sym at.4) (real_body at.1)
 real_at file (slots k) f at = subst IsReal (sym at.4) tt
@@ -380,18 +382,18 @@ real_declared file f h =
     let r = declared_by file f h in
     real_declaration file r.0 f r.1
 
-real_heads : (file : t.File) (above : List (List ℕ)) → Closes file above → (f : NameFault) → Heads (name_faults file above) f → IsReal f
-real_heads file above c f h =
+real_heads : (file : t.File) (above : List (List ℕ)) (f : NameFault) → Heads (name_faults file above) f → IsReal f
+real_heads file above f h =
     let own = drop first_own above in
     let es = file.entities in
     elim (heads_either (entity_name_faults built_in_names es) (declaration_faults file ++ above_faults es own) f h) [
       | inl a ↦ real_entity file f ((entities_list file f).0 (has_head (entity_name_faults built_in_names es) f a))
       | inr a ↦ elim (heads_either (declaration_faults file) (above_faults es own) f a.1) [
         | inl b ↦ real_declared file f b
-        | inr b ↦ elim (heads_either (cycle_faults first_own es own) (count_faults es 0 es own ++ main_faults es) f b.1) [
+        | inr b ↦ elim (heads_either (cycle_faults first_own es own) (count_faults es 0 es ++ main_faults es) f b.1) [
           | inl d ↦ real_cycles first_own es own f d
-          | inr d ↦ elim (heads_either (count_faults es 0 es own) (main_faults es) f d.1) [
-            | inl e ↦ real_at file method_counts f ((file_counts file above c f).0 (has_head (count_faults es 0 es own) f e))
+          | inr d ↦ elim (heads_either (count_faults es 0 es) (main_faults es) f d.1) [
+            | inl e ↦ real_at file method_counts f ((file_counts file f).0 (has_head (count_faults es 0 es) f e))
             | inr e ↦ real_main file f ((file_mains file f).0 (has_head (main_faults es) f e.1))
           ]
         ]
@@ -435,4 +437,4 @@ fault_is_told file u g at = by (name_faults file (above_all (edges_of file))) re
     by [] e = elab e (parts_of file) refl
     by (f ∷ fs) e =
         let h : Heads (name_faults file (above_all (edges_of file))) f = ap (λ l. slice_get l 0) e in
-        (f, (real_of f (real_heads file (above_all (edges_of file)) (closes file) f h), inl (above_all (edges_of file), closes file, heads_first f (name_faults file (above_all (edges_of file))) h)))
+        (f, (real_of f (real_heads file (above_all (edges_of file)) f h), inl (above_all (edges_of file), closes file, heads_first f (name_faults file (above_all (edges_of file))) h)))

@@ -7,9 +7,9 @@ use Rattle.pc_lists.proofs.Bools.{true_false}
 use Rattle.pc_lists.proofs.Elements.{has_front, has_behind, has_either}
 use Rattle.pc_lists.proofs.Gets.{get_take, take_get}
 use Rattle.pc_names.specs.declared.fault.NameFault.{NameFault}
-use Rattle.pc_names.specs.Words.{Text, is_among}
+use Rattle.pc_members.specs.Words.{Text, is_among}
 use Rattle.pc_names.specs.Faults.{where_, either}
-use Rattle.pc_file_spec.proofs.Tables.{among_has, has_among}
+use Rattle.pc_members.proofs.Differences.{among_has, has_among}
 use Rattle.pc_name_laws.specs.Declared.{HasBefore}
 
 abbrev pub Lists : List NameFault → (NameFault → Type 0) → Type 0

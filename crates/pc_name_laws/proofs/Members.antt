@@ -13,7 +13,8 @@ use Rattle.pc_body_spec.specs.Roses.{Rose, Numbered, node_limit, put}
 use Rattle.pc_body_spec.specs.Scopes.{Context}
 use Rattle.pc_body_spec.specs.Faults.{Fault}
 use Rattle.pc_body_spec.specs.Methods.{Outcome, unless_fault, unless_name, unless_full, numbered, put_body}
-use Rattle.pc_file_spec.specs.Members.{Member, written, added, Owned, member_span}
+use Rattle.pc_members.specs.Members.{Member, written, added, member_span}
+use Rattle.pc_file_spec.specs.Members.{Owned}
 use Rattle.pc_file_spec.specs.Signatures.{context_of}
 use Rattle.pc_file_spec.specs.Parts.{Parts, body_fault, outcome, joined, with_outcome, and_member, and_members, if_ok}
 use Rattle.pc_file_spec.proofs.Steps.{member_faults, member_names, member_rose, Made, Ends}

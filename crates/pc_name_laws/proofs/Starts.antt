@@ -8,7 +8,7 @@ use Rattle.pc_tree.specs.Tree as t
 use Rattle.pc_names.specs.declared.fault.NameFault.{NameFault}
 use Rattle.pc_names.specs.declared.fault.NameFault.TheVariants as fault
 use Rattle.pc_names.specs.declared.fault.Which.TheVariants as which
-use Rattle.pc_names.specs.Words.{Text, is_among, has_added}
+use Rattle.pc_members.specs.Words.{Text, is_among, has_added, field_texts}
 use Rattle.pc_names.specs.Faults as spec
 use Rattle.pc_names.specs.Faults.{where_, either}
 use Rattle.pc_names.specs.Laws.{fault_start, start_of, result_places, field_places, param_places, method_places, places}
@@ -75,4 +75,4 @@ entity_at entities traits e = whole.sub
     whole : Stand (spec.entity_faults entities traits e) (places e)
     whole =
         join (where_at (has_added e && spec.is_taken (codes "create") e) (fault.Double e.name.span))
-        (join (provided_at traits [] e.provides) (join (field_at entities [] e.fields) (method_at entities (spec.field_texts e.fields) [] e.methods)))
+        (join (provided_at traits [] e.provides) (join (field_at entities [] e.fields) (method_at entities (field_texts e.fields) [] e.methods)))

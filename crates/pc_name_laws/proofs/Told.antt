@@ -9,17 +9,17 @@ use Rattle.pc_lists.proofs.Gets.{get_map, map_get}
 use Rattle.pc_tree.specs.Tree as t
 use Rattle.pc_names.specs.declared.fault.NameFault.{NameFault}
 use Rattle.pc_names.specs.declared.fault.NameFault.TheVariants as fault
-use Rattle.pc_names.specs.Words.{Text, built_in_names, entity_names}
-use Rattle.pc_names.specs.Tables.{trait_names}
+use Rattle.pc_members.specs.Words.{Text, built_in_names, entity_names}
+use Rattle.pc_members.specs.Tables.{trait_names}
 use Rattle.pc_names.specs.Faults.{entity_faults, entities_faults, entity_name_faults, declaration_faults}
-use Rattle.pc_names.specs.Chains as chains
-use Rattle.pc_names.specs.Chains.{Closes, first_own}
+use Rattle.pc_members.specs.Chains as chains
+use Rattle.pc_members.specs.Chains.{Closes, first_own}
 use Rattle.pc_names.specs.Cycles.{cycle_faults}
 use Rattle.pc_names.specs.Counts.{count_faults}
 use Rattle.pc_names.specs.Mains.{main_faults}
 use Rattle.pc_names.specs.Laws.{OfFile, fault_start, places}
 use Rattle.pc_names.proofs.CycleFirsts.{cycle_is_first, no_cycle}
-use Rattle.pc_names.proofs.Closings.{no_entity}
+use Rattle.pc_members.proofs.Closings.{no_entity}
 use Rattle.pc_order.proofs.Declarations.{declarations_ascend}
 use Rattle.pc_elab.specs.Cores.{Spelled}
 use Rattle.pc_name_laws.specs.Declared.{IsDeclarationFault}
@@ -206,17 +206,17 @@ told_cycle file above f real c clear h =
 
 -- ---- counts, and Main
 
-pub no_counts : (file : t.File) (above : List (List ℕ)) → Closes file above → count_faults file.entities 0 file.entities (drop first_own above) ≡ [] → Nothing file method_counts
-no_counts file above c none g at = none_has (count_faults file.entities 0 file.entities (drop first_own above)) g none ((file_counts file above c g).1 at)
+pub no_counts : (file : t.File) → count_faults file.entities 0 file.entities ≡ [] → Nothing file method_counts
+no_counts file none g at = none_has (count_faults file.entities 0 file.entities) g none ((file_counts file g).1 at)
 
-pub told_count : (file : t.File) (above : List (List ℕ)) (f : NameFault) → Closes file above → Clear file 3 → Heads (count_faults file.entities 0 file.entities (drop first_own above)) f → Told file f
-told_count file above f c clear h =
-    let faults = count_faults file.entities 0 file.entities (drop first_own above) in
+pub told_count : (file : t.File) (f : NameFault) → Clear file 3 → Heads (count_faults file.entities 0 file.entities) f → Told file f
+told_count file f clear h =
+    let faults = count_faults file.entities 0 file.entities in
     record {
       turn = method_counts;
-      at = (file_counts file above c f).0 (has_head faults f h);
+      at = (file_counts file f).0 (has_head faults f h);
       before = before_pass file method_counts (omega arith) refl clear;
-      within = λ s g at. least_of fault_start faults (map entity_start file.entities) (counts_at file.entities 0 file.entities (drop first_own above)) (names_ascend file s.0 s.1 s.2) f g h ((file_counts file above c g).1 at);
+      within = λ s g at. least_of fault_start faults (map entity_start file.entities) (counts_at file.entities 0 file.entities) (names_ascend file s.0 s.1 s.2) f g h ((file_counts file g).1 at);
     }
 
 pub no_main : (file : t.File) → main_faults file.entities ≡ [] → Nothing file main

@@ -93,7 +93,7 @@ missing_at : (file : t.File) (u : Turn) (s : Span) → At file u (fault.Unknown 
 missing_at file entity_names s at = other_fault (fault.Unknown s) s (entity_known file (fault.Unknown s) at) refl
 missing_at file declarations s at = let r = declared_missing file at.0 (fault.Unknown s) s at.2 refl in (at.0, r.0, at.1, r.1, r.2)
 missing_at file cycles s at = other_fault (fault.Cycle at.1.name.span) s refl at.4
-missing_at file method_counts s at = none-some s (sym (ap unknown_at at.6))
+missing_at file method_counts s at = none-some s (sym (ap unknown_at at.4))
 missing_at file main s at = other_fault (fault.Unknown s) s (main_known file (fault.Unknown s) at) refl
 missing_at file (body k) s at =
     let is : lost_at at.1 ≡ Some s = sym (lost_is at.1) ∙ sym (ap unknown_at at.4) in

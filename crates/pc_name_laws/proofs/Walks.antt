@@ -15,7 +15,7 @@ use Rattle.pc_body_spec.specs.Bodies.{initial_fields}
 use Rattle.pc_body_spec.specs.Expressions.{Start, with_method, with_type, with_value, start_of}
 use Rattle.pc_body_spec.specs.Faults.{Fault, double, when, is_taken, written_faults, Next, end, next_of, start_faults, faults_of, exprs_faults, suffixes_faults, arms_faults, arm_faults, other_faults, seq_faults, items_faults, item_faults, value_faults, initial_faults, written_body_faults}
 use Rattle.pc_body_spec.specs.Places.{written_places, places, exprs_places, suffixes_places, arm_places, arms_places, other_places, seq_places, items_places, item_places, value_places, initial_places, written_body_places, body_places}
-use Rattle.pc_file_spec.specs.Members.{Member, written, added}
+use Rattle.pc_members.specs.Members.{Member, written, added}
 use Rattle.pc_file_spec.proofs.Steps.{member_faults}
 use Rattle.pc_name_laws.specs.Uses as u
 use Rattle.pc_name_laws.specs.Uses.{Spot, Here, BehindDot, TypeIn, type_name_of, visible_after, In, InExprs, InSuffixes, InArm, InArms, InOther, InSeq, InItems, InItem, InValue, InInitials, InBody, InMember, param_texts}

@@ -1,5 +1,5 @@
 -- Which fault of a file is told.
-use Rattle.std.specs.Prelude.{◌≡◌, ◌⊎◌, ◌↔◌, ℕ, List, drop, slice_get, Some}
+use Rattle.std.specs.Prelude.{◌≡◌, ◌⊎◌, ◌↔◌, ℕ, List, slice_get, Some}
 use Rattle.pc_lists.specs.Places.{Has, Ascends}
 use Rattle.pc_caps.specs.declared.span.Span.{Span}
 use Rattle.pc_tree.specs.declared.names.Name.{Name}
@@ -10,17 +10,17 @@ use Rattle.pc_grammar.specs.SpellsFile.{SpellsFile}
 use Rattle.pc_order.specs.Laws.{starts}
 use Rattle.pc_names.specs.declared.fault.NameFault.{NameFault}
 use Rattle.pc_names.specs.declared.fault.NameFault.TheVariants as fault
-use Rattle.pc_names.specs.Words.{built_in_names, entity_names as entity_names_of}
-use Rattle.pc_names.specs.Tables.{trait_names}
+use Rattle.pc_members.specs.Words.{built_in_names, entity_names as entity_names_of}
+use Rattle.pc_members.specs.Tables.{trait_names}
 use Rattle.pc_names.specs.Faults.{entity_name_faults, entity_faults}
-use Rattle.pc_names.specs.Chains.{Closes, first_own}
 use Rattle.pc_names.specs.Counts.{count_faults}
 use Rattle.pc_names.specs.Mains.{main_faults}
 use Rattle.pc_names.specs.Names.{IsNameFault}
 use Rattle.pc_names.specs.Laws.{OfFile}
 use Rattle.pc_body_spec.specs.Scopes.{Context}
 use Rattle.pc_body_spec.specs.Faults.{Fault, body_faults, initial_faults}
-use Rattle.pc_file_spec.specs.Members.{Owned, written, added}
+use Rattle.pc_members.specs.Members.{written, added}
+use Rattle.pc_file_spec.specs.Members.{Owned}
 use Rattle.pc_file_spec.specs.Signatures.{context_of}
 use Rattle.pc_file_spec.specs.Cores.{IsElabFault}
 use Rattle.pc_name_laws.specs.Uses.{Spot, InMember}
@@ -39,8 +39,7 @@ abbrev pub DeclarationsAreListed : Type 0
 DeclarationsAreListed = (file : t.File) (e : t.Entity) (f : NameFault) → Has (entity_faults (entity_names_of file) (trait_names file.entities) e) f ↔ IsDeclarationFault file e f
 
 abbrev pub CountsAreListed : Type 0
-CountsAreListed =
-    (file : t.File) (above : List (List ℕ)) (f : NameFault) → Closes file above → Has (count_faults file.entities 0 file.entities (drop first_own above)) f ↔ IsCountFault file f
+CountsAreListed = (file : t.File) (f : NameFault) → Has (count_faults file.entities 0 file.entities) f ↔ IsCountFault file f
 
 abbrev pub MainsAreListed : Type 0
 MainsAreListed = (file : t.File) (f : NameFault) → Has (main_faults file.entities) f ↔ IsMainFault file f

@@ -5,10 +5,10 @@ use Rattle.pc_lists.specs.Places.{Has}
 use Rattle.pc_caps.specs.declared.span.Span.{Span}
 use Rattle.pc_tree.specs.declared.kinds.EntityKind.TheVariants as kind
 use Rattle.pc_tree.specs.Tree as t
-use Rattle.pc_names.specs.Words.{Text}
+use Rattle.pc_members.specs.Words.{Text}
 use Rattle.pc_body_spec.specs.Scopes.{Context, Known, Constructor}
 use Rattle.pc_body_spec.specs.Faults.{Fault, unknown, double, long_text, arguments, name}
-use Rattle.pc_file_spec.specs.Members.{Member}
+use Rattle.pc_members.specs.Members.{Member}
 use Rattle.pc_name_laws.specs.Uses.{Use, bare, consumed, type_value, member_of, local, local_type, literal, Spot, InMember}
 
 -- ---- what type names mean

@@ -1,15 +1,15 @@
 -- In which turn each fault of a file is looked for. There are five passes over its names, and then its members have their turns: the
 -- body of a member, its slots, and its nodes.
-use Rattle.std.specs.Prelude.{◌≡◌, ◌⊎◌, ℕ, suc, ◌+◌, ◌*◌, ◌<◌, ◌≤◌, false, List, [], ◌∷◌, take, drop, Option, Some, None, slice_get, codes}
+use Rattle.std.specs.Prelude.{◌≡◌, ◌⊎◌, ℕ, suc, ◌+◌, ◌*◌, ◌<◌, ◌≤◌, false, List, [], ◌∷◌, take, Option, Some, None, slice_get, codes}
 use Rattle.pc_lists.specs.Places.{Has}
 use Rattle.pc_tree.specs.declared.names.Name.{Name}
 use Rattle.pc_tree.specs.Tree as t
 use Rattle.pc_names.specs.declared.fault.NameFault.{NameFault}
 use Rattle.pc_names.specs.declared.fault.NameFault.TheVariants as fault
 use Rattle.pc_names.specs.declared.fault.Which.TheVariants as which
-use Rattle.pc_names.specs.Words.{texts_of}
-use Rattle.pc_names.specs.Chains.{Closes, InCycle, entity_at, first_own}
-use Rattle.pc_names.specs.Counts.{methods_of}
+use Rattle.pc_members.specs.Words.{texts_of}
+use Rattle.pc_members.specs.Chains.{InCycle, entity_at, first_own}
+use Rattle.pc_names.specs.Counts.{method_count}
 use Rattle.pc_names.specs.Mains.{is_main}
 use Rattle.pc_names.specs.Laws.{fault_start}
 use Rattle.pc_body_spec.specs.Roses.{Rose, Roses, rose, no_roses, more}
@@ -18,7 +18,8 @@ use Rattle.pc_body_spec.specs.Bodies.{body_of, added_body}
 use Rattle.pc_body_spec.specs.Slots.{initial_locals}
 use Rattle.pc_body_spec.specs.Methods.{slot_names, local_names}
 use Rattle.pc_body_spec.specs.Faults.{Fault}
-use Rattle.pc_file_spec.specs.Members.{Member, written, added, member_span, Owned, members_from}
+use Rattle.pc_members.specs.Members.{Member, written, added, member_span}
+use Rattle.pc_file_spec.specs.Members.{Owned, members_from}
 use Rattle.pc_file_spec.specs.Signatures.{context_of}
 use Rattle.pc_file_spec.specs.Parts.{body_fault}
 use Rattle.pc_name_laws.specs.Missing.{IsBodyFault}
@@ -67,16 +68,14 @@ Earlier a b = (pass a < pass b) ⊎ ((pass a ≡ pass b) × (part a < part b))
 abbrev pub IsCycleFault : t.File → NameFault → Type 0
 IsCycleFault file f = (a : ℕ) × (e : t.Entity) × InCycle file a × entity_at file a e × (f ≡ fault.Cycle e.name.span)
 
--- How many methods the first k of these entities have, where these are the entities above each. The first argument are all entities.
-abbrev pub methods_to : List t.Entity → List t.Entity → List (List ℕ) → ℕ → ℕ
-methods_to all (e ∷ es) (above ∷ lists) (suc k) = methods_of all e above + methods_to all es lists k
-methods_to all es lists k = 0
+-- How many methods the first k of these entities have. The first argument are all entities.
+abbrev pub methods_to : List t.Entity → List t.Entity → ℕ → ℕ
+methods_to all (e ∷ es) (suc k) = method_count all e + methods_to all es k
+methods_to all es k = 0
 
 -- An entity up to which the file has more than 10,000 methods.
 abbrev pub IsCountFault : t.File → NameFault → Type 0
-IsCountFault file f =
-    (above : List (List ℕ)) × (i : ℕ) × (e : t.Entity) × Closes file above × (slice_get file.entities i ≡ Some e)
-    × (10000 < methods_to file.entities file.entities (drop first_own above) (suc i)) × (f ≡ fault.TooMany which.Methods e.name.span)
+IsCountFault file f = (i : ℕ) × (e : t.Entity) × (slice_get file.entities i ≡ Some e) × (10000 < methods_to file.entities file.entities (suc i)) × (f ≡ fault.TooMany which.Methods e.name.span)
 
 -- No entity is called `Main`; or the first that is so called is no actor, or has no constructor `create` with exactly one parameter, of
 -- `Env val`.

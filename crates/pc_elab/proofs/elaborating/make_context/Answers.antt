@@ -1,10 +1,10 @@
 use Rattle.std.proofs.Common.{◌<◌, ◌^◌, ◌++◌, ◌∙◌, List, sym, ap, subst, length, map}
 use Rattle.pc_tree.specs.View.{entity_view, file_view}
 use Rattle.pc_body_spec.specs.Scopes.{Context, Known}
-use Rattle.pc_file_spec.specs.Known.{built_in_known}
+use Rattle.pc_file_spec.specs.Known.{built_in_known, known_of}
 use Rattle.pc_elab.specs.Rows.{known_rows}
-use Rattle.pc_elab.specs.Views.{table_view}
-use Rattle.pc_elab.proofs.Wholes.{as_many, few_known, known_all}
+use Rattle.pc_members.specs.Views.{table_view}
+use Rattle.pc_elab.proofs.Wholes.{as_many, few_known, known_all, ok_part}
 use Rattle.pc_elab.proofs.elaborating.make_context.Goals as goal
 
 pub list_known-requires : goal.list_known-requires
@@ -18,5 +18,6 @@ new-requires-4 c =
 
 pub returns-clause-entities : goal.returns-clause-entities
 returns-clause-entities c =
-    ap (λ (x : Context). x.entities) c.new-4.ensures
-    ∙ (c.in_ok-entities.ensures ∙ ap (λ es. built_in_known ++ known_rows 1 (map entity_view es) (table_view c.args.table.now)) c.as_slice.ensures ∙ known_all (file_view c.args.file.now) (table_view c.args.table.now) c.requires.members)
+    ok_part (λ (x : Context). x.entities) c.new-4.result _ (known_of (file_view c.args.file.now))
+    (c.in_ok-entities.ensures ∙ ap (λ es. built_in_known ++ known_rows 1 (map entity_view es) (table_view c.args.table.now)) c.as_slice.ensures ∙ known_all (file_view c.args.file.now) (table_view c.args.table.now) c.requires.members)
+    c.new-4.ensures

@@ -1,6 +1,6 @@
 use Rattle.std.proofs.Common.{◌≡◌, ◌++◌, ◌+◌, drop}
 use Rattle.pc_file_spec.specs.Known.{constructors_from}
-use Rattle.pc_elab.specs.Views.{members_view}
+use Rattle.pc_members.specs.Views.{members_view}
 use Rattle.pc_elab.proofs.known.list_constructors.Given as goal
 
 abbrev pub invariant-loop-member : goal.invariant-loop-member

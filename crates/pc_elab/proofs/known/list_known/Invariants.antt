@@ -2,7 +2,7 @@ use Rattle.std.proofs.Common.{◌≡◌, ◌++◌, drop, map}
 use Rattle.pc_tree.specs.View.{entity_view}
 use Rattle.pc_file_spec.specs.Known.{built_in_known}
 use Rattle.pc_elab.specs.Rows.{known_rows}
-use Rattle.pc_elab.specs.Views.{table_view}
+use Rattle.pc_members.specs.Views.{table_view}
 use Rattle.pc_elab.proofs.known.list_known.Given as goal
 
 abbrev pub invariant-loop-at : goal.invariant-loop-at

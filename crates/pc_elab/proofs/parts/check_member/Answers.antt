@@ -3,7 +3,7 @@ use Rattle.pc_tree.specs.View.{entity_view}
 use Rattle.pc_names.specs.declared.fault.NameFault.{NameFault}
 use Rattle.pc_body_spec.specs.Methods.{slots_full}
 use Rattle.pc_elab.specs.Outcomes as spec
-use Rattle.pc_elab.specs.Views.{member_view}
+use Rattle.pc_members.specs.Views.{member_view}
 use Rattle.pc_elab.proofs.Outcomes.{fault_passes, slot_first}
 use Rattle.pc_elab.proofs.parts.check_member.Goals as goal
 

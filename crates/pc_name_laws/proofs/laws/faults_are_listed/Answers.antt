@@ -1,4 +1,4 @@
-use Rattle.pc_file_spec.specs.Members.{written, added}
+use Rattle.pc_members.specs.Members.{written, added}
 use Rattle.pc_name_laws.proofs.Counting.{file_counts, file_mains}
 use Rattle.pc_name_laws.proofs.Declarations.{entities_list, entity_lists}
 use Rattle.pc_name_laws.proofs.Walks.{member_tells}
@@ -8,7 +8,7 @@ pub returns : goal.returns
 returns c = record {
   entities = entities_list;
   declarations = entity_lists;
-  counts = λ file above f closed. file_counts file above closed f;
+  counts = file_counts;
   mains = file_mains;
   bodies = λ context e m f. (member_tells context e (written m)).just f;
   added = λ context e f. (member_tells context e added).just f;

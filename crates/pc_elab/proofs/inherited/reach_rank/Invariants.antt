@@ -1,7 +1,0 @@
-use Rattle.pc_tree.specs.View.{file_view}
-use Rattle.pc_elab.specs.Rounds.{Knows}
-use Rattle.pc_elab.specs.Views.{table_view}
-use Rattle.pc_elab.proofs.inherited.reach_rank.Given as goal
-
-abbrev pub invariant-loop-place : goal.invariant-loop-place
-invariant-loop-place l = Knows (file_view l.file) l.names.above l.rank l.place (table_view l.table)

@@ -1,9 +1,0 @@
-use Rattle.std.proofs.Common.{◌≡◌, ◌++◌, map, drop}
-use Rattle.pc_tree.specs.View.{method_view}
-use Rattle.pc_file_spec.specs.Members as spec
-use Rattle.pc_elab.specs.Views.{members_view}
-use Rattle.pc_elab.proofs.member.add_written.Given as goal
-
-abbrev pub invariant-loop-method : goal.invariant-loop-method
-invariant-loop-method l =
-    members_view l.fn.members ++ map spec.written (map method_view l.methods) ≡ members_view l.members ++ map spec.written (map method_view (drop l.method-index l.methods))
