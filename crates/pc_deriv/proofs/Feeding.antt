@@ -60,9 +60,9 @@ kept_on t b false u none e = ap (λ (x : Answer × Taken). x.1.fault) e ∙ none
 
 -- a byte that ends no line, and is none
 quiet_by : (t u : Taken) (b : ℕ) (ends : Bool) → (b == 10) ≡ ends → t.fault ≡ None
-    → (Ok None, u) ≡ cond ends (answered (said t.counts t.ended (t.pending ++ b ∷ [])), behind t (said t.counts t.ended (t.pending ++ b ∷ []))) (kept t b (length t.pending + 1 == longest_line))
+    → (Ok None, u) ≡ cond ends (answered (said t.version t.counts t.ended (t.pending ++ b ∷ [])), behind t (said t.version t.counts t.ended (t.pending ++ b ∷ []))) (kept t b (length t.pending + 1 == longest_line))
     → (b ≢ 10) × (u.fault ≡ None)
-quiet_by t u b true p none e = absurd (line_is_some (said t.counts t.ended (t.pending ++ b ∷ [])) (ap (λ (x : Answer × Taken). x.0) e))
+quiet_by t u b true p none e = absurd (line_is_some (said t.version t.counts t.ended (t.pending ++ b ∷ [])) (ap (λ (x : Answer × Taken). x.0) e))
 quiet_by t u b false p none e = (λ q. true≢false (sym (eq-eqb b 10 q) ∙ p), kept_on t b (length t.pending + 1 == longest_line) u none e)
 
 pub quiet : (t u : Taken) (b : ℕ) → t.fault ≡ None → (Ok None, u) ≡ took t b → (b ≢ 10) × (u.fault ≡ None)
@@ -70,7 +70,7 @@ quiet t u b none e = quiet_by t u b (b == 10) refl none (went t b (Ok None, u) n
 
 -- a byte that ends a line is a line end
 ends_by : (l : Line) (t u : Taken) (b : ℕ) (ends : Bool) → (b == 10) ≡ ends
-    → (Ok (Some l), u) ≡ cond ends (answered (said t.counts t.ended (t.pending ++ b ∷ [])), behind t (said t.counts t.ended (t.pending ++ b ∷ []))) (kept t b (length t.pending + 1 == longest_line)) → b ≡ 10
+    → (Ok (Some l), u) ≡ cond ends (answered (said t.version t.counts t.ended (t.pending ++ b ∷ [])), behind t (said t.version t.counts t.ended (t.pending ++ b ∷ []))) (kept t b (length t.pending + 1 == longest_line)) → b ≡ 10
 ends_by l t u b true p e = eqb-true b 10 p
 ends_by l t u b false p e = absurd (not_kept l t b (length t.pending + 1 == longest_line) u e)
 
@@ -87,8 +87,8 @@ fault_kept f t b true u e = let h : Err f ≡ Err (fault.BadLine (t.ended + 1)) 
 fault_kept f t b false u e = let none : Option Line = None in let h : Err f ≡ Ok none = ap (λ (x : Answer × Taken). x.0) e in cc
 
 fault_by : (f : LineFault) (t u : Taken) (b : ℕ) (ends : Bool)
-    → (Err f, u) ≡ cond ends (answered (said t.counts t.ended (t.pending ++ b ∷ [])), behind t (said t.counts t.ended (t.pending ++ b ∷ []))) (kept t b (length t.pending + 1 == longest_line)) → u.fault ≡ Some f
-fault_by f t u b true e = ap (λ (x : Answer × Taken). x.1.fault) e ∙ fault_behind f t (said t.counts t.ended (t.pending ++ b ∷ [])) (ap (λ (x : Answer × Taken). x.0) e)
+    → (Err f, u) ≡ cond ends (answered (said t.version t.counts t.ended (t.pending ++ b ∷ [])), behind t (said t.version t.counts t.ended (t.pending ++ b ∷ []))) (kept t b (length t.pending + 1 == longest_line)) → u.fault ≡ Some f
+fault_by f t u b true e = ap (λ (x : Answer × Taken). x.1.fault) e ∙ fault_behind f t (said t.version t.counts t.ended (t.pending ++ b ∷ [])) (ap (λ (x : Answer × Taken). x.0) e)
 fault_by f t u b false e = fault_kept f t b (length t.pending + 1 == longest_line) u e
 
 pub faulty : (f : LineFault) (t u : Taken) (b : ℕ) → t.fault ≡ None → (Err f, u) ≡ took t b → u.fault ≡ Some f

@@ -4,6 +4,7 @@ use Rattle.std.specs.Prelude.{Result, IfOk}
 use Rattle.std.specs.List.{AllByRecursion}
 use Rattle.std.proofs.lemmas.List.{drop_more}
 use Rattle.pc_ann.specs.declared.annotation.Ann.{Ann}
+use Rattle.pc_deriv.specs.declared.version.Version.{Version}
 use Rattle.pc_deriv.specs.Text.{lines, deriv_text, SlotFits, NoteFits}
 use Rattle.pc_deriv.specs.Faults.{Within, IsText}
 
@@ -23,7 +24,7 @@ module _ {A : Type 0} where
       ∙ ap (λ l. old ++ lines line l) (sym (drop_more xs i d within)) ∙ so
 
 -- an annotation whose text was written
-pub is_text : {E : Type 0} (r : Result (List ℕ) E) (ann : Ann) → Within (length ann.slots, length ann.notes) → IfOk r (λ b. b ≡ deriv_text ann)
+pub is_text : {E : Type 0} (v : Version) (r : Result (List ℕ) E) (ann : Ann) → Within (length ann.slots, length ann.notes) → IfOk r (λ b. b ≡ deriv_text v ann)
     → IfOk r (λ b. AllByRecursion SlotFits ann.slots × AllByRecursion NoteFits ann.notes) → IfOk r (λ b. IsText b ann)
-is_text (Ok b) ann within same fit = record { slots = fit.0; notes = fit.1; within = within; same = same }
-is_text (Err e) ann within same fit = fit
+is_text v (Ok b) ann within same fit = record { version = v; slots = fit.0; notes = fit.1; within = within; same = same }
+is_text v (Err e) ann within same fit = fit

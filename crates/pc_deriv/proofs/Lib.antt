@@ -1,7 +1,9 @@
 pub mod NameSteps
+pub mod RuleLetters
 pub mod Digits
 pub mod NumberReading
 pub mod NameReading
+pub mod Shown
 pub mod LineReading
 pub mod Reached
 pub mod Outcome
@@ -9,4 +11,5 @@ pub mod Fitting
 pub mod Feeding
 pub mod LineEnds
 pub mod Stages
+pub mod WholeLines
 pub mod Whole

@@ -13,8 +13,10 @@ use Rattle.pc_ann.specs.declared.mask.Mask.{Mask}
 use Rattle.pc_ann.specs.declared.annotation.Rule.{Rule}
 use Rattle.pc_ann.specs.declared.annotation.Rule.TheVariants as rule
 use Rattle.pc_ann.specs.declared.annotation.Note.{Note}
-use Rattle.pc_deriv.specs.Names.{rule_name, cap_name, form_name}
-use Rattle.pc_deriv.specs.Text.{line_end, blank, head_line, slot_line, type_text, mask_text, masks_text, note_line, CountsFit, SlotFits, TypeFits, MaskFits, NoteFits}
+use Rattle.pc_deriv.specs.declared.version.Version.{Version}
+use Rattle.pc_deriv.specs.declared.version.Version.TheVariants as version
+use Rattle.pc_deriv.specs.Names.{version_name, rule_name, cap_name, form_name}
+use Rattle.pc_deriv.specs.Text.{line_end, blank, slot_line, type_text, mask_text, shown_after, masks_text, note_line, SlotFits, TypeFits, MaskFits, NoteFits}
 use Rattle.pc_deriv.specs.Reading.{digit_of}
 use Rattle.pc_deriv.specs.Faults.{NoLine}
 use Rattle.pc_deriv.specs.Lines.{longest_line}
@@ -22,7 +24,8 @@ use Rattle.pc_deriv.specs.Pieces.{NoEnd}
 use Rattle.pc_lists.proofs.Options.{none_some}
 use Rattle.pc_deriv.proofs.Digits.{sixteen, hex_step}
 use Rattle.pc_deriv.proofs.NumberReading.{digit_own}
-use Rattle.pc_deriv.proofs.LineReading.{Reads}
+use Rattle.pc_deriv.proofs.Shown.{shown_fits}
+use Rattle.pc_deriv.proofs.LineReading.{Reads, head_text, HeadFits}
 use Rattle.pc_deriv.proofs.Feeding.{no_end_app}
 
 -- ---- parts of a line
@@ -59,6 +62,10 @@ plain_app {m = m} {n = n} {a = a} {b = b} p q =
     let p_short = p.short in
     let q_short = q.short in
     record { none = no_end_app a b p.none q.none; short = omega (arith, size, p_short, q_short) }
+
+version_plain : (v : Version) → plain 1 (version_name v) ≡ true
+version_plain version.One = refl
+version_plain version.Two = refl
 
 rule_plain : (r : Rule) → plain 11 (rule_name r) ≡ true
 rule_plain rule.Number = refl
@@ -180,22 +187,26 @@ within_line {n = n} h f = let s = f.short in record { front = f.front; none = f.
 space : Plain 1 blank
 space = plain_is 1 blank refl
 
-pub head_framed : (x : ℕ × ℕ) → CountsFit x → Framed 127 (head_line x)
-head_framed (slots, nodes) fits =
-    within_line (omega arith) (framed_on (plain_is 18 (codes "rcap-derivation 1 ") refl) (framed_on (decimal_plain slots fits.0) (framed_on space (framed_on (decimal_plain nodes fits.1) framed_end))))
+pub head_framed : (x : Version × (ℕ × ℕ)) → HeadFits x → Framed 127 (head_text x)
+head_framed (v, (slots, nodes)) fits =
+    within_line (omega arith) (framed_on (plain_is 16 (codes "rcap-derivation ") refl) (framed_on (plain_is 1 (version_name v) (version_plain v)) (framed_on space (framed_on (decimal_plain slots fits.0) (framed_on space (framed_on (decimal_plain nodes fits.1) framed_end))))))
 
 pub slot_framed : (x : ℕ × Cap) → SlotFits x → Framed 127 (slot_line x)
 slot_framed (entity, cap) fits =
     within_line (omega arith) (framed_on (plain_is 2 (codes "s ") refl) (framed_on (decimal_plain entity fits) (framed_on space (framed_on (plain_is 3 (cap_name cap) (cap_plain cap)) framed_end))))
 
-masks_framed : (note : Note) → NoteFits note → Framed 68 (masks_text note)
-masks_framed note fits =
+masks_framed : (v : Version) (note : Note) → NoteFits note → Framed 68 (masks_text v note)
+masks_framed v note fits =
+    let live = shown_after v note.live_before note.live_after in
+    let set = shown_after v note.set_before note.set_after in
+    let live_fits : MaskFits live = shown_fits v note.live_before note.live_after fits.1.0.0 fits.1.1.0 in
+    let set_fits : MaskFits set = shown_fits v note.set_before note.set_after fits.1.0.1 fits.1.1.1 in
     framed_on space (framed_on (mask_plain note.live_before fits.1.0.0) (framed_on space (framed_on (mask_plain note.set_before fits.1.0.1)
-    (framed_on space (framed_on (mask_plain note.live_after fits.1.1.0) (framed_on space (framed_on (mask_plain note.set_after fits.1.1.1) framed_end)))))))
+    (framed_on space (framed_on (mask_plain live live_fits) (framed_on space (framed_on (mask_plain set set_fits) framed_end)))))))
 
-pub note_framed : (x : Note) → NoteFits x → Framed 127 (note_line x)
-note_framed note fits =
-    within_line (omega arith) (framed_on (plain_is 2 (codes "n ") refl) (framed_on (plain_is 11 (rule_name note.rule) (rule_plain note.rule)) (framed_on space (framed_on (type_plain note.ty fits.0) (masks_framed note fits)))))
+pub note_framed : (v : Version) (x : Note) → NoteFits x → Framed 127 (note_line v x)
+note_framed v note fits =
+    within_line (omega arith) (framed_on (plain_is 2 (codes "n ") refl) (framed_on (plain_is 11 (rule_name note.rule) (rule_plain note.rule)) (framed_on space (framed_on (type_plain note.ty fits.0) (masks_framed v note fits)))))
 
 -- ---- where the first line end stands
 

@@ -6,15 +6,17 @@ use Rattle.pc_caps.specs.declared.capability.Form.{Form}
 use Rattle.pc_ann.specs.declared.mask.Mask.{Mask}
 use Rattle.pc_ann.specs.declared.annotation.Rule.{Rule}
 use Rattle.pc_ann.specs.declared.annotation.Note.{Note}
-use Rattle.pc_deriv.specs.Names.{rule_name, cap_name, form_name}
-use Rattle.pc_deriv.specs.Text.{line_end, head_line, slot_line, type_text, mask_text, note_line, CountsFit, SlotFits, TypeFits, MaskFits, NoteFits}
-use Rattle.pc_deriv.specs.Reading.{digit_of, after, or_else, beside, rule_at, cap_at, form_at, number_at, decimal_at, mask_at, head_at, slot_at, some_type_at, type_at, masks_at, note_at}
+use Rattle.pc_deriv.specs.declared.version.Version.{Version}
+use Rattle.pc_deriv.specs.Names.{version_name, rule_name, cap_name, form_name}
+use Rattle.pc_deriv.specs.Text.{line_end, head_line, slot_line, type_text, mask_text, shown_after, note_line, CountsFit, SlotFits, TypeFits, MaskFits, NoteFits}
+use Rattle.pc_deriv.specs.Reading.{digit_of, after, or_else, beside, version_at, rule_at, cap_at, form_at, number_at, decimal_at, mask_at, head_at, slot_at, some_type_at, type_at, masks_at, note_at}
 use Rattle.pc_lists.specs.Options.{◌>>=◌}
 use Rattle.pc_deriv.proofs.Digits.{ten, sixteen}
 use Rattle.pc_deriv.proofs.NumberReading.{bind_own, number_sound, number_own}
 use Rattle.std.proofs.lemmas.Option.{same_Some}
 use Rattle.pc_lists.proofs.Options.{none_some, bind_some}
-use Rattle.pc_deriv.proofs.NameReading.{after_sound, after_own, rule_sound, rule_own, cap_sound, cap_own, form_sound, form_own}
+use Rattle.pc_deriv.proofs.Shown.{shown_twice, shown_fits}
+use Rattle.pc_deriv.proofs.NameReading.{after_sound, after_own, version_sound, version_own, rule_sound, rule_own, cap_sound, cap_own, form_sound, form_own}
 
 -- What is read from the front of a text is what stands there, and what stands there is read.
 pub record Reads {A : Type 0} (read : List ℕ → Option (A × List ℕ)) (text : A → List ℕ → List ℕ) (Fits : A → Type 0) : Type 0 where
@@ -147,24 +149,50 @@ flat_note : (w rule ty lb sb la sa r : List ℕ)
     ≡ w ++ (rule ++ (32 ∷ (ty ++ (32 ∷ (lb ++ (32 ∷ (sb ++ (32 ∷ (la ++ (32 ∷ (sa ++ (10 ∷ r))))))))))))
 flat_note w rule ty lb sb la sa r = onto w _ _ (onto rule _ _ (ap (λ l. 32 ∷ l) (onto ty _ _ (ap (λ l. 32 ∷ l) (onto lb _ _ (ap (λ l. 32 ∷ l) (onto sb _ _ (ap (λ l. 32 ∷ l) (onto la _ _ (ap (λ l. 32 ∷ l) (onto sa _ _ refl)))))))))))
 
-head_sound : (bytes : List ℕ) (x : ℕ × ℕ) (rest : List ℕ) → head_at bytes ≡ Some (x, rest) → CountsFit x × (bytes ≡ head_line x ++ rest)
+flat_head : (w version a b r : List ℕ) → (w ++ (version ++ (32 ∷ (a ++ (32 ∷ (b ++ line_end)))))) ++ r ≡ w ++ (version ++ (32 ∷ (a ++ (32 ∷ (b ++ (10 ∷ r))))))
+flat_head w version a b r = onto w _ _ (onto version _ _ (ap (λ l. 32 ∷ l) (onto a _ _ (ap (λ l. 32 ∷ l) (onto b _ _ refl)))))
+
+abbrev head_of : Version → ℕ → ℕ → Version × (ℕ × ℕ)
+head_of version slots nodes = (version, (slots, nodes))
+
+abbrev counts_on : Version → List ℕ → Option ((Version × (ℕ × ℕ)) × List ℕ)
+counts_on version text = decimal_at 32 text >>= (λ a. decimal_at 10 a.1 >>= (λ b. Some (head_of version a.0 b.0, b.1)))
+
+abbrev version_on : List ℕ → Option ((Version × (ℕ × ℕ)) × List ℕ)
+version_on text = version_at text >>= (λ v. counts_on v.0 v.1)
+
+-- a first line of a version and its counts
+abbrev pub head_text : Version × (ℕ × ℕ) → List ℕ
+head_text x = head_line x.0 x.1
+
+abbrev pub HeadFits : Version × (ℕ × ℕ) → Type 0
+HeadFits x = CountsFit x.1
+
+head_sound : (bytes : List ℕ) (x : Version × (ℕ × ℕ)) (rest : List ℕ) → head_at bytes ≡ Some (x, rest) → HeadFits x × (bytes ≡ head_text x ++ rest)
 unfolding head_at
 head_sound bytes x rest e =
-    let w = codes "rcap-derivation 1 " in
-    let h = bind_some (after w bytes) (λ t. decimal_at 32 t >>= (λ a. decimal_at 10 a.1 >>= (λ b. Some ((a.0, b.0), b.1)))) (x, rest) e in
-    let k = both_sound (λ (a : ℕ) (b : ℕ). (a, b)) (decimal_reads 32 refl) (decimal_reads 10 refl) h.0 x rest h.2 in
-    (subst CountsFit k.2 (k.3, k.4), after_sound w bytes h.0 h.1 ∙ ap (λ l. w ++ l) k.5 ∙ sym (flat_two w (decimal k.0) (decimal k.1) rest) ∙ (λ i. head_line (k.2 i) ++ rest))
+    let w = codes "rcap-derivation " in
+    let h = bind_some (after w bytes) version_on (x, rest) e in
+    let v = bind_some (version_at h.0) (λ v. counts_on v.0 v.1) (x, rest) h.2 in
+    let k = both_sound (head_of v.0.0) (decimal_reads 32 refl) (decimal_reads 10 refl) v.0.1 x rest v.2 in
+    let fits : HeadFits (head_of v.0.0 k.0 k.1) = (k.3, k.4) in (
+      subst HeadFits k.2 fits,
+      after_sound w bytes h.0 h.1 ∙ ap (λ l. w ++ l) (version_sound h.0 v.0.0 v.0.1 v.1 ∙ ap (λ l. version_name v.0.0 ++ (32 ∷ l)) k.5)
+          ∙ sym (flat_head w (version_name v.0.0) (decimal k.0) (decimal k.1) rest) ∙ (λ i. head_text (k.2 i) ++ rest),
+    )
 
-head_own : (x : ℕ × ℕ) (rest : List ℕ) → CountsFit x → head_at (head_line x ++ rest) ≡ Some (x, rest)
+head_own : (x : Version × (ℕ × ℕ)) (rest : List ℕ) → HeadFits x → head_at (head_text x ++ rest) ≡ Some (x, rest)
 unfolding head_at
-head_own (slots, nodes) rest f =
-    let w = codes "rcap-derivation 1 " in
+head_own (version, (slots, nodes)) rest f =
+    let w = codes "rcap-derivation " in
     let t = decimal slots ++ (32 ∷ (decimal nodes ++ (10 ∷ rest))) in
-    ap head_at (flat_two w (decimal slots) (decimal nodes) rest)
-    ∙ bind_own (after w (w ++ t)) (λ t. decimal_at 32 t >>= (λ a. decimal_at 10 a.1 >>= (λ b. Some ((a.0, b.0), b.1)))) t (Some ((slots, nodes), rest)) (after_own w t)
-    (both_own (λ (a : ℕ) (b : ℕ). (a, b)) (decimal_reads 32 refl) (decimal_reads 10 refl) slots nodes rest f.0 f.1)
+    let v = version_name version ++ (32 ∷ t) in
+    ap head_at (flat_head w (version_name version) (decimal slots) (decimal nodes) rest)
+    ∙ bind_own (after w (w ++ v)) version_on v (Some ((version, (slots, nodes)), rest)) (after_own w v)
+    (bind_own (version_at v) (λ v. counts_on v.0 v.1) (version, t) (Some ((version, (slots, nodes)), rest)) (version_own version t)
+    (both_own (head_of version) (decimal_reads 32 refl) (decimal_reads 10 refl) slots nodes rest f.0 f.1))
 
-pub head_reads : Reads head_at (λ x rest. head_line x ++ rest) CountsFit
+pub head_reads : Reads head_at (λ x rest. head_text x ++ rest) HeadFits
 head_reads = record { sound = head_sound; own = head_own }
 
 slot_sound : (bytes : List ℕ) (x : ℕ × Cap) (rest : List ℕ) → slot_at bytes ≡ Some (x, rest) → SlotFits x × (bytes ≡ slot_line x ++ rest)
@@ -187,51 +215,71 @@ slot_own (entity, cap) rest f =
 pub slot_reads : Reads slot_at (λ x rest. slot_line x ++ rest) SlotFits
 slot_reads = record { sound = slot_sound; own = slot_own }
 
--- the note of its parts
-abbrev note_of : Rule → Option (ℕ × Form) → Mask × Mask → Mask × Mask → Note
-note_of rule ty before after = record { rule = rule; ty = ty; live_before = before.0; set_before = before.1; live_after = after.0; set_after = after.1 }
+-- what is written for the two masks after a node
+abbrev shown : Version → Mask × Mask → Mask × Mask → Mask × Mask
+shown version before after = (shown_after version before.0 after.0, shown_after version before.1 after.1)
 
-abbrev masks_on : Rule → Option (ℕ × Form) → List ℕ → Option (Note × List ℕ)
-masks_on rule ty text = masks_at 32 text >>= (λ b. masks_at 10 b.1 >>= (λ a. Some (note_of rule ty b.0 a.0, a.1)))
+shown_again : (version : Version) (before after : Mask × Mask) → shown version before (shown version before after) ≡ after
+shown_again version before after = (λ i. (shown_twice version before.0 after.0 i, shown_twice version before.1 after.1 i))
 
-abbrev type_on : Rule → List ℕ → Option (Note × List ℕ)
-type_on rule text = type_at text >>= (λ ty. masks_on rule ty.0 ty.1)
+-- the note of what is written
+abbrev note_of : Version → Rule → Option (ℕ × Form) → Mask × Mask → Mask × Mask → Note
+note_of version rule ty before after =
+    record { rule = rule; ty = ty; live_before = before.0; set_before = before.1; live_after = shown_after version before.0 after.0; set_after = shown_after version before.1 after.1 }
 
-abbrev rule_on : List ℕ → Option (Note × List ℕ)
-rule_on text = rule_at text >>= (λ r. type_on r.0 r.1)
+abbrev masks_on : Version → Rule → Option (ℕ × Form) → List ℕ → Option (Note × List ℕ)
+masks_on version rule ty text = masks_at 32 text >>= (λ b. masks_at 10 b.1 >>= (λ a. Some (note_of version rule ty b.0 a.0, a.1)))
 
-note_sound : (bytes : List ℕ) (x : Note) (rest : List ℕ) → note_at bytes ≡ Some (x, rest) → NoteFits x × (bytes ≡ note_line x ++ rest)
+abbrev type_on : Version → Rule → List ℕ → Option (Note × List ℕ)
+type_on version rule text = type_at text >>= (λ ty. masks_on version rule ty.0 ty.1)
+
+abbrev rule_on : Version → List ℕ → Option (Note × List ℕ)
+rule_on version text = rule_at text >>= (λ r. type_on version r.0 r.1)
+
+-- the line of a note of what is written
+flat_shown : (version : Version) (rule : Rule) (ty : Option (ℕ × Form)) (before after : Mask × Mask) (rest : List ℕ)
+    → note_line version (note_of version rule ty before after) ++ rest ≡ codes "n " ++ (rule_name rule ++ (32 ∷ (type_text ty ++ (32 ∷ pair_text 32 before (pair_text 10 after rest)))))
+flat_shown version rule ty before after rest =
+    let twice = shown version before (shown version before after) in
+    flat_note (codes "n ") (rule_name rule) (type_text ty) (mask_text before.0) (mask_text before.1) (mask_text twice.0) (mask_text twice.1) rest
+    ∙ ap (λ (p : Mask × Mask). codes "n " ++ (rule_name rule ++ (32 ∷ (type_text ty ++ (32 ∷ pair_text 32 before (pair_text 10 p rest)))))) (shown_again version before after)
+
+note_sound : (version : Version) (bytes : List ℕ) (x : Note) (rest : List ℕ) → note_at version bytes ≡ Some (x, rest) → NoteFits x × (bytes ≡ note_line version x ++ rest)
 unfolding note_at
-note_sound bytes x rest e =
+note_sound version bytes x rest e =
     let w = codes "n " in
-    let h = bind_some (after w bytes) rule_on (x, rest) e in
-    let r = bind_some (rule_at h.0) (λ r. type_on r.0 r.1) (x, rest) h.2 in
-    let ty = bind_some (type_at r.0.1) (λ ty. masks_on r.0.0 ty.0 ty.1) (x, rest) r.2 in
-    let m = both_sound (note_of r.0.0 ty.0.0) (masks_reads 32 refl) (masks_reads 10 refl) ty.0.1 x rest ty.2 in
+    let h = bind_some (after w bytes) (rule_on version) (x, rest) e in
+    let r = bind_some (rule_at h.0) (λ r. type_on version r.0 r.1) (x, rest) h.2 in
+    let ty = bind_some (type_at r.0.1) (λ ty. masks_on version r.0.0 ty.0 ty.1) (x, rest) r.2 in
+    let m = both_sound (note_of version r.0.0 ty.0.0) (masks_reads 32 refl) (masks_reads 10 refl) ty.0.1 x rest ty.2 in
     let t = type_reads.sound r.0.1 ty.0.0 ty.0.1 ty.1 in
-    let n = note_of r.0.0 ty.0.0 m.0 m.1 in
-    let fits : NoteFits n = (t.0, (m.3, m.4)) in (
+    let n = note_of version r.0.0 ty.0.0 m.0 m.1 in
+    let fits : NoteFits n = (t.0, (m.3, (shown_fits version m.0.0 m.1.0 m.3.0 m.4.0, shown_fits version m.0.1 m.1.1 m.3.1 m.4.1))) in (
       subst NoteFits m.2 fits,
       after_sound w bytes h.0 h.1
           ∙ ap (λ l. w ++ l) (rule_sound h.0 r.0.0 r.0.1 r.1 ∙ ap (λ l. rule_name r.0.0 ++ (32 ∷ l)) (t.1 ∙ ap (λ l. type_text ty.0.0 ++ (32 ∷ l)) m.5))
-          ∙ sym (flat_note w (rule_name r.0.0) (type_text ty.0.0) (mask_text m.0.0) (mask_text m.0.1) (mask_text m.1.0) (mask_text m.1.1) rest)
-          ∙ (λ i. note_line (m.2 i) ++ rest),
+          ∙ sym (flat_shown version r.0.0 ty.0.0 m.0 m.1 rest)
+          ∙ (λ i. note_line version (m.2 i) ++ rest),
     )
 
-note_own : (x : Note) (rest : List ℕ) → NoteFits x → note_at (note_line x ++ rest) ≡ Some (x, rest)
+note_own : (version : Version) (x : Note) (rest : List ℕ) → NoteFits x → note_at version (note_line version x ++ rest) ≡ Some (x, rest)
 unfolding note_at
-note_own x rest f =
+note_own version x rest f =
     let w = codes "n " in
     let before : Mask × Mask = (x.live_before, x.set_before) in
-    let after_it : Mask × Mask = (x.live_after, x.set_after) in
+    let behind : Mask × Mask = (x.live_after, x.set_after) in
+    let after_it : Mask × Mask = shown version before behind in
     let m = pair_text 32 before (pair_text 10 after_it rest) in
     let ty = type_text x.ty ++ (32 ∷ m) in
     let r = rule_name x.rule ++ (32 ∷ ty) in
-    ap note_at (flat_note w (rule_name x.rule) (type_text x.ty) (mask_text x.live_before) (mask_text x.set_before) (mask_text x.live_after) (mask_text x.set_after) rest)
-    ∙ bind_own (after w (w ++ r)) rule_on r (Some (x, rest)) (after_own w r)
-    (bind_own (rule_at r) (λ r. type_on r.0 r.1) (x.rule, ty) (Some (x, rest)) (rule_own x.rule ty)
-    (bind_own (type_at ty) (λ ty. masks_on x.rule ty.0 ty.1) (x.ty, m) (Some (x, rest)) (type_own x.ty m f.0)
-    (both_own (note_of x.rule x.ty) (masks_reads 32 refl) (masks_reads 10 refl) before after_it rest f.1.0 f.1.1)))
+    let fits : MaskFits after_it.0 × MaskFits after_it.1 = (shown_fits version before.0 behind.0 f.1.0.0 f.1.1.0, shown_fits version before.1 behind.1 f.1.0.1 f.1.1.1) in
+    let again : note_of version x.rule x.ty before after_it ≡ x =
+    ap (λ (p : Mask × Mask). let n : Note = record { rule = x.rule; ty = x.ty; live_before = x.live_before; set_before = x.set_before; live_after = p.0; set_after = p.1 } in n) (shown_again version before behind) in
+    ap (note_at version) (flat_note w (rule_name x.rule) (type_text x.ty) (mask_text x.live_before) (mask_text x.set_before) (mask_text after_it.0) (mask_text after_it.1) rest)
+    ∙ bind_own (after w (w ++ r)) (rule_on version) r (Some (x, rest)) (after_own w r)
+    (bind_own (rule_at r) (λ r. type_on version r.0 r.1) (x.rule, ty) (Some (x, rest)) (rule_own x.rule ty)
+    (bind_own (type_at ty) (λ ty. masks_on version x.rule ty.0 ty.1) (x.ty, m) (Some (x, rest)) (type_own x.ty m f.0)
+    (both_own (note_of version x.rule x.ty) (masks_reads 32 refl) (masks_reads 10 refl) before after_it rest f.1.0 fits ∙ ap (λ (n : Note). Some (n, rest)) again)))
 
-pub note_reads : Reads note_at (λ x rest. note_line x ++ rest) NoteFits
-note_reads = record { sound = note_sound; own = note_own }
+pub note_reads : (version : Version) → Reads (note_at version) (λ x rest. note_line version x ++ rest) NoteFits
+note_reads version = record { sound = note_sound version; own = note_own version }

@@ -9,9 +9,11 @@ use Rattle.pc_caps.specs.declared.capability.Form.{Form}
 use Rattle.pc_caps.specs.declared.capability.Form.TheVariants as form
 use Rattle.pc_ann.specs.declared.annotation.Rule.{Rule}
 use Rattle.pc_ann.specs.declared.annotation.Rule.TheVariants as rule
-use Rattle.pc_deriv.specs.declared.names.TheConstants.{RULES, CAPS, FORMS}
-use Rattle.pc_deriv.specs.Names.{rule_name, cap_name, form_name}
-use Rattle.pc_deriv.specs.Reading.{after, after_word, or_else, beside, named_at, rule_at, cap_at, form_at}
+use Rattle.pc_deriv.specs.declared.names.TheConstants.{VERSIONS, RULES, CAPS, FORMS}
+use Rattle.pc_deriv.specs.declared.version.Version.{Version}
+use Rattle.pc_deriv.specs.declared.version.Version.TheVariants as version
+use Rattle.pc_deriv.specs.Names.{version_name, rule_name, cap_name, form_name}
+use Rattle.pc_deriv.specs.Reading.{after, after_word, or_else, beside, named_at, version_at, rule_at, cap_at, form_at}
 use Rattle.std.proofs.lemmas.Option.{same_Some}
 use Rattle.pc_lists.proofs.Options.{none_some, bind_some}
 use Rattle.pc_lists.proofs.Prefixes.{begins_own}
@@ -56,6 +58,10 @@ named_sound : {A : Type 0} (name : A → List ℕ) (end : ℕ) (xs : List A) (te
 named_sound name end [] text x rest e = absurd (none_some e)
 named_sound name end (y ∷ ys) text x rest e = named_by name end y ys text x rest (after_word (name y) end text) refl e (named_sound name end ys text x rest)
 
+pub version_sound : (text : List ℕ) (x : Version) (rest : List ℕ) → version_at text ≡ Some (x, rest) → text ≡ version_name x ++ (32 ∷ rest)
+unfolding version_at
+version_sound text x rest e = named_sound version_name 32 VERSIONS text x rest e
+
 pub rule_sound : (text : List ℕ) (x : Rule) (rest : List ℕ) → rule_at text ≡ Some (x, rest) → text ≡ rule_name x ++ (32 ∷ rest)
 unfolding rule_at
 rule_sound text x rest e = named_sound rule_name 32 RULES text x rest e
@@ -67,6 +73,11 @@ cap_sound text x rest e = named_sound cap_name 10 CAPS text x rest e
 pub form_sound : (text : List ℕ) (x : Form) (rest : List ℕ) → form_at text ≡ Some (x, rest) → text ≡ form_name x ++ (32 ∷ rest)
 unfolding form_at
 form_sound text x rest e = named_sound form_name 32 FORMS text x rest e
+
+pub version_own : (x : Version) (rest : List ℕ) → version_at (version_name x ++ (32 ∷ rest)) ≡ Some (x, rest)
+unfolding version_at after_word after
+version_own version.One rest = refl
+version_own version.Two rest = refl
 
 pub rule_own : (x : Rule) (rest : List ℕ) → rule_at (rule_name x ++ (32 ∷ rest)) ≡ Some (x, rest)
 unfolding rule_at after_word after

@@ -4,14 +4,15 @@ use Rattle.std.proofs.lemmas.Bool.{true≢false, eqb-true}
 use Rattle.std.specs.List.{AllByRecursion}
 use Rattle.pc_caps.specs.declared.capability.Cap.{Cap}
 use Rattle.pc_ann.specs.declared.annotation.Note.{Note}
-use Rattle.pc_deriv.specs.Text.{head_line, slot_line, note_line, lines, CountsFit, SlotFits, NoteFits}
+use Rattle.pc_deriv.specs.Text.{head_line, slot_line, note_line, lines, SlotFits, NoteFits}
 use Rattle.pc_deriv.specs.Reading.{head_at, slot_at, note_at}
 use Rattle.pc_deriv.specs.Faults.{Within, IsText, Begins, NoLine, BeginsHead, IsBadLine, bad_head, bad_slot, bad_node, bad_end, IsTooMany, Refuses}
+use Rattle.pc_deriv.specs.declared.version.Version.{Version}
 use Rattle.pc_deriv.specs.declared.fault.DerivFault.{DerivFault}
 use Rattle.pc_deriv.specs.declared.fault.DerivFault.TheVariants as fault
 use Rattle.pc_deriv.specs.Stops.{StopsEarly, SlotsStop, NotesStop}
 use Rattle.pc_lists.proofs.Options.{none_some}
-use Rattle.pc_deriv.proofs.LineReading.{Reads, head_reads, slot_reads, note_reads}
+use Rattle.pc_deriv.proofs.LineReading.{Reads, head_text, HeadFits, head_reads, slot_reads, note_reads}
 
 lines_app : {A : Type 0} (line : A → List ℕ) (xs : List A) (x : A) (rest : List ℕ) → lines line (xs ++ x ∷ []) ++ rest ≡ lines line xs ++ (line x ++ rest)
 lines_app line [] x rest = ap (λ l. l ++ rest) (append-nil (line x))
@@ -46,14 +47,16 @@ slot_more = goes_on slot_at slot_line SlotFits slot_reads
 pub slot_stops : (text : List ℕ) (xs : List (ℕ × Cap)) (rest : List ℕ) (before wanted n : ℕ) → Begins slot_line SlotFits text xs rest → length xs < wanted → slot_at rest ≡ None → n ≡ before + length xs + 2 → StopsEarly slot_line SlotFits text before wanted n
 slot_stops = stops_so slot_at slot_line SlotFits slot_reads
 
-pub no_note : (text : List ℕ) → Begins note_line NoteFits text [] text
-no_note = starts_so note_at note_line NoteFits note_reads
+module _ (v : Version) where
+  pub no_note : (text : List ℕ) → Begins (note_line v) NoteFits text [] text
+  no_note = starts_so (note_at v) (note_line v) NoteFits (note_reads v)
 
-pub note_more : (text : List ℕ) (xs : List Note) (mid : List ℕ) (x : Note) (rest : List ℕ) → Begins note_line NoteFits text xs mid → note_at mid ≡ Some (x, rest) → Begins note_line NoteFits text (xs ++ x ∷ []) rest
-note_more = goes_on note_at note_line NoteFits note_reads
+  pub note_more : (text : List ℕ) (xs : List Note) (mid : List ℕ) (x : Note) (rest : List ℕ) → Begins (note_line v) NoteFits text xs mid → note_at v mid ≡ Some (x, rest) → Begins (note_line v) NoteFits text (xs ++ x ∷ []) rest
+  note_more = goes_on (note_at v) (note_line v) NoteFits (note_reads v)
 
-pub note_stops : (text : List ℕ) (xs : List Note) (rest : List ℕ) (before wanted n : ℕ) → Begins note_line NoteFits text xs rest → length xs < wanted → note_at rest ≡ None → n ≡ before + length xs + 2 → StopsEarly note_line NoteFits text before wanted n
-note_stops = stops_so note_at note_line NoteFits note_reads
+  pub note_stops : (text : List ℕ) (xs : List Note) (rest : List ℕ) (before wanted n : ℕ) → Begins (note_line v) NoteFits text xs rest → length xs < wanted → note_at v rest ≡ None → n ≡ before + length xs + 2
+      → StopsEarly (note_line v) NoteFits text before wanted n
+  note_stops = stops_so (note_at v) (note_line v) NoteFits (note_reads v)
 
 -- whether something follows
 pub some_left : (rest : List ℕ) → (length rest == 0) ≡ false → 0 < length rest
@@ -66,17 +69,17 @@ none_left (b ∷ bs) e = let none : length (b ∷ bs) ≡ 0 = eqb-true (length (
 
 module _ (bytes : List ℕ) where
   pub head_bad : head_at bytes ≡ None → IsBadLine bytes 1
-  head_bad h = bad_head (no_line head_at head_line CountsFit head_reads bytes h) refl
+  head_bad h = bad_head (λ v counts. no_line head_at head_text HeadFits head_reads bytes h (v, counts)) refl
 
-  module _ (a b : ℕ) (text : List ℕ) (head : head_at bytes ≡ Some ((a, b), text)) where
-    begins_head : BeginsHead bytes (a, b) text
-    begins_head = head_reads.sound bytes (a, b) text head
+  module _ (v : Version) (a b : ℕ) (text : List ℕ) (head : head_at bytes ≡ Some ((v, (a, b)), text)) where
+    begins_head : BeginsHead bytes v (a, b) text
+    begins_head = head_reads.sound bytes (v, (a, b)) text head
 
     pub too_many : (Within (a, b) → ⊥) → IsTooMany bytes
-    too_many h = ((a, b), text, begins_head, h)
+    too_many h = (v, (a, b), text, begins_head, h)
 
     bad_slots : (n : ℕ) → Within (a, b) → StopsEarly slot_line SlotFits text 0 a n → IsBadLine bytes n
-    bad_slots n w s = bad_slot begins_head w s.begins s.fewer s.ends (omega (arith, s.number))
+    bad_slots n w s = bad_slot v begins_head w s.begins s.fewer s.ends (omega (arith, s.number))
 
     pub slots_refused : (f : DerivFault) → Within (a, b) → SlotsStop text a f → Refuses bytes f
     slots_refused (fault.BadLine n) w s = bad_slots n w s
@@ -84,23 +87,24 @@ module _ (bytes : List ℕ) where
     slots_refused fault.Memory w s = tt
 
     module _ (slots : List (ℕ × Cap)) (mid : List ℕ) (w : Within (a, b)) (so : Begins slot_line SlotFits text slots mid) (full : length slots ≡ a) where
-      bad_notes : (n : ℕ) → StopsEarly note_line NoteFits mid a b n → IsBadLine bytes n
-      bad_notes n s = bad_node begins_head w so full s.begins s.fewer s.ends (omega (arith, s.number))
+      bad_notes : (n : ℕ) → StopsEarly (note_line v) NoteFits mid a b n → IsBadLine bytes n
+      bad_notes n s = bad_node v begins_head w so full s.begins s.fewer s.ends (omega (arith, s.number))
 
-      pub notes_refused : (f : DerivFault) → NotesStop mid a b f → Refuses bytes f
+      pub notes_refused : (f : DerivFault) → NotesStop v mid a b f → Refuses bytes f
       notes_refused (fault.BadLine n) s = bad_notes n s
       notes_refused fault.TooMany s = absurd s
       notes_refused fault.Memory s = tt
 
-      module _ (notes : List Note) (rest : List ℕ) (on : Begins note_line NoteFits mid notes rest) (all : length notes ≡ b) where
+      module _ (notes : List Note) (rest : List ℕ) (on : Begins (note_line v) NoteFits mid notes rest) (all : length notes ≡ b) where
         pub bad_rest : (n : ℕ) → 0 < length rest → n ≡ a + b + 2 → IsBadLine bytes n
-        bad_rest n some e = bad_end begins_head w so full on all some e
+        bad_rest n some e = bad_end v begins_head w so full on all some e
 
         pub whole_text : rest ≡ [] → IsText bytes (record { slots = slots; notes = notes })
         whole_text none = record {
+          version = v;
           slots = so.fit;
           notes = on.fit;
           within = (omega (arith, w.0, full), omega (arith, w.1, all));
-          same = begins_head.1 ∙ (λ i. head_line (sym full i, sym all i) ++ text)
-              ∙ ap (λ l. head_line (length slots, length notes) ++ l) (so.cut ∙ ap (λ l. lines slot_line slots ++ l) (on.cut ∙ ap (λ l. lines note_line notes ++ l) none ∙ append-nil (lines note_line notes)));
+          same = begins_head.1 ∙ (λ i. head_line v (sym full i, sym all i) ++ text)
+              ∙ ap (λ l. head_line v (length slots, length notes) ++ l) (so.cut ∙ ap (λ l. lines slot_line slots ++ l) (on.cut ∙ ap (λ l. lines (note_line v) notes ++ l) none ∙ append-nil (lines (note_line v) notes)));
         }

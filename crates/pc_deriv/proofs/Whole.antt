@@ -11,7 +11,7 @@ use Rattle.pc_deriv.specs.Lines.{Taken, nothing_taken, line_in, within_limits, c
 use Rattle.pc_deriv.specs.Pieces.{NoEnd}
 use Rattle.pc_deriv.specs.Laws.{as_read, IsRead}
 use Rattle.pc_lists.proofs.Options.{none_some}
-use Rattle.pc_deriv.proofs.Outcome.{one_annotation, one_fault, no_fault}
+use Rattle.pc_deriv.proofs.Outcome.{one_annotation, one_version, one_fault, no_fault}
 use Rattle.pc_deriv.proofs.Feeding.{more_app, no_end_app}
 use Rattle.pc_deriv.proofs.Stages.{Place, at_first, Stage, stage, Took, next, passes, Closes}
 
@@ -21,7 +21,7 @@ Answer = Result (Option Line) LineFault
 -- What is known behind these bytes: all lines were of their form, and the rest is a line that has not ended; or a fault was
 -- found, which is theirs whatever follows.
 pub data Known (bytes : List ℕ) (ls : List Line) (t : Taken) : Type 0 where
-  going : (prefix : List ℕ) → Place t.counts prefix ls t.ended → bytes ≡ prefix ++ t.pending → NoEnd t.pending → length t.pending < longest_line → t.fault ≡ None → Known bytes ls t
+  going : (prefix : List ℕ) → Place t.version t.counts prefix ls t.ended → bytes ≡ prefix ++ t.pending → NoEnd t.pending → length t.pending < longest_line → t.fault ≡ None → Known bytes ls t
   wrong : (f : LineFault) → t.fault ≡ Some f → ((more : List ℕ) → IsFault (bytes ++ more) (as_read f)) → Known bytes ls t
 
 -- ---- one byte more
@@ -29,9 +29,9 @@ pub data Known (bytes : List ℕ) (ls : List Line) (t : Taken) : Type 0 where
 abbrev Goes : List ℕ → List Line → ℕ → Answer × Taken → Type 0
 Goes bytes ls b r = Known (bytes ++ b ∷ []) (ls ++ one_more r.0 []) r.1
 
-module _ (bytes : List ℕ) (ls : List Line) (t : Taken) (b : ℕ) (prefix : List ℕ) (place : Place t.counts prefix ls t.ended) (is : bytes ≡ prefix ++ t.pending) (none : NoEnd t.pending) (short : length t.pending < longest_line) (right : t.fault ≡ None) where
-  abbrev st : Stage t.counts prefix ls t.ended
-  st = stage t.counts prefix ls t.ended place
+module _ (bytes : List ℕ) (ls : List Line) (t : Taken) (b : ℕ) (prefix : List ℕ) (place : Place t.version t.counts prefix ls t.ended) (is : bytes ≡ prefix ++ t.pending) (none : NoEnd t.pending) (short : length t.pending < longest_line) (right : t.fault ≡ None) where
+  abbrev st : Stage t.version t.counts prefix ls t.ended
+  st = stage t.version t.counts prefix ls t.ended place
 
   further : (more : List ℕ) → (bytes ++ b ∷ []) ++ more ≡ prefix ++ ((t.pending ++ b ∷ []) ++ more)
   further more = ap (λ l. (l ++ b ∷ []) ++ more) is ∙ ap (λ l. l ++ more) (append_assoc prefix t.pending (b ∷ [])) ∙ append_assoc prefix (t.pending ++ b ∷ []) more
@@ -50,7 +50,7 @@ module _ (bytes : List ℕ) (ls : List Line) (t : Taken) (b : ℕ) (prefix : Lis
       let size = length-append t.pending (b ∷ []) in
       let one : length (b ∷ []) ≡ 1 = refl in
       let few : length t.pending + 1 ≢ longest_line = λ (q : length t.pending + 1 ≡ longest_line). true≢false (sym (eq-eqb (length t.pending + 1) longest_line q) ∙ e) in
-      going prefix (subst (λ l. Place t.counts prefix l t.ended) (sym (append-nil ls)) place) here (no_end_app t.pending (b ∷ []) none (other, tt)) (omega (arith, size, short, few, one)) right
+      going prefix (subst (λ l. Place t.version t.counts prefix l t.ended) (sym (append-nil ls)) place) here (no_end_app t.pending (b ∷ []) none (other, tt)) (omega (arith, size, short, few, one)) right
 
   module _ (end : b ≡ 10) where
     ended : t.pending ++ b ∷ [] ≡ t.pending ++ 10 ∷ []
@@ -59,7 +59,7 @@ module _ (bytes : List ℕ) (ls : List Line) (t : Taken) (b : ℕ) (prefix : Lis
     further_end : (more : List ℕ) → (bytes ++ b ∷ []) ++ more ≡ prefix ++ (t.pending ++ 10 ∷ more)
     further_end more = further more ∙ ap (λ l. prefix ++ (l ++ more)) ended ∙ ap (λ l. prefix ++ l) (append_assoc t.pending (10 ∷ []) more)
 
-    limits_by : (l : Line) (r : Result Line LineFault) → within_limits l ≡ r → Took t.counts prefix ls t.ended t.pending l → Goes bytes ls b (answered r, behind t r)
+    limits_by : (l : Line) (r : Result Line LineFault) → within_limits l ≡ r → Took t.version t.counts prefix ls t.ended t.pending l → Goes bytes ls b (answered r, behind t r)
     limits_by l r e (next ok place) =
         subst (λ (s : Result Line LineFault). Goes bytes ls b (answered s, behind t s)) (sym ok ∙ e)
         (going (prefix ++ (t.pending ++ 10 ∷ [])) place (here ∙ ap (λ x. prefix ++ x) ended ∙ sym (append-nil (prefix ++ (t.pending ++ 10 ∷ [])))) tt (omega arith) refl)
@@ -67,17 +67,17 @@ module _ (bytes : List ℕ) (ls : List Line) (t : Taken) (b : ℕ) (prefix : Lis
         subst (λ (s : Result Line LineFault). Goes bytes ls b (answered s, behind t s)) (sym bad ∙ e)
         (wrong fault.TooMany refl (λ more. subst (λ x. IsTooMany x) (sym (further_end more)) (over more)))
 
-    line_by : (o : Option Line) → line_in t.counts t.ended (t.pending ++ 10 ∷ []) ≡ o → Goes bytes ls b (answered (checked (t.ended + 1) o), behind t (checked (t.ended + 1) o))
+    line_by : (o : Option Line) → line_in t.version t.counts t.ended (t.pending ++ 10 ∷ []) ≡ o → Goes bytes ls b (answered (checked (t.ended + 1) o), behind t (checked (t.ended + 1) o))
     line_by None e = wrong (fault.BadLine (t.ended + 1)) refl (λ more. subst (λ l. IsBadLine l (t.ended + 1)) (sym (further_end more)) (st.no_line t.pending more none e))
     line_by (Some l) e = limits_by l (within_limits l) refl (st.line t.pending l none e)
 
-    end_by : Goes bytes ls b (answered (said t.counts t.ended (t.pending ++ b ∷ [])), behind t (said t.counts t.ended (t.pending ++ b ∷ [])))
+    end_by : Goes bytes ls b (answered (said t.version t.counts t.ended (t.pending ++ b ∷ [])), behind t (said t.version t.counts t.ended (t.pending ++ b ∷ [])))
     end_by =
-        subst (λ (l : List ℕ). Goes bytes ls b (answered (said t.counts t.ended l), behind t (said t.counts t.ended l))) (sym ended)
-        (line_by (line_in t.counts t.ended (t.pending ++ 10 ∷ [])) refl)
+        subst (λ (l : List ℕ). Goes bytes ls b (answered (said t.version t.counts t.ended l), behind t (said t.version t.counts t.ended l))) (sym ended)
+        (line_by (line_in t.version t.counts t.ended (t.pending ++ 10 ∷ [])) refl)
 
   went_by : (ends : Bool) → (b == 10) ≡ ends
-      → Goes bytes ls b (cond ends (answered (said t.counts t.ended (t.pending ++ b ∷ [])), behind t (said t.counts t.ended (t.pending ++ b ∷ []))) (kept t b (length t.pending + 1 == longest_line)))
+      → Goes bytes ls b (cond ends (answered (said t.version t.counts t.ended (t.pending ++ b ∷ [])), behind t (said t.version t.counts t.ended (t.pending ++ b ∷ []))) (kept t b (length t.pending + 1 == longest_line)))
   went_by true e = end_by (eqb-true b 10 e)
   went_by false e = kept_by (length t.pending + 1 == longest_line) refl (λ (q : b ≡ 10). true≢false (sym (eq-eqb b 10 q) ∙ e))
 
@@ -111,7 +111,7 @@ closed bytes ls n false h = h
 
 ended_known : (bytes : List ℕ) (ls : List Line) (t : Taken) → Known bytes ls t → IsRead bytes ls (ended_so t)
 ended_known bytes ls t (going prefix place is none short right) =
-    let c = (stage t.counts prefix ls t.ended place).closes t.pending none in
+    let c = (stage t.version t.counts prefix ls t.ended place).closes t.pending none in
     subst (IsRead bytes ls) (sym (ap (λ o. ended_at o t) right)) (closed bytes ls (t.ended + 1) (is_whole t.counts t.ended t.pending) (subst (λ l. Closes l ls (t.ended + 1) (is_whole t.counts t.ended t.pending)) (sym is) c))
 ended_known bytes ls t (wrong f e h) = subst (IsRead bytes ls) (sym (ap (λ o. ended_at o t) e)) (subst (λ l. IsFault l (as_read f)) (append-nil bytes) (h []))
 
@@ -133,11 +133,11 @@ same_fault (fault.BadLine n) fault.TooMany e = cc
 same_fault fault.TooMany (fault.BadLine m) e = cc
 same_fault fault.TooMany fault.TooMany e = refl
 
-text_by : (bytes : List ℕ) (ls : List Line) (r : Result (Unit {0}) LineFault) (ann : Ann) → IsRead bytes ls r → IsText bytes ann → (ls ≡ lines_of ann) × (r ≡ Ok tt)
-text_by bytes ls (Ok u) ann h is = (h.2 ∙ ap lines_of (one_annotation bytes h.0 ann h.1 is), refl)
+text_by : (bytes : List ℕ) (ls : List Line) (r : Result (Unit {0}) LineFault) (ann : Ann) → IsRead bytes ls r → (is : IsText bytes ann) → (ls ≡ lines_of is.version ann) × (r ≡ Ok tt)
+text_by bytes ls (Ok u) ann h is = (h.2 ∙ (λ i. lines_of (one_version bytes h.0 ann h.1 is i) (one_annotation bytes h.0 ann h.1 is i)), refl)
 text_by bytes ls (Err f) ann h is = absurd (no_fault bytes ann (as_read f) is h)
 
-pub texts_are_taken : (bytes : List ℕ) (ann : Ann) → IsText bytes ann → ((fed nothing_taken bytes).0 ≡ lines_of ann) × (ended_so (fed nothing_taken bytes).1 ≡ Ok tt)
+pub texts_are_taken : (bytes : List ℕ) (ann : Ann) → (is : IsText bytes ann) → ((fed nothing_taken bytes).0 ≡ lines_of is.version ann) × (ended_so (fed nothing_taken bytes).1 ≡ Ok tt)
 texts_are_taken bytes ann is = text_by bytes (fed nothing_taken bytes).0 (ended_so (fed nothing_taken bytes).1) ann (read_whole bytes) is
 
 fault_by : (bytes : List ℕ) (ls : List Line) (r : Result (Unit {0}) LineFault) (f : LineFault) → IsRead bytes ls r → IsFault bytes (as_read f) → r ≡ Err f

@@ -6,6 +6,7 @@ use Rattle.pc_ann.specs.declared.annotation.Note.{Note}
 use Rattle.pc_ann.specs.declared.annotation.Ann.{Ann}
 use Rattle.pc_deriv.specs.Limits.{slot_limit, node_limit}
 use Rattle.pc_deriv.specs.Text.{head_line, slot_line, note_line, lines, deriv_text, CountsFit, SlotFits, NoteFits}
+use Rattle.pc_deriv.specs.declared.version.Version.{Version}
 use Rattle.pc_deriv.specs.declared.fault.DerivFault.{DerivFault}
 use Rattle.pc_deriv.specs.declared.fault.DerivFault.TheVariants as fault
 
@@ -13,12 +14,13 @@ use Rattle.pc_deriv.specs.declared.fault.DerivFault.TheVariants as fault
 abbrev pub Within : ℕ × ℕ → Type 0
 Within (slots, nodes) = (slots ≤ slot_limit) × (nodes ≤ node_limit)
 
--- The bytes are the annotation's text, and the annotation is within the limits.
+-- The bytes are the annotation's text in a version, and the annotation is within the limits.
 pub record IsText (bytes : List ℕ) (ann : Ann) : Type 0 where
+  pub version : Version
   pub slots : AllByRecursion SlotFits ann.slots
   pub notes : AllByRecursion NoteFits ann.notes
   pub within : Within (length ann.slots, length ann.notes)
-  pub same : bytes ≡ deriv_text ann
+  pub same : bytes ≡ deriv_text version ann
 
 -- The text is the lines of these things, and the rest.
 pub record Begins {A : Type 0} (line : A → List ℕ) (Fits : A → Type 0) (text : List ℕ) (xs : List A) (rest : List ℕ) : Type 0 where
@@ -29,27 +31,31 @@ pub record Begins {A : Type 0} (line : A → List ℕ) (Fits : A → Type 0) (te
 abbrev pub NoLine : {A : Type 0} → (A → List ℕ) → (A → Type 0) → List ℕ → Type 0
 NoLine {A} line Fits text = (x : A) (rest : List ℕ) → Fits x → text ≡ line x ++ rest → ⊥
 
--- The text begins with a first line of these counts, and the rest.
-abbrev pub BeginsHead : List ℕ → ℕ × ℕ → List ℕ → Type 0
-BeginsHead text counts rest = CountsFit counts × (text ≡ head_line counts ++ rest)
+-- The text begins with a first line of this version and these counts, and the rest.
+abbrev pub BeginsHead : List ℕ → Version → ℕ × ℕ → List ℕ → Type 0
+BeginsHead text version counts rest = CountsFit counts × (text ≡ head_line version counts ++ rest)
 
--- Line n is the first that is not of its form.
+-- The text does not begin with a first line of any version.
+abbrev pub NoHead : List ℕ → Type 0
+NoHead text = (version : Version) → NoLine (head_line version) CountsFit text
+
+-- Line n is the first that is not of its form. Forms go by the version that the first line names.
 pub data IsBadLine (bytes : List ℕ) (n : ℕ) : Type 0 where
   -- the first line
-  bad_head : NoLine head_line CountsFit bytes → n ≡ 1 → IsBadLine bytes n
+  bad_head : NoHead bytes → n ≡ 1 → IsBadLine bytes n
   -- behind some slots, fewer than the first line says, no slot's line stands
-  bad_slot : {counts : ℕ × ℕ} {text rest : List ℕ} {slots : List (ℕ × Cap)} → BeginsHead bytes counts text → Within counts → Begins slot_line SlotFits text slots rest → length slots < counts.0
+  bad_slot : (version : Version) {counts : ℕ × ℕ} {text rest : List ℕ} {slots : List (ℕ × Cap)} → BeginsHead bytes version counts text → Within counts → Begins slot_line SlotFits text slots rest → length slots < counts.0
       → NoLine slot_line SlotFits rest → n ≡ length slots + 2 → IsBadLine bytes n
   -- behind all slots and some nodes, fewer than the first line says, no node's line stands
-  bad_node : {counts : ℕ × ℕ} {text mid rest : List ℕ} {slots : List (ℕ × Cap)} {notes : List Note} → BeginsHead bytes counts text → Within counts → Begins slot_line SlotFits text slots mid → length slots ≡ counts.0
-      → Begins note_line NoteFits mid notes rest → length notes < counts.1 → NoLine note_line NoteFits rest → n ≡ counts.0 + length notes + 2 → IsBadLine bytes n
+  bad_node : (version : Version) {counts : ℕ × ℕ} {text mid rest : List ℕ} {slots : List (ℕ × Cap)} {notes : List Note} → BeginsHead bytes version counts text → Within counts → Begins slot_line SlotFits text slots mid → length slots ≡ counts.0
+      → Begins (note_line version) NoteFits mid notes rest → length notes < counts.1 → NoLine (note_line version) NoteFits rest → n ≡ counts.0 + length notes + 2 → IsBadLine bytes n
   -- something follows the whole text
-  bad_end : {counts : ℕ × ℕ} {text mid rest : List ℕ} {slots : List (ℕ × Cap)} {notes : List Note} → BeginsHead bytes counts text → Within counts → Begins slot_line SlotFits text slots mid → length slots ≡ counts.0
-      → Begins note_line NoteFits mid notes rest → length notes ≡ counts.1 → 0 < length rest → n ≡ counts.0 + counts.1 + 2 → IsBadLine bytes n
+  bad_end : (version : Version) {counts : ℕ × ℕ} {text mid rest : List ℕ} {slots : List (ℕ × Cap)} {notes : List Note} → BeginsHead bytes version counts text → Within counts → Begins slot_line SlotFits text slots mid → length slots ≡ counts.0
+      → Begins (note_line version) NoteFits mid notes rest → length notes ≡ counts.1 → 0 < length rest → n ≡ counts.0 + counts.1 + 2 → IsBadLine bytes n
 
 -- The first line is of its form, and a count in it passes its limit.
 abbrev pub IsTooMany : List ℕ → Type 0
-IsTooMany bytes = (counts : ℕ × ℕ) × (rest : List ℕ) × BeginsHead bytes counts rest × (Within counts → ⊥)
+IsTooMany bytes = (version : Version) × (counts : ℕ × ℕ) × (rest : List ℕ) × BeginsHead bytes version counts rest × (Within counts → ⊥)
 
 -- The fault of the bytes.
 abbrev pub IsFault : List ℕ → DerivFault → Type 0

@@ -9,7 +9,7 @@ use Rattle.pc_deriv.specs.declared.line.LineFault.TheVariants as line_fault
 use Rattle.pc_deriv.specs.Lines.{Taken, nothing_taken, fed, ended_so, lines_of}
 use Rattle.pc_deriv.specs.Faults.{IsText, IsFault}
 
--- No bytes are the text of two annotations.
+-- No bytes are the text of two annotations, in one version or in two.
 abbrev pub OneAnnotation : Type 0
 OneAnnotation = (bytes : List ℕ) (a b : Ann) → IsText bytes a → IsText bytes b → a ≡ b
 
@@ -33,9 +33,9 @@ abbrev pub CutsAreOne : Type 0
 CutsAreOne = (t : Taken) (a b : List ℕ) → fed t (a ++ b) ≡ ((fed t a).0 ++ (fed (fed t a).1 b).0, (fed (fed t a).1 b).1)
 
 -- What was wrong with the bytes taken, or else is wrong where nothing follows them, is the fault of the bytes. Where nothing
--- is wrong, they are the text of an annotation, and the lines are its lines.
+-- is wrong, they are the text of an annotation in a version, and the lines are those of that text.
 abbrev pub IsRead : List ℕ → List Line → Result (Unit {0}) LineFault → Type 0
-IsRead bytes ls (Ok _) = (ann : Ann) × IsText bytes ann × (ls ≡ lines_of ann)
+IsRead bytes ls (Ok _) = (ann : Ann) × (is : IsText bytes ann) × (ls ≡ lines_of is.version ann)
 IsRead bytes ls (Err f) = IsFault bytes (as_read f)
 
 abbrev pub LinesAreRead : Type 0
@@ -43,7 +43,7 @@ LinesAreRead = (bytes : List ℕ) → IsRead bytes (fed nothing_taken bytes).0 (
 
 -- All lines of an annotation's text end in it, and nothing is wrong.
 abbrev pub TextsAreTaken : Type 0
-TextsAreTaken = (bytes : List ℕ) (ann : Ann) → IsText bytes ann → ((fed nothing_taken bytes).0 ≡ lines_of ann) × (ended_so (fed nothing_taken bytes).1 ≡ Ok tt)
+TextsAreTaken = (bytes : List ℕ) (ann : Ann) → (is : IsText bytes ann) → ((fed nothing_taken bytes).0 ≡ lines_of is.version ann) × (ended_so (fed nothing_taken bytes).1 ≡ Ok tt)
 
 -- The fault of the bytes is the one that is found.
 abbrev pub FaultsAreFound : Type 0

@@ -6,6 +6,7 @@ pub mod Answers
 pub mod Reading
 pub mod Stops
 pub mod Lines
+pub mod Front
 pub mod Laws
 pub mod LineState
 pub mod Pieces

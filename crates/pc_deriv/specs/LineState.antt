@@ -5,7 +5,7 @@ use Rattle.pc_deriv.specs.Lines.{Taken, longest_line}
 use Rattle.pc_deriv.specs.declared.line_state.LineState.{LineState}
 
 abbrev pub taken_of : LineState → Taken
-taken_of s = record { counts = s.counts; ended = s.ended; pending = take s.filled s.buffer; fault = s.fault }
+taken_of s = record { version = s.version; counts = s.counts; ended = s.ended; pending = take s.filled s.buffer; fault = s.fault }
 
 -- no more lines have ended than there are
 abbrev pub Room : Option (ℕ × ℕ) → ℕ → Type 0

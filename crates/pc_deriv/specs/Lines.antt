@@ -4,14 +4,18 @@ use Rattle.pc_caps.specs.declared.capability.Cap.{Cap}
 use Rattle.pc_ann.specs.declared.annotation.Ann.{Ann}
 use Rattle.pc_deriv.specs.Limits.{slot_limit, node_limit}
 use Rattle.pc_deriv.specs.Reading.{head_at, slot_at, note_at}
+use Rattle.pc_deriv.specs.Names.{version_number}
+use Rattle.pc_deriv.specs.declared.version.Version.{Version}
+use Rattle.pc_deriv.specs.declared.version.Version.TheVariants as version
 use Rattle.pc_deriv.specs.declared.line.Line.{Line}
 use Rattle.pc_deriv.specs.declared.line.Line.TheVariants as line
 use Rattle.pc_deriv.specs.declared.line.LineFault.{LineFault}
 use Rattle.pc_deriv.specs.declared.line.LineFault.TheVariants as fault
 
--- What is known behind some bytes: the counts of the first line, once it has ended; how many lines have ended; the bytes
--- behind the last of them; the fault, if there is one.
+-- What is known behind some bytes: the version and the counts of the first line, once it has ended; how many lines have
+-- ended; the bytes behind the last of them; the fault, if there is one.
 pub record Taken : Type 0 where
+  pub version : Version
   pub counts : Option (ℕ × ℕ)
   pub ended : ℕ
   pub pending : List ℕ
@@ -19,7 +23,7 @@ pub record Taken : Type 0 where
 
 -- no byte was taken
 abbrev pub nothing_taken : Taken
-nothing_taken = record { counts = None; ended = 0; pending = []; fault = None }
+nothing_taken = record { version = version.One; counts = None; ended = 0; pending = []; fault = None }
 
 -- the most bytes of a line, its end among them
 abbrev pub longest_line : ℕ
@@ -27,23 +31,23 @@ longest_line = 128
 
 -- the line that such bytes are, by what is to stand there
 abbrev pub head_in : List ℕ → Option Line
-head_in bytes = option_map (λ r. line.Head r.0.0 r.0.1) (head_at bytes)
+head_in bytes = option_map (λ r. line.Head (version_number r.0.0) r.0.1.0 r.0.1.1) (head_at bytes)
 
 abbrev pub slot_in : List ℕ → Option Line
 slot_in bytes = option_map (λ r. line.Slot r.0.0 r.0.1) (slot_at bytes)
 
-abbrev pub node_in : List ℕ → Option Line
-node_in bytes = option_map (λ r. line.Node r.0) (note_at bytes)
+abbrev pub node_in : Version → List ℕ → Option Line
+node_in version bytes = option_map (λ r. line.Node r.0) (note_at version bytes)
 
 -- The line that such bytes are behind so many lines: first the counts, then as many slots and as many nodes as they say,
 -- and then nothing.
-abbrev pub line_in : Option (ℕ × ℕ) → (ended : ℕ) → List ℕ → Option Line
-line_in None ended bytes = head_in bytes
-line_in (Some (slots, nodes)) ended bytes = if nat_le ended slots then slot_in bytes else (if nat_le ended (slots + nodes) then node_in bytes else None)
+abbrev pub line_in : Version → Option (ℕ × ℕ) → (ended : ℕ) → List ℕ → Option Line
+line_in version None ended bytes = head_in bytes
+line_in version (Some (slots, nodes)) ended bytes = if nat_le ended slots then slot_in bytes else (if nat_le ended (slots + nodes) then node_in version bytes else None)
 
 -- counts that pass a limit are refused
 abbrev pub within_limits : Line → Result Line LineFault
-within_limits (line.Head slots nodes) = if nat_le slots slot_limit && nat_le nodes node_limit then Ok (line.Head slots nodes) else Err fault.TooMany
+within_limits (line.Head version slots nodes) = if nat_le slots slot_limit && nat_le nodes node_limit then Ok (line.Head version slots nodes) else Err fault.TooMany
 within_limits (line.Slot entity cap) = Ok (line.Slot entity cap)
 within_limits (line.Node note) = Ok (line.Node note)
 
@@ -53,19 +57,29 @@ checked n None = Err (fault.BadLine n)
 checked n (Some l) = within_limits l
 
 -- what such bytes say behind so many lines
-abbrev pub said : Option (ℕ × ℕ) → (ended : ℕ) → List ℕ → Result Line LineFault
-said counts ended bytes = checked (ended + 1) (line_in counts ended bytes)
+abbrev pub said : Version → Option (ℕ × ℕ) → (ended : ℕ) → List ℕ → Result Line LineFault
+said version counts ended bytes = checked (ended + 1) (line_in version counts ended bytes)
+
+-- the version that a number names, which is 1 or 2
+abbrev pub version_of : ℕ → Version
+version_of number = if number == 2 then version.Two else version.One
+
+-- the version, once a line has ended
+abbrev pub version_with : Version → Line → Version
+version_with version (line.Head number slots nodes) = version_of number
+version_with version (line.Slot entity cap) = version
+version_with version (line.Node note) = version
 
 -- the counts, once a line has ended
 abbrev pub counts_with : Option (ℕ × ℕ) → Line → Option (ℕ × ℕ)
-counts_with counts (line.Head slots nodes) = Some (slots, nodes)
+counts_with counts (line.Head number slots nodes) = Some (slots, nodes)
 counts_with counts (line.Slot entity cap) = counts
 counts_with counts (line.Node note) = counts
 
 -- what is known behind a line
 abbrev pub behind : Taken → Result Line LineFault → Taken
-behind t (Ok l) = record { counts = counts_with t.counts l; ended = t.ended + 1; pending = []; fault = None }
-behind t (Err f) = record { counts = t.counts; ended = t.ended; pending = []; fault = Some f }
+behind t (Ok l) = record { version = version_with t.version l; counts = counts_with t.counts l; ended = t.ended + 1; pending = []; fault = None }
+behind t (Err f) = record { version = t.version; counts = t.counts; ended = t.ended; pending = []; fault = Some f }
 
 -- the line that ended, if one did
 abbrev pub answered : Result Line LineFault → Result (Option Line) LineFault
@@ -82,7 +96,7 @@ kept t b long = if long then closed t (Err (fault.BadLine (t.ended + 1))) else (
 
 -- what a byte gives where nothing was wrong
 abbrev pub went_on : Taken → ℕ → Result (Option Line) LineFault × Taken
-went_on t b = if b == 10 then closed t (said t.counts t.ended (t.pending ++ b ∷ [])) else kept t b (length t.pending + 1 == longest_line)
+went_on t b = if b == 10 then closed t (said t.version t.counts t.ended (t.pending ++ b ∷ [])) else kept t b (length t.pending + 1 == longest_line)
 
 -- what a byte gives: behind a fault this fault, and nothing is taken
 abbrev pub took_at : Option LineFault → Taken → ℕ → Result (Option Line) LineFault × Taken
@@ -116,9 +130,9 @@ ended_at None t = if is_whole t.counts t.ended t.pending then Ok tt else Err (fa
 abbrev pub ended_so : Taken → Result (Unit {0}) LineFault
 ended_so t = ended_at t.fault t
 
--- the lines of an annotation
+-- the lines of an annotation's text in a version
 abbrev pub slot_of : ℕ × Cap → Line
 slot_of (entity, cap) = line.Slot entity cap
 
-abbrev pub lines_of : Ann → List Line
-lines_of ann = line.Head (length ann.slots) (length ann.notes) ∷ (map slot_of ann.slots ++ map line.Node ann.notes)
+abbrev pub lines_of : Version → Ann → List Line
+lines_of version ann = line.Head (version_number version) (length ann.slots) (length ann.notes) ∷ (map slot_of ann.slots ++ map line.Node ann.notes)

@@ -1,4 +1,4 @@
--- The names of rules, capabilities and forms.
+-- The names of versions, rules, capabilities and forms.
 use Rattle.std.specs.Prelude.{ℕ, List, codes}
 use Rattle.pc_caps.specs.declared.capability.Cap.{Cap}
 use Rattle.pc_caps.specs.declared.capability.Cap.TheVariants as cap
@@ -6,6 +6,16 @@ use Rattle.pc_caps.specs.declared.capability.Form.{Form}
 use Rattle.pc_caps.specs.declared.capability.Form.TheVariants as form
 use Rattle.pc_ann.specs.declared.annotation.Rule.{Rule}
 use Rattle.pc_ann.specs.declared.annotation.Rule.TheVariants as rule
+use Rattle.pc_deriv.specs.declared.version.Version.{Version}
+use Rattle.pc_deriv.specs.declared.version.Version.TheVariants as version
+
+abbrev pub version_number : Version → ℕ
+version_number version.One = 1
+version_number version.Two = 2
+
+abbrev pub version_name : Version → List ℕ
+version_name version.One = codes "1"
+version_name version.Two = codes "2"
 
 abbrev pub rule_name : Rule → List ℕ
 rule_name rule.Number = codes "number"

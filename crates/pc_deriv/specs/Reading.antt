@@ -7,8 +7,10 @@ use Rattle.pc_caps.specs.declared.capability.Form.{Form}
 use Rattle.pc_ann.specs.declared.mask.Mask.{Mask}
 use Rattle.pc_ann.specs.declared.annotation.Rule.{Rule}
 use Rattle.pc_ann.specs.declared.annotation.Note.{Note}
-use Rattle.pc_deriv.specs.declared.names.TheConstants.{RULES, CAPS, FORMS}
-use Rattle.pc_deriv.specs.Names.{rule_name, cap_name, form_name}
+use Rattle.pc_deriv.specs.declared.names.TheConstants.{VERSIONS, RULES, CAPS, FORMS}
+use Rattle.pc_deriv.specs.declared.version.Version.{Version}
+use Rattle.pc_deriv.specs.Names.{version_name, rule_name, cap_name, form_name}
+use Rattle.pc_deriv.specs.Text.{shown_after}
 use Rattle.pc_lists.specs.Options.{◌>>=◌}
 
 -- what follows these bytes
@@ -33,6 +35,9 @@ beside x (Some rest) = Some (x, rest)
 abbrev pub named_at : {A : Type 0} → (A → List ℕ) → ℕ → List A → List ℕ → Option (A × List ℕ)
 named_at name end [] text = None
 named_at name end (x ∷ xs) text = or_else (beside x (after_word (name x) end text)) (named_at name end xs text)
+
+unfoldable pub version_at : List ℕ → Option (Version × List ℕ)
+version_at = named_at version_name 32 VERSIONS
 
 unfoldable pub rule_at : List ℕ → Option (Rule × List ℕ)
 rule_at = named_at rule_name 32 RULES
@@ -72,12 +77,13 @@ mask_at end text = do
   n ← number_at 16 (2 ^ 64 - 1) end text
   Some (record { 0 = n.0 }, n.1)
 
-unfoldable pub head_at : List ℕ → Option ((ℕ × ℕ) × List ℕ)
+unfoldable pub head_at : List ℕ → Option ((Version × (ℕ × ℕ)) × List ℕ)
 head_at text = do
-  t ← after (codes "rcap-derivation 1 ") text
-  a ← decimal_at 32 t
+  t ← after (codes "rcap-derivation ") text
+  v ← version_at t
+  a ← decimal_at 32 v.1
   b ← decimal_at 10 a.1
-  Some ((a.0, b.0), b.1)
+  Some ((v.0, (a.0, b.0)), b.1)
 
 unfoldable pub slot_at : List ℕ → Option ((ℕ × Cap) × List ℕ)
 slot_at text = do
@@ -101,11 +107,12 @@ masks_at end text = do
   s ← mask_at end l.1
   Some ((l.0, s.0), s.1)
 
-unfoldable pub note_at : List ℕ → Option (Note × List ℕ)
-note_at text = do
+-- what was written for a mask after a node gives that mask by the same rule
+unfoldable pub note_at : Version → List ℕ → Option (Note × List ℕ)
+note_at version text = do
   t ← after (codes "n ") text
   r ← rule_at t
   ty ← type_at r.1
   b ← masks_at 32 ty.1
   a ← masks_at 10 b.1
-  Some (record { rule = r.0; ty = ty.0; live_before = b.0.0; set_before = b.0.1; live_after = a.0.0; set_after = a.0.1 }, a.1)
+  Some (record { rule = r.0; ty = ty.0; live_before = b.0.0; set_before = b.0.1; live_after = shown_after version b.0.0 a.0.0; set_after = shown_after version b.0.1 a.0.1 }, a.1)

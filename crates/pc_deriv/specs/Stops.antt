@@ -2,6 +2,7 @@
 use Rattle.std.specs.Prelude.{◌≡◌, ℕ, ◌+◌, ◌<◌, List, length, ⊤}
 use Rattle.pc_deriv.specs.Text.{slot_line, note_line, SlotFits, NoteFits}
 use Rattle.pc_deriv.specs.Faults.{Begins, NoLine}
+use Rattle.pc_deriv.specs.declared.version.Version.{Version}
 use Rattle.pc_deriv.specs.declared.fault.DerivFault.{DerivFault}
 use Rattle.pc_deriv.specs.declared.fault.DerivFault.TheVariants as fault
 
@@ -19,7 +20,7 @@ SlotsStop text wanted (fault.BadLine n) = StopsEarly slot_line SlotFits text 0 w
 SlotsStop text wanted fault.TooMany = ⊥
 SlotsStop text wanted fault.Memory = ⊤
 
-abbrev pub NotesStop : List ℕ → (slots wanted : ℕ) → DerivFault → Type 0
-NotesStop text slots wanted (fault.BadLine n) = StopsEarly note_line NoteFits text slots wanted n
-NotesStop text slots wanted fault.TooMany = ⊥
-NotesStop text slots wanted fault.Memory = ⊤
+abbrev pub NotesStop : Version → List ℕ → (slots wanted : ℕ) → DerivFault → Type 0
+NotesStop version text slots wanted (fault.BadLine n) = StopsEarly (note_line version) NoteFits text slots wanted n
+NotesStop version text slots wanted fault.TooMany = ⊥
+NotesStop version text slots wanted fault.Memory = ⊤

@@ -5,8 +5,10 @@ use pc_caps::Cap;
 /// What a line of a derivation text says.
 #[derive(Clone, Copy, Debug, PartialEq, Eq)]
 pub enum Line {
-    /// The first line: how many slots and how many nodes follow.
+    /// The first line: the version, and how many slots and how many nodes follow.
     Head {
+        /// The number of the version, 1 or 2.
+        version: u32,
         /// The number of slots.
         slots: u32,
         /// The number of nodes.
@@ -14,7 +16,7 @@ pub enum Line {
     },
     /// The entity and the capability of a slot.
     Slot(u32, Cap),
-    /// The note of a node.
+    /// The note of a node, with its own masks after it in both versions.
     Node(Note),
 }
 

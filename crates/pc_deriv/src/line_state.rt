@@ -1,66 +1,36 @@
 //! The bytes of a line that has not ended yet, and what the lines before it said.
-ghost use Rattle.std.specs.Prelude.{◌≡◌, ◌≤◌, None, length, take};
+ghost use Rattle.std.specs.Prelude.{◌≡◌, ℕ, ◌+◌, ◌≤◌, None, List, length, take};
 ghost use Rattle.pc_deriv.specs.Lines as lines;
 ghost use Rattle.pc_deriv.specs.LineState.{taken_of, Room, Sound};
 
+use crate::front::front_line;
 use crate::line::{Line, LineFault};
-use crate::lines::{head_at, note_at, slot_at};
 use crate::reading::{NODE_LIMIT, SLOT_LIMIT};
+use crate::version::{Version, version_of};
 
 /// The most bytes of a line, its end among them. No line of an annotation's text is longer.
 const LONGEST_LINE: usize = 128;
 
-/// The bytes behind the last line end, the counts of the first line, how many lines have ended, and the fault.
+/// The version and the counts of the first line, the bytes behind the last line end, how many lines have ended, and the
+/// fault.
 #[derive(Drop)]
 pub struct LineState {
     pub buffer: [u8; LONGEST_LINE],
     pub filled: usize,
+    pub version: Version,
     pub counts: Option<(u32, u32)>,
     pub ended: u32,
     pub fault: Option<LineFault>,
 }
 
-// The first line that such bytes are.
-fn head_in(bytes: &[u8]) -> Option<Line>
-    ensures { result ≡ lines.head_in bytes.now }
-{
-    let ((slots, nodes), _) = head_at(bytes)?;
-    Some(Line::Head { slots, nodes })
-}
-
-// The line of a slot that such bytes are.
-fn slot_in(bytes: &[u8]) -> Option<Line>
-    ensures { result ≡ lines.slot_in bytes.now }
-{
-    let ((entity, cap), _) = slot_at(bytes)?;
-    Some(Line::Slot(entity, cap))
-}
-
-// The line of a node that such bytes are.
-fn node_in(bytes: &[u8]) -> Option<Line>
-    ensures { result ≡ lines.node_in bytes.now }
-{
-    let (note, _) = note_at(bytes)?;
-    Some(Line::Node(note))
-}
-
 // The line that such bytes are behind so many lines.
-fn line_in(counts: Option<(u32, u32)>, ended: u32, bytes: &[u8]) -> Option<Line>
+#[tactic(auto, using(crate::proofs::WholeLines::front_is_in))]
+fn line_in(version: Version, counts: Option<(u32, u32)>, ended: u32, bytes: &[u8]) -> Option<Line>
     requires { Room counts ended }
-    ensures { result ≡ lines.line_in counts ended bytes.now }
+    ensures { result ≡ lines.line_in version counts ended bytes.now }
 {
-    match counts {
-        None => head_in(bytes),
-        Some((slots, nodes)) => {
-            if ended <= slots {
-                slot_in(bytes)
-            } else if ended <= slots + nodes {
-                node_in(bytes)
-            } else {
-                None
-            }
-        }
-    }
+    let (line, _) = front_line(version, counts, ended, bytes)?;
+    Some(line)
 }
 
 // Counts that pass a limit are refused.
@@ -68,7 +38,11 @@ fn within_limits(line: Line) -> Result<Line, LineFault>
     ensures { result ≡ lines.within_limits line }
 {
     match line {
-        Line::Head { slots, nodes } => {
+        Line::Head {
+            version: _,
+            slots,
+            nodes,
+        } => {
             if slots <= SLOT_LIMIT && nodes <= NODE_LIMIT {
                 Ok(line)
             } else {
@@ -80,14 +54,28 @@ fn within_limits(line: Line) -> Result<Line, LineFault>
     }
 }
 
-// What such bytes say behind so many lines.
-fn said(counts: Option<(u32, u32)>, ended: u32, bytes: &[u8]) -> Result<Line, LineFault>
-    requires { Room counts ended }
-    ensures { result ≡ lines.said counts ended bytes.now }
+// Line n, or what is wrong with it.
+fn checked(number: u32, read: Option<Line>) -> Result<Line, LineFault>
+    ensures { result ≡ lines.checked number read }
 {
-    match line_in(counts, ended, bytes) {
-        None => Err(LineFault::BadLine(ended + 1)),
+    match read {
+        None => Err(LineFault::BadLine(number)),
         Some(line) => within_limits(line),
+    }
+}
+
+// The version, once a line has ended.
+fn version_with(version: Version, line: Line) -> Version
+    ensures { result ≡ lines.version_with version line }
+{
+    match line {
+        Line::Head {
+            version: number,
+            slots: _,
+            nodes: _,
+        } => version_of(number),
+        Line::Slot(_, _) => version,
+        Line::Node(_) => version,
     }
 }
 
@@ -96,7 +84,11 @@ fn counts_with(counts: Option<(u32, u32)>, line: Line) -> Option<(u32, u32)>
     ensures { result ≡ lines.counts_with counts line }
 {
     match line {
-        Line::Head { slots, nodes } => Some((slots, nodes)),
+        Line::Head {
+            version: _,
+            slots,
+            nodes,
+        } => Some((slots, nodes)),
         Line::Slot(_, _) => counts,
         Line::Node(_) => counts,
     }
@@ -111,10 +103,34 @@ impl LineState {
         LineState {
             buffer: [0; LONGEST_LINE],
             filled: 0,
+            version: Version::One,
             counts: None,
             ended: 0,
             fault: None,
         }
+    }
+
+    /// Ends a line, of whose bytes this was read; none where they are no line of their form.
+    pub fn end_with(&mut self, read: Option<Line>) -> Result<Line, LineFault>
+        requires right { self.old.fault ≡ None }
+        requires room { Room self.old.counts self.old.ended }
+        requires size { length self.old.buffer ≡ lines.longest_line }
+        requires read { (bytes : List ℕ) × (read ≡ lines.line_in self.old.version self.old.counts self.old.ended bytes) }
+        ensures answer { result ≡ lines.checked (self.old.ended + 1) read }
+        ensures taken { taken_of self.new ≡ lines.behind (taken_of self.old) result }
+        ensures sound { Sound self.new }
+    {
+        let answer = checked(self.ended + 1, read);
+        self.filled = 0;
+        match answer {
+            Ok(line) => {
+                self.version = version_with(self.version, line);
+                self.counts = counts_with(self.counts, line);
+                self.ended += 1;
+            }
+            Err(fault) => self.fault = Some(fault),
+        }
+        answer
     }
 
     // Ends the line of all bytes in the buffer.
@@ -123,20 +139,13 @@ impl LineState {
         requires room { Room self.old.counts self.old.ended }
         requires size { length self.old.buffer ≡ lines.longest_line }
         requires within { filled ≤ lines.longest_line }
-        ensures answer { result ≡ lines.said self.old.counts self.old.ended (take filled self.old.buffer) }
+        ensures answer { result ≡ lines.said self.old.version self.old.counts self.old.ended (take filled self.old.buffer) }
         ensures taken { taken_of self.new ≡ lines.behind (taken_of self.old) result }
         ensures sound { Sound self.new }
     {
-        let answer = said(self.counts, self.ended, &self.buffer[..filled]);
-        self.filled = 0;
-        match answer {
-            Ok(line) => {
-                self.counts = counts_with(self.counts, line);
-                self.ended += 1;
-            }
-            Err(fault) => self.fault = Some(fault),
-        }
-        answer
+        let bytes = &self.buffer[..filled];
+        let read = line_in(self.version, self.counts, self.ended, bytes);
+        self.end_with(read)
     }
 
     /// Takes one byte, and answers the line that it ends.

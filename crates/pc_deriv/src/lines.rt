@@ -2,20 +2,22 @@
 ghost use Rattle.std.specs.Prelude.{◌≡◌, option_map};
 ghost use Rattle.pc_deriv.specs.Reading as reading;
 
-use crate::names::{after, cap_at, form_at, rule_at};
+use crate::names::{after, cap_at, form_at, rule_at, version_at};
 use crate::numbers::{decimal_at, mask_at};
+use crate::version::{Version, shown_after};
 use pc_ann::{Mask, Note};
 use pc_caps::{Cap, Form};
 
-/// The counts of slots and of nodes in the first line, and what follows the line.
+/// The version and the counts of slots and of nodes in the first line, and what follows the line.
 #[tactic(auto, unfolding(crate::specs::Reading::head_at))]
-pub fn head_at(text: &[u8]) -> Option<((u32, u32), &[u8])>
+pub fn head_at(text: &[u8]) -> Option<((Version, (u32, u32)), &[u8])>
     ensures { option_map (λ r. (r.0, r.1.now)) result ≡ reading.head_at text.now }
 {
-    let text = after(text, b"rcap-derivation 1 ")?;
+    let text = after(text, b"rcap-derivation ")?;
+    let (version, text) = version_at(text)?;
     let (slots, text) = decimal_at(text, b' ')?;
     let (nodes, text) = decimal_at(text, b'\n')?;
-    Some(((slots, nodes), text))
+    Some(((version, (slots, nodes)), text))
 }
 
 /// The entity and the capability in the line of a slot, and what follows the line.
@@ -60,24 +62,24 @@ fn masks_at(text: &[u8], end: u8) -> Option<((Mask, Mask), &[u8])>
     Some(((live, set), text))
 }
 
-/// The note in the line of a node, and what follows the line.
+/// The note in the line of a node, in a version, and what follows the line.
 #[tactic(auto, unfolding(crate::specs::Reading::note_at))]
-pub fn note_at(text: &[u8]) -> Option<(Note, &[u8])>
-    ensures { option_map (λ r. (r.0, r.1.now)) result ≡ reading.note_at text.now }
+pub fn note_at(version: Version, text: &[u8]) -> Option<(Note, &[u8])>
+    ensures { option_map (λ r. (r.0, r.1.now)) result ≡ reading.note_at version text.now }
 {
     let text = after(text, b"n ")?;
     let (rule, text) = rule_at(text)?;
     let (ty, text) = type_at(text)?;
     let ((live_before, set_before), text) = masks_at(text, b' ')?;
-    let ((live_after, set_after), text) = masks_at(text, b'\n')?;
+    let ((live_shown, set_shown), text) = masks_at(text, b'\n')?;
     Some((
         Note {
             rule,
             ty,
             live_before,
             set_before,
-            live_after,
-            set_after,
+            live_after: shown_after(version, live_before, live_shown),
+            set_after: shown_after(version, set_before, set_shown),
         },
         text,
     ))

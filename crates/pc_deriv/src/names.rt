@@ -1,10 +1,13 @@
-//! The names of rules, capabilities and forms.
+//! The names of versions, rules, capabilities and forms.
 ghost use Rattle.std.specs.Prelude.{◌≡◌, option_map};
 ghost use Rattle.pc_deriv.specs.Names as names;
 ghost use Rattle.pc_deriv.specs.Reading as reading;
 
+use crate::version::Version;
 use pc_ann::Rule;
 use pc_caps::{Cap, Form};
+
+const VERSIONS: [Version; 2] = [Version::One, Version::Two];
 
 const RULES: [Rule; 31] = [
     Rule::Number,
@@ -40,18 +43,29 @@ const RULES: [Rule; 31] = [
     Rule::Body,
 ];
 
-const CAPS: [Cap; 6] = [Cap::Iso, Cap::Trn, Cap::Ref, Cap::Val, Cap::Box, Cap::Tag];
+// Those that stand most often come first, since they are tried in turn.
+const CAPS: [Cap; 6] = [Cap::Ref, Cap::Val, Cap::Tag, Cap::Iso, Cap::Box, Cap::Trn];
 
 const FORMS: [Form; 8] = [
-    Form::IsoE,
-    Form::TrnE,
-    Form::Iso,
-    Form::Trn,
-    Form::Ref,
     Form::Val,
-    Form::Box,
+    Form::Ref,
     Form::Tag,
+    Form::Iso,
+    Form::IsoE,
+    Form::Box,
+    Form::Trn,
+    Form::TrnE,
 ];
+
+/// The name of a version in the first line.
+pub fn version_name(version: Version) -> &'static str
+    ensures { result.now ≡ names.version_name version }
+{
+    match version {
+        Version::One => "1",
+        Version::Two => "2",
+    }
+}
 
 /// The name of a rule in the text.
 pub fn rule_name(rule: Rule) -> &'static str
@@ -145,6 +159,27 @@ fn after_word<'a>(text: &'a [u8], word: &str, end: u8) -> Option<&'a [u8]>
 
 // The first of these whose name stands at the front, with what ends it.
 #[tactic(auto, using(crate::proofs::NameSteps::named_here, crate::proofs::NameSteps::named_on))]
+fn first_version<'a>(versions: &[Version], text: &'a [u8]) -> Option<(Version, &'a [u8])>
+    ensures { option_map (λ r. (r.0, r.1.now)) result ≡ reading.named_at names.version_name 32 versions.now text.now }
+{
+    for version in versions {
+        if let Some(rest) = after_word(text, version_name(*version), b' ') {
+            return Some((*version, rest));
+        }
+    }
+    None
+}
+
+/// The version with whose name and a blank the text begins, and what follows.
+#[tactic(auto, unfolding(crate::specs::Reading::version_at))]
+pub fn version_at(text: &[u8]) -> Option<(Version, &[u8])>
+    ensures { option_map (λ r. (r.0, r.1.now)) result ≡ reading.version_at text.now }
+{
+    first_version(&VERSIONS, text)
+}
+
+// The first of these whose name stands at the front, with what ends it.
+#[tactic(auto, using(crate::proofs::NameSteps::named_here, crate::proofs::NameSteps::named_on))]
 fn first_rule<'a>(rules: &[Rule], text: &'a [u8]) -> Option<(Rule, &'a [u8])>
     ensures { option_map (λ r. (r.0, r.1.now)) result ≡ reading.named_at names.rule_name 32 rules.now text.now }
 {
@@ -156,12 +191,35 @@ fn first_rule<'a>(rules: &[Rule], text: &'a [u8]) -> Option<(Rule, &'a [u8])>
     None
 }
 
-/// The rule with whose name and a blank the text begins, and what follows.
-#[tactic(auto, unfolding(crate::specs::Reading::rule_at))]
+/// The rule with whose name and a blank the text begins, and what follows. Only names with the text's first byte are
+/// looked at.
 pub fn rule_at(text: &[u8]) -> Option<(Rule, &[u8])>
     ensures { option_map (λ r. (r.0, r.1.now)) result ≡ reading.rule_at text.now }
 {
-    first_rule(&RULES, text)
+    if text.is_empty() {
+        return first_rule(&RULES, text);
+    }
+    match text[0] {
+        b'a' => first_rule(&[Rule::Assign, Rule::Arith], text),
+        b'b' => first_rule(&[Rule::Builtin, Rule::Body], text),
+        b'c' => first_rule(
+            &[Rule::Consume, Rule::Call, Rule::CallRecover, Rule::Compare],
+            text,
+        ),
+        b'd' => first_rule(&[Rule::Define], text),
+        b'e' => first_rule(&[Rule::Equal], text),
+        b'g' => first_rule(&[Rule::Get, Rule::GetOwn], text),
+        b'i' => first_rule(&[Rule::Identity, Rule::If], text),
+        b'j' => first_rule(&[Rule::Join], text),
+        b'l' => first_rule(&[Rule::Local, Rule::Logic, Rule::Lazy], text),
+        b'n' => first_rule(&[Rule::Number, Rule::New], text),
+        b'p' => first_rule(&[Rule::Prim, Rule::Put, Rule::PutOwn], text),
+        b'r' => first_rule(&[Rule::Recover], text),
+        b's' => first_rule(&[Rule::Spawn, Rule::Send, Rule::Seq], text),
+        b't' => first_rule(&[Rule::Truth, Rule::Text, Rule::This], text),
+        b'w' => first_rule(&[Rule::While], text),
+        _ => first_rule(&RULES, text),
+    }
 }
 
 // The first of these whose name stands at the front, with what ends it.

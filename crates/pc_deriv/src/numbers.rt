@@ -1,55 +1,63 @@
 //! Numbers without leading zeros, and the byte that ends them.
-ghost use Rattle.std.specs.Prelude.{◌≡◌, ◌≤◌, option_map, IfSome};
+ghost use Rattle.std.specs.Prelude.{◌≡◌, ◌<◌, ◌-◌, ◌^◌, option_map, IfSome};
 ghost use Rattle.pc_deriv.specs.Reading as reading;
 
 use pc_ann::Mask;
 
-/// The digit that a byte is in a base of at most 36, letters in lower case.
-fn digit_of(b: u8, base: u8) -> Option<u8>
-    ensures { result ≡ reading.digit_of base b }
+/// Masks from here on have no further digit.
+const FULL_MASK: u64 = 1 << 60;
+
+/// The decimal digit that a byte is.
+fn decimal_digit(b: u8) -> Option<u64>
+    ensures value { result ≡ reading.digit_of 10 b }
+    ensures within { IfSome result (λ d. d < 10) }
 {
-    if b.is_ascii_digit() && b - b'0' < base {
-        Some(b - b'0')
-    } else if b.is_ascii_lowercase() && b - b'a' + 10 < base {
-        Some(b - b'a' + 10)
+    if b.is_ascii_digit() {
+        Some((b - b'0') as u64)
     } else {
         None
     }
 }
 
-/// The number with one digit more. Nothing follows the digit 0 at the front, and no number passes the largest.
-fn with_digit(value: u64, b: u8, base: u8, most: u64) -> Option<u64>
-    ensures value { result ≡ reading.with_digit base most value b }
-    ensures within { IfSome result (λ v. v ≤ most) }
+/// The hexadecimal digit that a byte is, letters in lower case.
+fn hex_digit(b: u8) -> Option<u64>
+    ensures value { result ≡ reading.digit_of 16 b }
+    ensures within { IfSome result (λ d. d < 16) }
+{
+    if b.is_ascii_digit() {
+        Some((b - b'0') as u64)
+    } else if b >= b'a' && b <= b'f' {
+        Some((b - b'a' + 10) as u64)
+    } else {
+        None
+    }
+}
+
+/// The number with one decimal digit more. Nothing follows the digit 0 at the front.
+fn with_decimal(value: u64, b: u8) -> Option<u64>
+    requires { value < 2 ^ 32 }
+    ensures value { result ≡ reading.with_digit 10 (2 ^ 32 - 1) value b }
+    ensures within { IfSome result (λ v. v < 2 ^ 32) }
 {
     if value == 0 {
         return None;
     }
-    let digit = digit_of(b, base)?;
-    let more = value.checked_mul(base as u64)?.checked_add(digit as u64)?;
-    if more <= most { Some(more) } else { None }
+    let more = value * 10 + decimal_digit(b)?;
+    if more <= u32::MAX as u64 {
+        Some(more)
+    } else {
+        None
+    }
 }
 
-/// The number with which the text begins, in this base and at most this large, and what follows it and the byte that
-/// ends it.
-fn number_at<'a>(text: &'a [u8], base: u8, most: u64, end: u8) -> Option<(u64, &'a [u8])>
-    requires { base ≤ most }
-    ensures value { option_map (λ r. (r.0, r.1.now)) result ≡ reading.number_at base most end text.now }
-    ensures within { IfSome result (λ r. r.0 ≤ most) }
+/// The mask with one digit more. Nothing follows the digit 0 at the front.
+fn with_hex(value: u64, b: u8) -> Option<u64>
+    ensures { result ≡ reading.with_digit 16 (2 ^ 64 - 1) value b }
 {
-    if text.is_empty() {
+    if value == 0 || value >= FULL_MASK {
         return None;
     }
-    let mut value = digit_of(text[0], base)? as u64;
-    let mut at: usize = 1;
-    while at < text.len() {
-        if text[at] == end {
-            return Some((value, &text[at + 1..]));
-        }
-        value = with_digit(value, text[at], base, most)?;
-        at += 1;
-    }
-    None
+    Some(value * 16 + hex_digit(b)?)
 }
 
 /// The decimal number below 2^32 with which the text begins, and what follows it and the byte that ends it.
@@ -57,8 +65,20 @@ fn number_at<'a>(text: &'a [u8], base: u8, most: u64, end: u8) -> Option<(u64, &
 pub fn decimal_at(text: &[u8], end: u8) -> Option<(u32, &[u8])>
     ensures { option_map (λ r. (r.0, r.1.now)) result ≡ reading.decimal_at end text.now }
 {
-    let (value, rest) = number_at(text, 10, u32::MAX as u64, end)?;
-    Some((value as u32, rest))
+    if text.is_empty() {
+        return None;
+    }
+    let mut value = decimal_digit(text[0])?;
+    let mut at: usize = 1;
+    'digits: while at < text.len() {
+        let byte = text[at];
+        if byte == end {
+            return Some((value as u32, &text[at + 1..]));
+        }
+        value = with_decimal(value, byte)?;
+        at += 1;
+    }
+    None
 }
 
 /// The mask in hexadecimal with which the text begins, and what follows it and the byte that ends it.
@@ -66,6 +86,18 @@ pub fn decimal_at(text: &[u8], end: u8) -> Option<(u32, &[u8])>
 pub fn mask_at(text: &[u8], end: u8) -> Option<(Mask, &[u8])>
     ensures { option_map (λ r. (r.0, r.1.now)) result ≡ reading.mask_at end text.now }
 {
-    let (value, rest) = number_at(text, 16, u64::MAX, end)?;
-    Some((Mask(value), rest))
+    if text.is_empty() {
+        return None;
+    }
+    let mut value = hex_digit(text[0])?;
+    let mut at: usize = 1;
+    'digits: while at < text.len() {
+        let byte = text[at];
+        if byte == end {
+            return Some((Mask(value), &text[at + 1..]));
+        }
+        value = with_hex(value, byte)?;
+        at += 1;
+    }
+    None
 }

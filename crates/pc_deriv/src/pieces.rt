@@ -4,11 +4,13 @@ ghost use Rattle.pc_deriv.specs.Lines as lines;
 ghost use Rattle.pc_deriv.specs.Pieces.{IsNext};
 ghost use Rattle.pc_deriv.specs.LineState.{taken_of, Sound};
 
+use crate::front::front_line;
 use crate::line::{Line, LineFault};
 use crate::line_state::LineState;
 use std::marker::Model;
 
-/// The lines of a derivation text that comes in pieces. It keeps the bytes of one line, and takes no memory.
+/// The lines of a derivation text that comes in pieces. A line that stands whole in a piece is read where it stands; of
+/// one that is cut, its bytes are kept. It takes no memory.
 ///
 /// Contracts see what is known behind the bytes taken. That this does not depend on how they were cut, that the lines are
 /// those of the annotation that `read` gives, and that the first fault is that of `read`, is `pieces_are_read`.
@@ -87,6 +89,31 @@ fn take_bytes(
     Ok((stop, None))
 }
 
+// Takes the line that stands whole at this place, or else bytes until a line or a fault ends them, where nothing was wrong
+// before.
+fn take_front(
+    state: &mut LineState,
+    piece: &[u8],
+    at: usize,
+) -> Result<(usize, Option<Line>), LineFault>
+    requires sound { Sound state.old }
+    requires right { state.old.fault ≡ None }
+    requires within { at ≤ length piece.now }
+    ensures answer { IsNext (taken_of state.old) piece.now at result (taken_of state.new) }
+    ensures sound { Sound state.new }
+{
+    if state.filled > 0 {
+        return take_bytes(state, piece, at);
+    }
+    match front_line(state.version, state.counts, state.ended, &piece[at..]) {
+        Some((line, size)) => match state.end_with(Some(line)) {
+            Ok(line) => Ok((at + size, Some(line))),
+            Err(fault) => Err(fault),
+        },
+        None => take_bytes(state, piece, at),
+    }
+}
+
 // Takes bytes until a line or a fault ends them.
 #[tactic(auto, using(crate::proofs::Feeding::next_again))]
 fn take_line(
@@ -101,6 +128,6 @@ fn take_line(
 {
     match state.fault {
         Some(fault) => Err(fault),
-        None => take_bytes(state, piece, at),
+        None => take_front(state, piece, at),
     }
 }

@@ -10,6 +10,7 @@ ghost use Rattle.pc_deriv.specs.Answers.{Answers};
 
 use crate::fault::DerivFault;
 use crate::lines::{head_at, note_at, slot_at};
+use crate::version::Version;
 use pc_ann::{Ann, Note};
 use pc_caps::{Cap, List};
 use std::alloc::Global;
@@ -48,18 +49,19 @@ fn read_slots<'a>(
 #[tactic(auto, using(crate::proofs::Reached::no_note, crate::proofs::Reached::note_more, crate::proofs::Reached::note_stops))]
 fn read_notes<'a>(
     alloc: Global,
+    version: Version,
     text: &'a [u8],
     slots: u32,
     count: u32,
 ) -> Result<(List<Note>, &'a [u8]), DerivFault>
     requires { (slots ≤ slot_limit) × (count ≤ node_limit) }
-    ensures ok { IfOk result (λ r. Begins note_line NoteFits text.now r.0 r.1.now × (length r.0 ≡ count)) }
-    ensures err { IfErr result (NotesStop text.now slots count) }
+    ensures ok { IfOk result (λ r. Begins (note_line version) NoteFits text.now r.0 r.1.now × (length r.0 ≡ count)) }
+    ensures err { IfErr result (NotesStop version text.now slots count) }
 {
     let mut notes: List<Note> = List::new(alloc);
     let mut rest = text;
-    while notes.len() < count as usize {
-        let (note, next) = match note_at(rest) {
+    'notes: while notes.len() < count as usize {
+        let (note, next) = match note_at(version, rest) {
             Some(read) => read,
             None => return Err(DerivFault::BadLine(slots + notes.len() as u32 + 2)),
         };
@@ -74,7 +76,7 @@ fn read_lines(alloc: Global, bytes: &[u8]) -> Result<Ann, DerivFault>
     ensures ok { IfOk result (IsText bytes.now) }
     ensures err { IfErr result (Refuses bytes.now) }
 {
-    let ((slot_count, node_count), text) = match head_at(bytes) {
+    let ((version, (slot_count, node_count)), text) = match head_at(bytes) {
         Some(head) => head,
         None => return Err(DerivFault::BadLine(1)),
     };
@@ -82,19 +84,20 @@ fn read_lines(alloc: Global, bytes: &[u8]) -> Result<Ann, DerivFault>
         return Err(DerivFault::TooMany);
     }
     let (slots, text) = read_slots(alloc, text, slot_count)?;
-    let (notes, text) = read_notes(alloc, text, slot_count, node_count)?;
+    let (notes, text) = read_notes(alloc, version, text, slot_count, node_count)?;
     if !text.is_empty() {
         return Err(DerivFault::BadLine(slot_count + node_count + 2));
     }
     Ok(Ann { slots, notes })
 }
 
-/// The annotation whose derivation text the bytes are, of at most 640,000 slots and 200,000 nodes.
+/// The annotation whose derivation text the bytes are, in version 1 or 2, of at most 640,000 slots and 200,000 nodes.
 ///
-/// `BadLine` has the number of the first line that is not of its form, `TooMany` says that the first line is of its
-/// form and a count in it passes its limit.
+/// `BadLine` has the number of the first line that is not of its form, where the forms are those of the version that the
+/// first line names. `TooMany` says that the first line is of its form in either version and a count in it passes its
+/// limit.
 pub fn read(alloc: Global, bytes: &[u8]) -> Result<Ann, DerivFault>
-    // The bytes are the annotation's text.
+    // The bytes are the annotation's text in a version.
     ensures ok { IfOk result (IsText bytes.now) }
     // The fault is that of the bytes, or memory ran out.
     ensures err { IfErr result (Refuses bytes.now) }

@@ -1,12 +1,14 @@
 -- An annotation whose lines begin with these.
-use Rattle.std.specs.Prelude.{◌≡◌, ℕ, zero, suc, ◌+◌, ◌<◌, ◌≤◌, List, [], ◌∷◌, ◌++◌, length, map, Some, refl}
-use Rattle.std.proofs.Common.{ap, sym, subst, ◌∙◌, arith, append-nil}
+use Rattle.std.specs.Prelude.{◌≡◌, ℕ, suc, ◌≤◌, List, [], ◌∷◌, ◌++◌, length, map, refl}
+use Rattle.std.proofs.Common.{ap, sym, ◌∙◌, arith, append-nil}
 use Rattle.pc_caps.specs.declared.capability.Cap.{Cap}
 use Rattle.pc_ann.specs.declared.annotation.Note.{Note}
 use Rattle.pc_ann.specs.declared.annotation.Ann.{Ann}
 use Rattle.pc_rules.specs.Parts.{Slots}
+use Rattle.pc_deriv.specs.declared.version.Version.{Version}
 use Rattle.pc_deriv.specs.declared.line.Line.{Line}
 use Rattle.pc_deriv.specs.declared.line.Line.TheVariants as line
+use Rattle.pc_deriv.specs.Names.{version_number}
 use Rattle.pc_deriv.specs.Lines.{slot_of, lines_of}
 
 same_head : (x y : Line) (xs ys : List Line) → ◌≡◌ {A = List Line} (x ∷ xs) (y ∷ ys) → x ≡ y
@@ -18,8 +20,8 @@ same_tail x y xs ys e = cc
 none_some : (x : Line) (xs : List Line) → ◌≡◌ {A = List Line} [] (x ∷ xs) → ⊥
 none_some x xs e = cc
 
-pub no_lines : (ann : Ann) → lines_of ann ≡ [] → ⊥
-no_lines ann e = none_some _ _ (sym e)
+pub no_lines : (v : Version) (ann : Ann) → lines_of v ann ≡ [] → ⊥
+no_lines v ann e = none_some _ _ (sym e)
 
 -- ---- nodes
 
@@ -50,9 +52,9 @@ slots_cut (x ∷ all) (y ∷ slots) notes more e l =
 
 -- ---- whole annotations
 
-pub head_of : (ann : Ann) (a b : ℕ) (ls : List Line) → lines_of ann ≡ line.Head a b ∷ ls → (length ann.slots ≡ a) × (length ann.notes ≡ b) × (map slot_of ann.slots ++ map line.Node ann.notes ≡ ls)
-head_of ann a b ls e =
-    let h : line.Head (length ann.slots) (length ann.notes) ≡ line.Head a b = same_head _ _ _ _ e in
+pub head_of : (v : Version) (ann : Ann) (n a b : ℕ) (ls : List Line) → lines_of v ann ≡ line.Head n a b ∷ ls → (length ann.slots ≡ a) × (length ann.notes ≡ b) × (map slot_of ann.slots ++ map line.Node ann.notes ≡ ls)
+head_of v ann n a b ls e =
+    let h : line.Head (version_number v) (length ann.slots) (length ann.notes) ≡ line.Head n a b = same_head _ _ _ _ e in
     let p : length ann.slots ≡ a = cc in
     let q : length ann.notes ≡ b = cc in
     (p, q, same_tail _ _ _ _ e)

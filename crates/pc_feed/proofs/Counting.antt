@@ -1,18 +1,19 @@
 -- Which lines end in some bytes: counts, slots and nodes, as many as the counts say.
 use Rattle.std.specs.Prelude.{◌≡◌, ℕ, suc, ◌+◌, ◌<◌, ◌≤◌, Bool, true, false, cond, ◌&&◌, ◌==◌, nat_le, List, [], ◌∷◌, ◌++◌, length, map, Option, Some, None, option_map, Result, Ok, Err, refl}
-use Rattle.std.proofs.Common.{ap, sym, subst, ◌∙◌, arith}
+use Rattle.std.proofs.Common.{subst, arith}
 use Rattle.std.proofs.lemmas.Option.{same_Some}
 use Rattle.std.proofs.lemmas.Bool.Decides.{nat_tests}
 use Rattle.pc_ann.specs.declared.annotation.Note.{Note}
 use Rattle.pc_rules.specs.Parts.{Slots}
 use Rattle.pc_lists.proofs.Options.{none_some}
+use Rattle.pc_deriv.specs.declared.version.Version.{Version}
 use Rattle.pc_deriv.specs.declared.line.Line.{Line}
 use Rattle.pc_deriv.specs.declared.line.Line.TheVariants as line
 use Rattle.pc_deriv.specs.declared.line.LineFault.{LineFault}
 use Rattle.pc_deriv.specs.declared.line.LineFault.TheVariants as fault
 use Rattle.pc_deriv.specs.Limits.{slot_limit, node_limit}
 use Rattle.pc_deriv.specs.Reading.{head_at, slot_at, note_at}
-use Rattle.pc_deriv.specs.Lines.{Taken, nothing_taken, longest_line, head_in, slot_in, node_in, line_in, within_limits, checked, said, counts_with, behind, answered, kept, went_on, took_at, took, one_more, fed, slot_of}
+use Rattle.pc_deriv.specs.Lines.{Taken, nothing_taken, longest_line, slot_in, node_in, line_in, within_limits, checked, said, counts_with, behind, answered, kept, took_at, took, one_more, fed, slot_of}
 use Rattle.pc_feed.specs.Lines.{lines_in}
 use Rattle.pc_feed.specs.Steps.{LineFits, Counted, Comes}
 
@@ -22,31 +23,31 @@ mapped : {A B : Type 0} → (f : A → B) (o : Option A) (y : B) → option_map 
 mapped f None y e = absurd (none_some e)
 mapped f (Some x) y e = (x, same_Some (f x) y e)
 
-module _ (c : ℕ × ℕ) (n : ℕ) (bytes : List ℕ) (l : Line) where
+module _ (v : Version) (c : ℕ × ℕ) (n : ℕ) (bytes : List ℕ) (l : Line) where
   slot_fits : n ≤ c.0 → slot_in bytes ≡ Some l → LineFits (Some c) n l
   slot_fits h e = let m = mapped _ (slot_at bytes) l e in subst (LineFits (Some c) n) m.1 h
 
-  node_fits : c.0 < n → n ≤ c.0 + c.1 → node_in bytes ≡ Some l → LineFits (Some c) n l
-  node_fits h k e = let m = mapped _ (note_at bytes) l e in subst (LineFits (Some c) n) m.1 (h, k)
+  node_fits : c.0 < n → n ≤ c.0 + c.1 → node_in v bytes ≡ Some l → LineFits (Some c) n l
+  node_fits h k e = let m = mapped _ (note_at v bytes) l e in subst (LineFits (Some c) n) m.1 (h, k)
 
-  second_by : (b : Bool) → nat_le n (c.0 + c.1) ≡ b → c.0 < n → cond b (node_in bytes) None ≡ Some l → LineFits (Some c) n l
+  second_by : (b : Bool) → nat_le n (c.0 + c.1) ≡ b → c.0 < n → cond b (node_in v bytes) None ≡ Some l → LineFits (Some c) n l
   second_by true p h e = let k : n ≤ c.0 + c.1 = grind (arith, nat_tests) in node_fits h k e
   second_by false p h e = absurd (none_some e)
 
-  first_by : (b : Bool) → nat_le n c.0 ≡ b → cond b (slot_in bytes) (cond (nat_le n (c.0 + c.1)) (node_in bytes) None) ≡ Some l → LineFits (Some c) n l
+  first_by : (b : Bool) → nat_le n c.0 ≡ b → cond b (slot_in bytes) (cond (nat_le n (c.0 + c.1)) (node_in v bytes) None) ≡ Some l → LineFits (Some c) n l
   first_by true p e = let h : n ≤ c.0 = grind (arith, nat_tests) in slot_fits h e
   first_by false p e = let h : c.0 < n = grind (arith, nat_tests) in second_by (nat_le n (c.0 + c.1)) refl h e
 
-line_fits : (c : Option (ℕ × ℕ)) (n : ℕ) (bytes : List ℕ) (l : Line) → line_in c n bytes ≡ Some l → LineFits c n l
-line_fits None n bytes l e = let m = mapped _ (head_at bytes) l e in subst (LineFits None n) m.1 tt
-line_fits (Some c) n bytes l e = first_by c n bytes l (nat_le n c.0) refl e
+line_fits : (v : Version) (c : Option (ℕ × ℕ)) (n : ℕ) (bytes : List ℕ) (l : Line) → line_in v c n bytes ≡ Some l → LineFits c n l
+line_fits v None n bytes l e = let m = mapped _ (head_at bytes) l e in subst (LineFits None n) m.1 tt
+line_fits v (Some c) n bytes l e = first_by v c n bytes l (nat_le n c.0) refl e
 
-same_line : (a b : ℕ) (t : Bool) (l : Line) → cond t (Ok (line.Head a b)) (Err fault.TooMany) ≡ Ok l → line.Head a b ≡ l
-same_line a b true l e = cc
-same_line a b false l e = cc
+same_line : (v a b : ℕ) (t : Bool) (l : Line) → cond t (Ok (line.Head v a b)) (Err fault.TooMany) ≡ Ok l → line.Head v a b ≡ l
+same_line v a b true l e = cc
+same_line v a b false l e = cc
 
 limits_keep : (k l : Line) → within_limits k ≡ Ok l → k ≡ l
-limits_keep (line.Head a b) l e = same_line a b (nat_le a slot_limit && nat_le b node_limit) l e
+limits_keep (line.Head v a b) l e = same_line v a b (nat_le a slot_limit && nat_le b node_limit) l e
 limits_keep (line.Slot e k) l q = cc
 limits_keep (line.Node t) l q = cc
 
@@ -75,11 +76,11 @@ kept_goes t b false = (refl, refl)
 
 module _ (t : Taken) (b : ℕ) where
   abbrev line_said : Result Line LineFault
-  line_said = said t.counts t.ended (t.pending ++ b ∷ [])
+  line_said = said t.version t.counts t.ended (t.pending ++ b ∷ [])
 
   said_fits : (l : Line) → line_said ≡ Ok l → LineFits t.counts t.ended l
   said_fits l e =
-      checked_fits t.counts t.ended (line_in t.counts t.ended (t.pending ++ b ∷ [])) l (λ k h. line_fits t.counts t.ended (t.pending ++ b ∷ []) k h) e
+      checked_fits t.counts t.ended (line_in t.version t.counts t.ended (t.pending ++ b ∷ [])) l (λ k h. line_fits t.version t.counts t.ended (t.pending ++ b ∷ []) k h) e
 
   abbrev step_of : Bool → Answer × Taken
   step_of ends = cond ends (answered line_said, behind t line_said) (kept t b (length t.pending + 1 == longest_line))
@@ -152,9 +153,9 @@ counted_slots c d n m ((e, k) ∷ slots) notes h =
     (more.0, omega (arith, same, size))
 
 -- behind the first line, the counts are its, and the number is one more than there are slots and nodes
-pub counted_behind : (a b : ℕ) (d : Option (ℕ × ℕ)) (m : ℕ) (slots : Slots) (notes : List Note)
-    → Counted None 0 (line.Head a b ∷ (map slot_of slots ++ map line.Node notes)) d m → (Some (a, b) ≡ d) × (1 + length slots + length notes ≡ m)
-counted_behind a b d m slots notes h =
+pub counted_behind : (v a b : ℕ) (d : Option (ℕ × ℕ)) (m : ℕ) (slots : Slots) (notes : List Note)
+    → Counted None 0 (line.Head v a b ∷ (map slot_of slots ++ map line.Node notes)) d m → (Some (a, b) ≡ d) × (1 + length slots + length notes ≡ m)
+counted_behind v a b d m slots notes h =
     let k = counted_slots (Some (a, b)) d (0 + 1) m slots notes h.1 in
     let e = k.1 in
     (k.0, omega (arith, e))

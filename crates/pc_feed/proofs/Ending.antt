@@ -1,5 +1,5 @@
 -- The end of all lines of an annotation.
-use Rattle.std.specs.Prelude.{◌≡◌, ℕ, suc, ◌+◌, ◌<◌, ◌≤◌, List, [], ◌∷◌, ◌++◌, length, map, Option, Some, None, slice_get, refl}
+use Rattle.std.specs.Prelude.{◌≡◌, ℕ, suc, List, [], ◌∷◌, ◌++◌, length, map, Some, None, slice_get, refl}
 use Rattle.std.proofs.Common.{ap, sym, subst, ◌∙◌, arith, append-nil, length-append}
 use Rattle.std.proofs.lemmas.List.{length-map}
 use Rattle.pc_caps.specs.declared.capability.Cap.{Cap}
@@ -10,6 +10,7 @@ use Rattle.pc_ann.specs.declared.annotation.Note.{Note}
 use Rattle.pc_ann.specs.declared.annotation.Ann.{Ann}
 use Rattle.pc_sub.specs.Declarations.{DeclOk}
 use Rattle.pc_rules.specs.Valid.{Valid}
+use Rattle.pc_deriv.specs.declared.version.Version.{Version}
 use Rattle.pc_deriv.specs.declared.line.Line.{Line}
 use Rattle.pc_deriv.specs.declared.line.Line.TheVariants as line
 use Rattle.pc_deriv.specs.Lines.{slot_of, lines_of}
@@ -22,11 +23,11 @@ use Rattle.pc_feed.specs.Streams.{Stands, no_line, behind_head, NothingWrong, Ju
 use Rattle.pc_feed.proofs.Beginnings.{no_lines, head_of, notes_begin}
 
 -- Of an annotation's lines, the slots and the nodes are all.
-all_stand : (core : CoreData) (ann : Ann) (slots : List (ℕ × Cap)) (notes : List Note) → Stands core (lines_of ann) slots notes
+all_stand : (core : CoreData) (v : Version) (ann : Ann) (slots : List (ℕ × Cap)) (notes : List Note) → Stands core (lines_of v ann) slots notes
     → (ann.slots ≡ slots) × (ann.notes ≡ notes) × (length slots ≡ length core.slots) × (length notes ≡ length core.nodes)
-all_stand core ann slots notes (no_line p q r) = absurd (no_lines ann p)
-all_stand core ann slots notes (behind_head p l k o) =
-    let h = head_of ann (length core.slots) (length core.nodes) (map slot_of slots ++ map line.Node notes) p in
+all_stand core v ann slots notes (no_line p q r) = absurd (no_lines v ann p)
+all_stand core v ann slots notes (behind_head w p l k o) =
+    let h = head_of v ann w (length core.slots) (length core.nodes) (map slot_of slots ++ map line.Node notes) p in
     let left = length-append (map slot_of ann.slots) (map line.Node ann.notes) in
     let right = length-append (map slot_of slots) (map line.Node notes) in
     let count : length (map slot_of ann.slots ++ map line.Node ann.notes) ≡ length (map slot_of slots ++ map line.Node notes) = ap (λ (x : List Line). length x) h.2 in
@@ -49,10 +50,10 @@ all_stand core ann slots notes (behind_head p l k o) =
     no_more : (xs ys rest : List Note) → xs ≡ ys ++ rest → length xs ≡ length ys → xs ≡ ys
     no_more xs ys rest e l = e ∙ empty rest ys (ap (λ (x : List Note). length x) (sym e) ∙ l)
 
-pub valid_end : (core : CoreData) → Formed core → (ann : Ann) (j : Judging) → DeclOk core → j.fault ≡ None → Judged core (lines_of ann) j → Valid core ann
-valid_end core formed ann j ok none h =
-    let so : NothingWrong core (lines_of ann) j = subst (JudgedBy core (lines_of ann) j) none h in
-    let a = all_stand core ann j.slots so.notes so.lines in
+pub valid_end : (core : CoreData) → Formed core → (v : Version) (ann : Ann) (j : Judging) → DeclOk core → j.fault ≡ None → Judged core (lines_of v ann) j → Valid core ann
+valid_end core formed v ann j ok none h =
+    let so : NothingWrong core (lines_of v ann) j = subst (JudgedBy core (lines_of v ann) j) none h in
+    let a = all_stand core v ann j.slots so.notes so.lines in
     let begins : Begins ann j.slots so.notes = ([], a.0, a.1 ∙ sym (append-nil so.notes)) in
     before_all core ann (length so.notes) formed a.3 (record {
       declarations = ok;
@@ -65,7 +66,7 @@ valid_end core formed ann j ok none h =
       sets = λ k l. (so.passed ann begins k l).1;
     })
 
-pub wrong_end : (core : CoreData) (ann : Ann) (j : Judging) (f : JudgeFault) → DeclOk core → j.fault ≡ Some f → Judged core (lines_of ann) j → FirstFault core ann f
-wrong_end core ann j f ok is h =
-    let w = subst (JudgedBy core (lines_of ann) j) is h in
-    w.first ann [] (sym (append-nil (lines_of ann))) ok
+pub wrong_end : (core : CoreData) (v : Version) (ann : Ann) (j : Judging) (f : JudgeFault) → DeclOk core → j.fault ≡ Some f → Judged core (lines_of v ann) j → FirstFault core ann f
+wrong_end core v ann j f ok is h =
+    let w = subst (JudgedBy core (lines_of v ann) j) is h in
+    w.first v ann [] (sym (append-nil (lines_of v ann))) ok

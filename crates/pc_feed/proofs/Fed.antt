@@ -1,25 +1,24 @@
 -- A stream behind its pieces.
-use Rattle.std.specs.Prelude.{◌≡◌, ◌⊎◌, ℕ, true, false, List, [], ◌∷◌, ◌++◌, Option, Some, None, Result, Ok, Err, refl}
+use Rattle.std.specs.Prelude.{◌≡◌, ℕ, false, List, [], ◌++◌, Option, Ok, Err, refl}
 use Rattle.std.proofs.Common.{inl, inr, ap, sym, subst, ◌∙◌, arith}
 use Rattle.std.proofs.lemmas.Bool.{true≢false}
 use Rattle.pc_core.specs.CoreData.{CoreData}
 use Rattle.pc_ann.specs.declared.annotation.Ann.{Ann}
 use Rattle.pc_stream.specs.Waiting.{start}
+use Rattle.pc_deriv.specs.declared.version.Version.{Version}
 use Rattle.pc_deriv.specs.declared.line.LineFault.{LineFault}
 use Rattle.pc_deriv.specs.Faults.{IsText, IsFault}
 use Rattle.pc_deriv.specs.Laws.{as_read, IsRead}
 use Rattle.pc_deriv.specs.Lines.{Taken, nothing_taken, fed, ended_so, lines_of}
 use Rattle.pc_deriv.proofs.Whole.{read_whole}
 use Rattle.pc_referee.specs.Asked.{Pairs}
-use Rattle.pc_feed.specs.declared.fault.StreamFault.{StreamFault}
 use Rattle.pc_feed.specs.declared.fault.StreamFault.TheVariants as fault
-use Rattle.pc_feed.specs.declared.judging.Judging.{Judging}
 use Rattle.pc_feed.specs.declared.reading.Reading.{Reading}
-use Rattle.pc_feed.specs.Lines.{lines_in, fault_in}
+use Rattle.pc_feed.specs.Lines.{lines_in}
 use Rattle.pc_feed.specs.Asked.{Grew}
 use Rattle.pc_feed.specs.Feeding.{Answer, Feeds, EndsSo}
-use Rattle.pc_feed.specs.Streams.{StreamData, no_line, NothingWrong, Judged, ReadSo, IsFed, MayFeed}
-use Rattle.pc_feed.specs.Steps.{Went, RanOut, PieceTaken, JudgedSo, nothing_judged, nothing_read}
+use Rattle.pc_feed.specs.Streams.{no_line, NothingWrong, Judged, ReadSo, MayFeed}
+use Rattle.pc_feed.specs.Steps.{Went, PieceTaken, JudgedSo, nothing_judged, nothing_read}
 use Rattle.pc_feed.proofs.Told.{grew_of, grew_part_of}
 
 -- ---- the start
@@ -75,7 +74,7 @@ was_fed core r (inr s) e = absurd (true≢false (sym s ∙ e))
 pub text_fault : (bytes : List ℕ) (t : Taken) (f : LineFault) → t ≡ (fed nothing_taken bytes).1 → Err f ≡ ended_so t → IsFault bytes (as_read f)
 text_fault bytes t f e h = subst (IsRead bytes (lines_in bytes)) (sym (h ∙ ap ended_so e)) (read_whole bytes)
 
-pub text_ends : (bytes : List ℕ) (t : Taken) (v : Unit {0}) → t ≡ (fed nothing_taken bytes).1 → Ok v ≡ ended_so t → (ann : Ann) × IsText bytes ann × (lines_in bytes ≡ lines_of ann)
+pub text_ends : (bytes : List ℕ) (t : Taken) (v : Unit {0}) → t ≡ (fed nothing_taken bytes).1 → Ok v ≡ ended_so t → (ann : Ann) × (is : IsText bytes ann) × (lines_in bytes ≡ lines_of is.version ann)
 text_ends bytes t v e h = subst (IsRead bytes (lines_in bytes)) (sym (h ∙ ap ended_so e)) (read_whole bytes)
 
 ends_by : (core : CoreData) (bytes : List ℕ) (ann : Ann) (r : Answer) → IsText bytes ann → JudgedSo core ann r → EndsSo core bytes r
@@ -84,7 +83,7 @@ ends_by core bytes ann (Err (fault.Text f)) t h = absurd h
 ends_by core bytes ann (Err (fault.Invalid f)) t h = (ann, t, h)
 ends_by core bytes ann (Err fault.Memory) t h = h
 
-pub judged_ends : (core : CoreData) (bytes : List ℕ) (r : Reading) (v : Unit {0}) (answer : Answer) → ReadSo core bytes r → Ok v ≡ ended_so r.lines → ((ann : Ann) → Judged core (lines_of ann) r.judging → JudgedSo core ann answer) → EndsSo core bytes answer
+pub judged_ends : (core : CoreData) (bytes : List ℕ) (r : Reading) (v : Unit {0}) (answer : Answer) → ReadSo core bytes r → Ok v ≡ ended_so r.lines → ((w : Version) (ann : Ann) → Judged core (lines_of w ann) r.judging → JudgedSo core ann answer) → EndsSo core bytes answer
 judged_ends core bytes r v answer read h judge =
     let t = text_ends bytes r.lines v read.taken h in
-    ends_by core bytes t.0 answer t.1 (judge t.0 (subst (λ l. Judged core l r.judging) t.2 read.judged))
+    ends_by core bytes t.0 answer t.1 (judge t.1.version t.0 (subst (λ l. Judged core l r.judging) t.2 read.judged))

@@ -1,15 +1,11 @@
 -- A file that is fed part by part.
-use Rattle.std.specs.Prelude.{◌≡◌, ◌⊎◌, ℕ, zero, suc, ◌+◌, ◌-◌, ◌*◌, ◌<◌, ◌≤◌, Bool, true, false, nat_eq, min, List, [], ◌∷◌, ◌++◌, length, take, drop, Option, Some, None, IfSome, Result, Ok, Err, refl}
+use Rattle.std.specs.Prelude.{◌≡◌, ℕ, zero, suc, ◌+◌, ◌-◌, ◌*◌, ◌<◌, ◌≤◌, Bool, true, false, nat_eq, min, List, [], ◌∷◌, ◌++◌, length, take, drop, Option, Some, None, IfSome, Result, Ok, Err, refl}
 use Rattle.std.proofs.Common.{inl, inr, ap, sym, subst, ◌∙◌, arith, append_assoc, append-nil, length-append, length-drop}
 use Rattle.std.proofs.lemmas.Bool.{eqb-true, eq-eqb, cases_lt, true≢false, both_ways}
-use Rattle.std.proofs.lemmas.Option.{same_Some}
 use Rattle.std.proofs.lemmas.List.{length-take}
 use Rattle.std.proofs.Math.Seq.{take-add}
 use Rattle.pc_core.specs.CoreData.{CoreData}
-use Rattle.pc_ann.specs.declared.annotation.Ann.{Ann}
 use Rattle.pc_deriv.specs.declared.line.LineFault.{LineFault}
-use Rattle.pc_deriv.specs.Faults.{IsFault}
-use Rattle.pc_deriv.specs.Laws.{as_read}
 use Rattle.pc_judge.specs.declared.faults.JudgeFault.{JudgeFault}
 use Rattle.pc_referee.specs.Asked.{Pairs}
 use Rattle.pc_feed.specs.declared.fault.StreamFault.{StreamFault}
@@ -21,7 +17,7 @@ use Rattle.pc_feed.specs.Asked.{IsAsked, Grew}
 use Rattle.pc_feed.specs.Laws.{OneIsAsked}
 use Rattle.pc_feed.specs.Feeding.{Feeds, EndsSo}
 use Rattle.pc_feed.specs.Streams.{StreamData, IsFed}
-use Rattle.pc_feed.specs.Parts.{part_size, file_limit, Asks, ReadWhole, FileJudged, PartsRead, AllRead, PartFed, IsPartAt, NoPart, Size, PartTaken, PartsEnd}
+use Rattle.pc_feed.specs.Parts.{part_size, file_limit, Asks, FileJudged, PartsRead, AllRead, PartFed, IsPartAt, NoPart, Size, PartTaken, PartsEnd}
 
 -- ---- what the referee is asked
 

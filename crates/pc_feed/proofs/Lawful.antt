@@ -1,5 +1,5 @@
 -- The laws of what is asked and of how bytes end.
-use Rattle.std.specs.Prelude.{◌≡◌, ℕ, ◌+◌, ◌<◌, ◌≤◌, List, [], ◌∷◌, ◌++◌, length, map, take, Some, Ok, Err, refl}
+use Rattle.std.specs.Prelude.{◌≡◌, ℕ, ◌<◌, ◌≤◌, List, [], ◌∷◌, ◌++◌, length, map, take, Ok, Err, refl}
 use Rattle.std.proofs.Common.{inl, inr, ap, ap₂, sym, append-nil, subst, ◌∙◌, arith}
 use Rattle.std.proofs.lemmas.Bool.{cases_lt}
 use Rattle.std.proofs.lemmas.Option.{same_Some}
@@ -11,6 +11,7 @@ use Rattle.pc_rules.specs.Parts.{Slots}
 use Rattle.pc_rules.specs.Rules.{MeetsRule}
 use Rattle.pc_rules.specs.Valid.{Valid}
 use Rattle.pc_referee.specs.Asked.{Pairs}
+use Rattle.pc_deriv.specs.declared.version.Version.{Version}
 use Rattle.pc_deriv.specs.declared.line.Line.{Line}
 use Rattle.pc_deriv.specs.declared.line.Line.TheVariants as line
 use Rattle.pc_deriv.specs.declared.line.LineFault.{LineFault}
@@ -78,15 +79,15 @@ no_slots_in : (notes : List Note) → slots_in (map line.Node notes) ≡ []
 no_slots_in [] = refl
 no_slots_in (t ∷ notes) = refl
 
-so_far_all : (ann : Ann) → so_far (lines_of ann) ≡ ann
-so_far_all ann =
-    let slots : slots_in (lines_of ann) ≡ ann.slots = slots_app ann.slots (map line.Node ann.notes) ∙ ap (λ (s : Slots). ann.slots ++ s) (no_slots_in ann.notes) ∙ append-nil ann.slots in
-    let notes : notes_in (lines_of ann) ≡ ann.notes = notes_of_slots ann.slots (map line.Node ann.notes) ∙ notes_of_nodes ann.notes in
+so_far_all : (w : Version) (ann : Ann) → so_far (lines_of w ann) ≡ ann
+so_far_all w ann =
+    let slots : slots_in (lines_of w ann) ≡ ann.slots = slots_app ann.slots (map line.Node ann.notes) ∙ ap (λ (s : Slots). ann.slots ++ s) (no_slots_in ann.notes) ∙ append-nil ann.slots in
+    let notes : notes_in (lines_of w ann) ≡ ann.notes = notes_of_slots ann.slots (map line.Node ann.notes) ∙ notes_of_nodes ann.notes in
     ap₂ (λ (s : Slots) (ts : List Note). record { slots = s; notes = ts }) slots notes
 
-valid_found : (core : CoreData) (ann : Ann) → Valid core ann → (k : ℕ) → k < length core.nodes → IsFoundRight core (lines_of ann) k
-valid_found core ann v k l =
-    let same = sym (so_far_all ann) in
+valid_found : (core : CoreData) (w : Version) (ann : Ann) → Valid core ann → (k : ℕ) → k < length core.nodes → IsFoundRight core (lines_of w ann) k
+valid_found core w ann v k l =
+    let same = sym (so_far_all w ann) in
     record {
       opens = record {
         counts = λ c e. sym (same_Some (length ann.slots, length ann.notes) c e) ∙ ap₂ (λ (a : ℕ) (b : ℕ). (a, b)) v.slots v.notes;
@@ -98,14 +99,15 @@ valid_found core ann v k l =
 
 pub valid_asks_all : ValidAsksAll
 valid_asks_all core bytes ann pairs formed text v asked =
+    let w = text.version in
     let read = texts_are_taken bytes ann text in
-    let x : IsAsked core (lines_of ann) pairs = subst (λ l. IsAsked core l pairs) read.0 asked in
-    let notes : notes_in (lines_of ann) ≡ ann.notes = ap (λ (a : Ann). a.notes) (so_far_all ann) in
-    let size : length (notes_in (lines_of ann)) ≡ length ann.notes = ap (λ (ts : List Note). length ts) notes in
+    let x : IsAsked core (lines_of w ann) pairs = subst (λ l. IsAsked core l pairs) read.0 asked in
+    let notes : notes_in (lines_of w ann) ≡ ann.notes = ap (λ (a : Ann). a.notes) (so_far_all w ann) in
+    let size : length (notes_in (lines_of w ann)) ≡ length ann.notes = ap (λ (ts : List Note). length ts) notes in
     let all : length ann.notes ≡ length core.nodes = v.notes in
     let count : length ann.notes ≤ x.count = elim (cases_lt x.count (length ann.notes)) [
-      | inl m ↦ let again = (x.exact x.count (omega (arith, m, size))).1 (valid_found core ann v x.count (omega (arith, m, all))) in absurd (omega (arith, again))
+      | inl m ↦ let again = (x.exact x.count (omega (arith, m, size))).1 (valid_found core w ann v x.count (omega (arith, m, all))) in absurd (omega (arith, again))
       | inr m ↦ m
     ] in
-    let long = numbered_length 0 (notes_in (lines_of ann)) in
-    x.are ∙ take_all (numbered 0 (notes_in (lines_of ann))) x.count (omega (arith, long, size, count)) ∙ ap (numbered 0) notes
+    let long = numbered_length 0 (notes_in (lines_of w ann)) in
+    x.are ∙ take_all (numbered 0 (notes_in (lines_of w ann))) x.count (omega (arith, long, size, count)) ∙ ap (numbered 0) notes

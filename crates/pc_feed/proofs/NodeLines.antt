@@ -1,11 +1,10 @@
 -- The lines of nodes.
-use Rattle.std.specs.Prelude.{◌≡◌, ◌⊎◌, ◌↔◌, ℕ, ◌+◌, ◌<◌, ◌≤◌, true, false, List, [], ◌∷◌, ◌++◌, length, map, Option, Some, None, Result, Ok, Err, OnOk, OnErr, slice_get, refl}
-use Rattle.std.proofs.Common.{inl, inr, ap, sym, subst, ◌∙◌, arith, append-nil, append_assoc, length-append}
+use Rattle.std.specs.Prelude.{◌≡◌, ◌↔◌, ℕ, ◌+◌, ◌<◌, ◌≤◌, true, false, List, [], ◌∷◌, ◌++◌, length, map, Option, Some, None, Result, Ok, Err, OnOk, OnErr, slice_get, refl}
+use Rattle.std.proofs.Common.{inl, inr, ap, sym, subst, ◌∙◌, arith, append-nil, append_assoc}
 use Rattle.std.proofs.lemmas.Bool.{cases_lt}
 use Rattle.std.proofs.lemmas.Option.{same_Some}
 use Rattle.pc_caps.specs.declared.capability.Cap.{Cap}
 use Rattle.pc_lists.proofs.Gets.{get_below, get_behind}
-use Rattle.pc_core.specs.declared.nodes.Slot.{Slot}
 use Rattle.pc_core.specs.declared.nodes.Node.{Node}
 use Rattle.pc_core.specs.CoreData.{CoreData}
 use Rattle.pc_core.specs.Formed.{Formed}
@@ -13,48 +12,48 @@ use Rattle.pc_ann.specs.declared.annotation.Note.{Note}
 use Rattle.pc_ann.specs.declared.annotation.Ann.{Ann}
 use Rattle.pc_sub.specs.Declarations.{DeclOk}
 use Rattle.pc_rules.specs.Rules.{Holds, MeetsRule}
+use Rattle.pc_deriv.specs.declared.version.Version.{Version}
 use Rattle.pc_deriv.specs.declared.line.Line.{Line}
 use Rattle.pc_deriv.specs.declared.line.Line.TheVariants as line
 use Rattle.pc_deriv.specs.Lines.{slot_of, lines_of}
-use Rattle.pc_judge.specs.declared.faults.JudgeFault.{JudgeFault}
 use Rattle.pc_judge.specs.declared.faults.JudgeFault.TheVariants as fault
 use Rattle.pc_judge.specs.Computed.{unset_of}
-use Rattle.pc_judge.specs.Faults.{Before, FailsAt, FirstFault, KeepsType, Passes}
+use Rattle.pc_judge.specs.Faults.{Before, FailsAt, FirstFault, Passes}
 use Rattle.pc_judge.proofs.AtNode.{passes, fails_set}
 use Rattle.pc_stream.specs.Waiting.{Begins}
 use Rattle.pc_stream.proofs.Noted.{waiting_tells}
 use Rattle.pc_feed.specs.declared.judging.Judging.{Judging}
-use Rattle.pc_feed.specs.Lines.{slots_in, notes_in, so_far}
+use Rattle.pc_feed.specs.Lines.{notes_in, so_far}
 use Rattle.pc_feed.specs.Asked.{Opens, IsFoundRight}
 use Rattle.pc_feed.specs.Streams.{behind_head, NothingWrong, Found, Wrong, JudgedBy, Judged}
 use Rattle.pc_feed.specs.Steps.{last_of, waits_behind, OneFound}
 use Rattle.pc_feed.proofs.Sayings.{map_push, count_push, notes_behind, slots_behind}
 use Rattle.pc_feed.proofs.Beginnings.{head_of, notes_begin}
 use Rattle.pc_feed.proofs.Places.{NodeAt}
-use Rattle.pc_feed.proofs.Waitings.{Behind, behind, back_is}
+use Rattle.pc_feed.proofs.Waitings.{behind, back_is}
 
 -- ---- what stands in the lines of slots and of nodes
 
-abbrev pub top_of : CoreData → Line
-top_of core = line.Head (length core.slots) (length core.nodes)
+abbrev pub top_of : CoreData → ℕ → Line
+top_of core v = line.Head v (length core.slots) (length core.nodes)
 
-abbrev pub lines_with : CoreData → List (ℕ × Cap) → List Note → List Line
-lines_with core slots notes = top_of core ∷ (map slot_of slots ++ map line.Node notes)
+abbrev pub lines_with : CoreData → ℕ → List (ℕ × Cap) → List Note → List Line
+lines_with core v slots notes = top_of core v ∷ (map slot_of slots ++ map line.Node notes)
 
 -- the annotation that lines give with a node among them
-module _ (core : CoreData) (slots : List (ℕ × Cap)) (t : Note) (notes : List Note) (more : List Line) where
-  pub so_far_begins : Begins (so_far (lines_with core slots (t ∷ notes) ++ more)) slots (t ∷ notes)
-  so_far_begins = (notes_in more, slots_behind (length core.slots) (length core.nodes) slots t notes more, notes_behind (length core.slots) (length core.nodes) slots (t ∷ notes) more)
+module _ (core : CoreData) (v : ℕ) (slots : List (ℕ × Cap)) (t : Note) (notes : List Note) (more : List Line) where
+  pub so_far_begins : Begins (so_far (lines_with core v slots (t ∷ notes) ++ more)) slots (t ∷ notes)
+  so_far_begins = (notes_in more, slots_behind v (length core.slots) (length core.nodes) slots t notes more, notes_behind v (length core.slots) (length core.nodes) slots (t ∷ notes) more)
 
 push_is_some : (notes : List Note) (own : Note) → (t : Note) × (rest : List Note) × (notes ++ own ∷ [] ≡ t ∷ rest)
 push_is_some [] own = (own, [], refl)
 push_is_some (t ∷ notes) own = (t, notes ++ own ∷ [], refl)
 
 -- the same where the last node is named
-begins_push : (core : CoreData) (slots : List (ℕ × Cap)) (notes : List Note) (own : Note) (more : List Line) → Begins (so_far (lines_with core slots (notes ++ own ∷ []) ++ more)) slots (notes ++ own ∷ [])
-begins_push core slots notes own more =
+begins_push : (core : CoreData) (v : ℕ) (slots : List (ℕ × Cap)) (notes : List Note) (own : Note) (more : List Line) → Begins (so_far (lines_with core v slots (notes ++ own ∷ []) ++ more)) slots (notes ++ own ∷ [])
+begins_push core v slots notes own more =
     let s = push_is_some notes own in
-    subst (λ (ts : List Note). Begins (so_far (lines_with core slots ts ++ more)) slots ts) (sym s.2) (so_far_begins core slots s.0 s.1 more)
+    subst (λ (ts : List Note). Begins (so_far (lines_with core v slots ts ++ more)) slots ts) (sym s.2) (so_far_begins core v slots s.0 s.1 more)
 
 -- An annotation that begins with a note more begins with those before it.
 pub begins_less : (ann : Ann) (slots : List (ℕ × Cap)) (notes : List Note) (own : Note) → Begins ann slots (notes ++ own ∷ []) → Begins ann slots notes
@@ -73,12 +72,12 @@ module _ (core : CoreData) (formed : Formed core) (ls : List Line) (j : Judging)
   notes = so.notes ++ own ∷ []
 
   abbrev after : List Line
-  after = lines_with core j.slots notes
+  after = lines_with core at.version j.slots notes
 
   longer : ls ++ line.Node own ∷ [] ≡ after
   longer =
       ap (λ (l : List Line). l ++ line.Node own ∷ []) at.lines
-      ∙ ap (λ (l : List Line). top_of core ∷ l) (append_assoc (map slot_of j.slots) (map line.Node so.notes) (line.Node own ∷ []) ∙ ap (λ (l : List Line). map slot_of j.slots ++ l) (sym (map_push line.Node so.notes own)))
+      ∙ ap (λ (l : List Line). top_of core at.version ∷ l) (append_assoc (map slot_of j.slots) (map line.Node so.notes) (line.Node own ∷ []) ∙ ap (λ (l : List Line). map slot_of j.slots ++ l) (sym (map_push line.Node so.notes own)))
 
   is_here : slice_get core.nodes n ≡ Some x
   is_here = ap (slice_get core.nodes) (sym so.count) ∙ g
@@ -100,16 +99,16 @@ module _ (core : CoreData) (formed : Formed core) (ls : List Line) (j : Judging)
   passed_before ann b k l = so.passed ann (begins_less ann j.slots so.notes own b) k l
 
   -- of an annotation whose lines begin so
-  ann_begins : (ann : Ann) (more : List Line) → lines_of ann ≡ after ++ more → (Begins ann j.slots notes) × (length ann.slots ≡ length core.slots) × (length ann.notes ≡ length core.nodes)
-  ann_begins ann more e =
-      let h = head_of ann (length core.slots) (length core.nodes) ((map slot_of j.slots ++ map line.Node notes) ++ more) e in
+  ann_begins : (v : Version) (ann : Ann) (more : List Line) → lines_of v ann ≡ after ++ more → (Begins ann j.slots notes) × (length ann.slots ≡ length core.slots) × (length ann.notes ≡ length core.nodes)
+  ann_begins v ann more e =
+      let h = head_of v ann at.version (length core.slots) (length core.nodes) ((map slot_of j.slots ++ map line.Node notes) ++ more) e in
       let cut = h.2 ∙ append_assoc (map slot_of j.slots) (map line.Node notes) more in
       let b = notes_begin ann j.slots notes more cut (at.full ∙ sym h.0) in
       (b, h.0, h.1)
 
-  before_here : (ann : Ann) (more : List Line) → lines_of ann ≡ after ++ more → DeclOk core → Before core ann n
-  before_here ann more e ok =
-      let b = ann_begins ann more e in
+  before_here : (v : Version) (ann : Ann) (more : List Line) → lines_of v ann ≡ after ++ more → DeclOk core → Before core ann n
+  before_here v ann more e ok =
+      let b = ann_begins v ann more e in
       record {
         declarations = ok;
         shape = (b.1, b.2);
@@ -123,7 +122,7 @@ module _ (core : CoreData) (formed : Formed core) (ls : List Line) (j : Judging)
 
   opens : (more : List Line) → Opens core (after ++ more)
   opens more =
-      let b = begins_push core j.slots so.notes own more in
+      let b = begins_push core at.version j.slots so.notes own more in
       record {
         counts = λ c e. sym (same_Some (length core.slots, length core.nodes) c e);
         written = λ k y l h w q.
@@ -135,7 +134,7 @@ module _ (core : CoreData) (formed : Formed core) (ls : List Line) (j : Judging)
   -- those before are found right
   found_before : (more : List Line) (k : ℕ) → k < n → IsFoundRight core (after ++ more) k
   found_before more k l =
-      let b = begins_push core j.slots so.notes own more in
+      let b = begins_push core at.version j.slots so.notes own more in
       record {
         opens = opens more;
         before = λ i m. passed_before (so_far (after ++ more)) b i (omega (arith, l, m));
@@ -143,7 +142,7 @@ module _ (core : CoreData) (formed : Formed core) (ls : List Line) (j : Judging)
       }
 
   size : length (notes_in after) ≡ n + 1
-  size = ap (λ (ts : List Note). length ts) (ap notes_in (sym (append-nil after)) ∙ notes_behind (length core.slots) (length core.nodes) j.slots notes [] ∙ append-nil notes) ∙ count_push so.notes own
+  size = ap (λ (ts : List Note). length ts) (ap notes_in (sym (append-nil after)) ∙ notes_behind at.version (length core.slots) (length core.nodes) j.slots notes [] ∙ append-nil notes) ∙ count_push so.notes own
 
   -- ---- it does not meet its rule
 
@@ -161,12 +160,12 @@ module _ (core : CoreData) (formed : Formed core) (ls : List Line) (j : Judging)
       (record {
         found = subst (λ l. Found core l j.right) longer found_so_far;
         stops = λ more k l r.
-            let b = begins_push core j.slots so.notes own more in
+            let b = begins_push core at.version j.slots so.notes own more in
             not ((tells (so_far (after ++ more)) b).1 (meets_here more k (omega (arith, l, count)) r));
-        first = λ ann more e ok.
-            let b = ann_begins ann more e in
+        first = λ v ann more e ok.
+            let b = ann_begins v ann more e in
             let low : n < length core.nodes = at.below in
-            subst (λ i. FirstFault core ann (fault.Node i)) (sym count) (low, before_here ann more e ok, λ m. not ((tells ann b.0).1 m));
+            subst (λ i. FirstFault core ann (fault.Node i)) (sym count) (low, before_here v ann more e ok, λ m. not ((tells ann b.0).1 m));
       })
     where
       meets_here : (more : List Line) (k : ℕ) → n ≤ k → IsFoundRight core (after ++ more) k → MeetsRule core (so_far (after ++ more)) n
@@ -185,7 +184,7 @@ module _ (core : CoreData) (formed : Formed core) (ls : List Line) (j : Judging)
     found_here more k l = elim (cases_lt k n) [
       | inl m ↦ found_before more k m
       | inr m ↦
-          let b = begins_push core j.slots so.notes own more in
+          let b = begins_push core at.version j.slots so.notes own more in
           let same : n ≡ k = omega (arith, l, m) in
           subst (IsFoundRight core (after ++ more)) same
           (record { opens = opens more; before = λ i h. passed_before (so_far (after ++ more)) b i h; meets = meets (so_far (after ++ more)) b })
@@ -216,14 +215,14 @@ module _ (core : CoreData) (formed : Formed core) (ls : List Line) (j : Judging)
           (record {
             found = found_after r e;
             stops = λ more k l f.
-                let b = begins_push core j.slots so.notes own more in
+                let b = begins_push core at.version j.slots so.notes own more in
                 let h = fails_here (so_far (after ++ more)) b in
                 let low : n < k = omega (arith, l, e, count) in
                 h.1.3 ((f.before n low).1 x.method h.1.0 h.1.1 h.1.2);
-            first = λ ann more q ok.
-                let b = ann_begins ann more q in
+            first = λ v ann more q ok.
+                let b = ann_begins v ann more q in
                 let h = fails_here ann b.0 in
-                (h.1.0, n, h.1.1, h.1.2, before_here ann more q ok, h.0, h.1.3);
+                (h.1.0, n, h.1.1, h.1.2, before_here v ann more q ok, h.0, h.1.3);
           })
 
     module _ (all_set : unset_of core j.right (slice_get core.methods x.method) (Some own) ≡ false) where
@@ -239,7 +238,7 @@ module _ (core : CoreData) (formed : Formed core) (ls : List Line) (j : Judging)
           let b = behind core formed so.notes j.waiting so.numbers own x so.waits so.waiting is_here in
           record {
             notes = notes;
-            lines = behind_head longer (omega (arith, full)) (omega (arith, pushed, below)) (inr full);
+            lines = behind_head at.version longer (omega (arith, full)) (omega (arith, pushed, below)) (inr full);
             count = omega (arith, e, count, pushed);
             numbers = b.numbers;
             waits = b.waits;

@@ -1,24 +1,22 @@
 -- The first line and the lines of slots.
-use Rattle.std.specs.Prelude.{◌≡◌, ◌⊎◌, ℕ, ◌+◌, ◌<◌, ◌≤◌, List, [], ◌∷◌, ◌++◌, length, map, Option, Some, None, Result, Ok, Err, OnOk, slice_get, refl}
-use Rattle.std.proofs.Common.{inl, inr, ap, sym, subst, ◌∙◌, arith, append-nil, append_assoc, length-append}
+use Rattle.std.specs.Prelude.{◌≡◌, ℕ, ◌<◌, List, [], ◌∷◌, ◌++◌, length, map, Some, None, Result, Ok, Err, OnOk, slice_get, refl}
+use Rattle.std.proofs.Common.{inl, inr, ap, sym, subst, ◌∙◌, arith, append-nil, length-append}
 use Rattle.std.proofs.lemmas.Bool.{cases_lt}
 use Rattle.std.proofs.lemmas.Option.{same_Some}
 use Rattle.pc_caps.specs.declared.capability.Cap.{Cap}
-use Rattle.pc_lists.proofs.Gets.{get_below, get_within, get_front, get_behind}
+use Rattle.pc_lists.proofs.Gets.{get_within, get_front, get_behind}
 use Rattle.pc_core.specs.declared.nodes.Slot.{Slot}
 use Rattle.pc_core.specs.CoreData.{CoreData}
 use Rattle.pc_ann.specs.declared.annotation.Note.{Note}
 use Rattle.pc_ann.specs.declared.annotation.Ann.{Ann}
-use Rattle.pc_sub.specs.Declarations.{DeclOk}
 use Rattle.pc_deriv.specs.declared.line.Line.{Line}
 use Rattle.pc_deriv.specs.declared.line.Line.TheVariants as line
-use Rattle.pc_deriv.specs.Lines.{slot_of, lines_of}
+use Rattle.pc_deriv.specs.Lines.{slot_of}
 use Rattle.pc_judge.specs.declared.faults.JudgeFault.TheVariants as fault
-use Rattle.pc_judge.specs.Faults.{KeepsType, FirstWrong, FirstFault, HasShape}
+use Rattle.pc_judge.specs.Faults.{KeepsType, HasShape}
 use Rattle.pc_feed.specs.declared.judging.Judging.{Judging}
 use Rattle.pc_feed.specs.Lines.{slots_in, so_far}
-use Rattle.pc_feed.specs.Asked.{IsFoundRight}
-use Rattle.pc_feed.specs.Streams.{Stands, behind_head, NothingWrong, Found, Wrong, JudgedBy, Judged}
+use Rattle.pc_feed.specs.Streams.{behind_head, NothingWrong, Found, Wrong, JudgedBy, Judged}
 use Rattle.pc_feed.specs.Steps.{Comes, MayHave, SameFound}
 use Rattle.pc_feed.proofs.Sayings.{map_push, count_push, slots_app}
 use Rattle.pc_feed.proofs.Beginnings.{head_of, slots_begin}
@@ -32,19 +30,19 @@ no_notes core ls j so e = so.count ∙ ap (λ (ts : List Note). length ts) e
 
 -- ---- the first line
 
-module _ (core : CoreData) (ls : List Line) (j : Judging) (so : NothingWrong core ls j) (a b : ℕ) (c : Comes ls (line.Head a b)) where
-  pub head_right : a ≡ length core.slots → b ≡ length core.nodes → NothingWrong core (ls ++ line.Head a b ∷ []) j
+module _ (core : CoreData) (ls : List Line) (j : Judging) (so : NothingWrong core ls j) (v a b : ℕ) (c : Comes ls (line.Head v a b)) where
+  pub head_right : a ≡ length core.slots → b ≡ length core.nodes → NothingWrong core (ls ++ line.Head v a b ∷ []) j
   head_right p q =
-      let h = head_at core ls j so a b c in
+      let h = head_at core ls j so v a b c in
       let slots : length j.slots ≡ 0 = ap (λ (xs : List (ℕ × Cap)). length xs) h.1 in
       let notes : length so.notes ≡ 0 = ap (λ (ts : List Note). length ts) h.2 in
-      let left : ls ++ line.Head a b ∷ [] ≡ line.Head a b ∷ [] = ap (λ (x : List Line). x ++ line.Head a b ∷ []) h.0 in
-      let right : line.Head (length core.slots) (length core.nodes) ∷ (map slot_of j.slots ++ map line.Node so.notes) ≡ line.Head (length core.slots) (length core.nodes) ∷ [] =
-      ap (λ (xs : List (ℕ × Cap)). line.Head (length core.slots) (length core.nodes) ∷ (map slot_of xs ++ map line.Node so.notes)) h.1
-      ∙ ap (λ (ts : List Note). line.Head (length core.slots) (length core.nodes) ∷ map line.Node ts) h.2 in
+      let left : ls ++ line.Head v a b ∷ [] ≡ line.Head v a b ∷ [] = ap (λ (x : List Line). x ++ line.Head v a b ∷ []) h.0 in
+      let right : line.Head v (length core.slots) (length core.nodes) ∷ (map slot_of j.slots ++ map line.Node so.notes) ≡ line.Head v (length core.slots) (length core.nodes) ∷ [] =
+      ap (λ (xs : List (ℕ × Cap)). line.Head v (length core.slots) (length core.nodes) ∷ (map slot_of xs ++ map line.Node so.notes)) h.1
+      ∙ ap (λ (ts : List Note). line.Head v (length core.slots) (length core.nodes) ∷ map line.Node ts) h.2 in
       record {
         notes = so.notes;
-        lines = behind_head (left ∙ ap (λ x. line.Head x b ∷ []) p ∙ ap (λ x. line.Head (length core.slots) x ∷ []) q ∙ sym right)
+        lines = behind_head v (left ∙ ap (λ x. line.Head v x b ∷ []) p ∙ ap (λ x. line.Head v (length core.slots) x ∷ []) q ∙ sym right)
             (omega (arith, slots)) (omega (arith, notes)) (inl h.2);
         count = so.count;
         numbers = so.numbers;
@@ -54,23 +52,23 @@ module _ (core : CoreData) (ls : List Line) (j : Judging) (so : NothingWrong cor
         passed = so.passed;
       }
 
-  wrong_head : ((a ≡ length core.slots) × (b ≡ length core.nodes) → ⊥) → Wrong core (line.Head a b ∷ []) j.right fault.Shape
+  wrong_head : ((a ≡ length core.slots) × (b ≡ length core.nodes) → ⊥) → Wrong core (line.Head v a b ∷ []) j.right fault.Shape
   wrong_head not =
-      let h = head_at core ls j so a b c in
+      let h = head_at core ls j so v a b c in
       record {
-        found = none_found core (line.Head a b ∷ []) j.right (no_notes core ls j so h.2);
+        found = none_found core (line.Head v a b ∷ []) j.right (no_notes core ls j so h.2);
         stops = λ more k l r.
             let e : (a, b) ≡ (length core.slots, length core.nodes) = r.opens.counts (a, b) refl in
             not (ap (λ (x : ℕ × ℕ). x.0) e, ap (λ (x : ℕ × ℕ). x.1) e);
-        first = λ ann more e ok.
-            let g = head_of ann a b more e in
+        first = λ w ann more e ok.
+            let g = head_of w ann v a b more e in
             (ok, λ (s : HasShape core ann). not (sym g.0 ∙ s.0, sym g.1 ∙ s.1));
       }
 
-  pub head_wrong : ((a ≡ length core.slots) × (b ≡ length core.nodes) → ⊥) → Wrong core (ls ++ line.Head a b ∷ []) j.right fault.Shape
+  pub head_wrong : ((a ≡ length core.slots) × (b ≡ length core.nodes) → ⊥) → Wrong core (ls ++ line.Head v a b ∷ []) j.right fault.Shape
   head_wrong not =
-      let h = head_at core ls j so a b c in
-      let left : ls ++ line.Head a b ∷ [] ≡ line.Head a b ∷ [] = ap (λ (x : List Line). x ++ line.Head a b ∷ []) h.0 in
+      let h = head_at core ls j so v a b c in
+      let left : ls ++ line.Head v a b ∷ [] ≡ line.Head v a b ∷ [] = ap (λ (x : List Line). x ++ line.Head v a b ∷ []) h.0 in
       subst (λ x. Wrong core x j.right fault.Shape) (sym left) (wrong_head not)
 
 -- ---- a slot
@@ -80,7 +78,7 @@ module _ (core : CoreData) (ls : List Line) (j : Judging) (so : NothingWrong cor
   slots = j.slots ++ ty ∷ []
 
   abbrev top : Line
-  top = line.Head (length core.slots) (length core.nodes)
+  top = line.Head at.version (length core.slots) (length core.nodes)
 
   longer : ls ++ slot_of ty ∷ [] ≡ top ∷ map slot_of slots
   longer = ap (λ (x : List Line). x ++ slot_of ty ∷ []) at.lines ∙ ap (λ (x : List Line). top ∷ x) (sym (map_push slot_of j.slots ty))
@@ -103,7 +101,7 @@ module _ (core : CoreData) (ls : List Line) (j : Judging) (so : NothingWrong cor
       let none : length so.notes ≡ 0 = ap (λ (ts : List Note). length ts) at.none in
       record {
         notes = so.notes;
-        lines = behind_head (longer ∙ ap (λ x. top ∷ x) (sym (append-nil (map slot_of slots)) ∙ ap (λ (ts : List Note). map slot_of slots ++ map line.Node ts) (sym at.none)))
+        lines = behind_head at.version (longer ∙ ap (λ x. top ∷ x) (sym (append-nil (map slot_of slots)) ∙ ap (λ (ts : List Note). map slot_of slots ++ map line.Node ts) (sym at.none)))
             (omega (arith, size, less)) (omega (arith, none)) (inl at.none);
         count = so.count;
         numbers = so.numbers;
@@ -137,8 +135,8 @@ module _ (core : CoreData) (ls : List Line) (j : Judging) (so : NothingWrong cor
             let count : length (slots_in ((top ∷ map slot_of slots) ++ more)) ≡ length (slots ++ slots_in more) = ap (λ (xs : List (ℕ × Cap)). length xs) said in
             let within : wrong_at < length (slots_in ((top ∷ map slot_of slots) ++ more)) = omega (arith, size, both, count) in
             not (not_kept (so_far ((top ∷ map slot_of slots) ++ more)) (ap (λ (xs : List (ℕ × Cap)). slice_get xs wrong_at) said ∙ here (slots_in more)) y.0 y.1 (r.opens.written wrong_at y.0 within y.1));
-        first = λ ann more e ok.
-            let g = head_of ann (length core.slots) (length core.nodes) (map slot_of slots ++ more) e in
+        first = λ w ann more e ok.
+            let g = head_of w ann at.version (length core.slots) (length core.nodes) (map slot_of slots ++ more) e in
             let shape = g.0 in
             let b = slots_begin ann slots more g.2 (omega (arith, size, less, shape)) in (
               ok,

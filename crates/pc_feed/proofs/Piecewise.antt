@@ -1,5 +1,5 @@
 -- A piece that is taken line by line.
-use Rattle.std.specs.Prelude.{◌≡◌, ℕ, zero, suc, ◌+◌, ◌-◌, ◌<◌, ◌≤◌, true, false, List, [], ◌∷◌, ◌++◌, length, take, drop, slice_range, Option, Some, None, Result, Ok, Err, refl}
+use Rattle.std.specs.Prelude.{◌≡◌, ℕ, zero, suc, ◌+◌, ◌-◌, ◌≤◌, List, [], ◌∷◌, ◌++◌, length, take, drop, slice_range, Option, Some, None, Result, Ok, Err, refl}
 use Rattle.std.proofs.Common.{ap, sym, subst, ◌∙◌, arith, append-nil, append_assoc}
 use Rattle.std.proofs.lemmas.List.{take-append-drop}
 use Rattle.std.proofs.lemmas.Option.{same_Some}
@@ -14,11 +14,10 @@ use Rattle.pc_deriv.proofs.Feeding.{fed_both, fed_stays}
 use Rattle.pc_referee.specs.Asked.{Pairs}
 use Rattle.pc_feed.specs.declared.fault.StreamFault.{StreamFault}
 use Rattle.pc_feed.specs.declared.fault.StreamFault.TheVariants as fault
-use Rattle.pc_feed.specs.declared.judging.Judging.{Judging}
 use Rattle.pc_feed.specs.declared.reading.Reading.{Reading}
 use Rattle.pc_feed.specs.Lines.{lines_in, fault_in}
 use Rattle.pc_feed.specs.Feeding.{Answer}
-use Rattle.pc_feed.specs.Streams.{Found, Judged, JudgedBy, ReadSo}
+use Rattle.pc_feed.specs.Streams.{Judged, JudgedBy, ReadSo}
 use Rattle.pc_feed.specs.Steps.{Comes, HasRoom, LineJudged, Went, RanOut, NextTaken, PieceTaken, GrewBy, first_nodes}
 use Rattle.pc_feed.proofs.Growing.{grew_none, grew_on}
 use Rattle.pc_feed.proofs.Counting.{comes}

@@ -1,8 +1,7 @@
 -- What lines say, with more lines behind them.
-use Rattle.std.specs.Prelude.{◌≡◌, ℕ, zero, suc, ◌+◌, ◌<◌, ◌≤◌, List, [], ◌∷◌, ◌++◌, length, map, take, Some, refl}
+use Rattle.std.specs.Prelude.{◌≡◌, ℕ, zero, suc, ◌+◌, ◌≤◌, List, [], ◌∷◌, ◌++◌, length, map, take, refl}
 use Rattle.std.proofs.Common.{ap, sym, ◌∙◌, arith, append_assoc, append-nil, length-append}
 use Rattle.std.proofs.lemmas.List.{take-append-le}
-use Rattle.pc_caps.specs.declared.capability.Cap.{Cap}
 use Rattle.pc_ann.specs.declared.annotation.Note.{Note}
 use Rattle.pc_rules.specs.Parts.{Slots}
 use Rattle.pc_referee.specs.Asked.{Pairs}
@@ -17,7 +16,7 @@ use Rattle.pc_feed.specs.Steps.{first_nodes}
 
 pub notes_app : (a b : List Line) → notes_in (a ++ b) ≡ notes_in a ++ notes_in b
 notes_app [] b = refl
-notes_app (line.Head s n ∷ a) b = notes_app a b
+notes_app (line.Head v s n ∷ a) b = notes_app a b
 notes_app (line.Slot e k ∷ a) b = notes_app a b
 notes_app (line.Node t ∷ a) b = ap (λ ts. t ∷ ts) (notes_app a b)
 
@@ -29,10 +28,10 @@ pub notes_of_slots : (slots : Slots) (ls : List Line) → notes_in (map slot_of 
 notes_of_slots [] ls = refl
 notes_of_slots ((e, k) ∷ slots) ls = notes_of_slots slots ls
 
--- the notes behind counts, slots and nodes
-pub notes_behind : (a b : ℕ) (slots : Slots) (notes : List Note) (more : List Line)
-    → notes_in ((line.Head a b ∷ (map slot_of slots ++ map line.Node notes)) ++ more) ≡ notes ++ notes_in more
-notes_behind a b slots notes more =
+-- the notes behind the first line, slots and nodes
+pub notes_behind : (v a b : ℕ) (slots : Slots) (notes : List Note) (more : List Line)
+    → notes_in ((line.Head v a b ∷ (map slot_of slots ++ map line.Node notes)) ++ more) ≡ notes ++ notes_in more
+notes_behind v a b slots notes more =
     notes_app (map slot_of slots ++ map line.Node notes) more
     ∙ ap (λ ts. ts ++ notes_in more) (notes_of_slots slots (map line.Node notes) ∙ notes_of_nodes notes)
 
@@ -46,9 +45,9 @@ slots_app [] ls = refl
 slots_app ((e, k) ∷ slots) ls = ap (λ ts. (e, k) ∷ ts) (slots_app slots ls)
 
 -- Behind a node no further slot counts.
-pub slots_behind : (a b : ℕ) (slots : Slots) (t : Note) (notes : List Note) (more : List Line)
-    → slots_in ((line.Head a b ∷ (map slot_of slots ++ map line.Node (t ∷ notes))) ++ more) ≡ slots
-slots_behind a b slots t notes more =
+pub slots_behind : (v a b : ℕ) (slots : Slots) (t : Note) (notes : List Note) (more : List Line)
+    → slots_in ((line.Head v a b ∷ (map slot_of slots ++ map line.Node (t ∷ notes))) ++ more) ≡ slots
+slots_behind v a b slots t notes more =
     ap slots_in (append_assoc (map slot_of slots) (map line.Node (t ∷ notes)) more)
     ∙ slots_app slots (map line.Node (t ∷ notes) ++ more) ∙ append-nil slots
 

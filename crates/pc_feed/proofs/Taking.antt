@@ -1,9 +1,8 @@
 -- How a line is taken, by what was wrong before it.
-use Rattle.std.specs.Prelude.{◌≡◌, ℕ, ◌+◌, ◌<◌, ◌≤◌, Bool, true, false, List, [], ◌∷◌, ◌++◌, length, Option, Some, None, Result, Ok, Err, refl}
+use Rattle.std.specs.Prelude.{◌≡◌, ℕ, ◌+◌, ◌≤◌, Bool, true, false, List, [], ◌∷◌, ◌++◌, length, Option, Some, None, Result, Ok, Err, refl}
 use Rattle.std.proofs.Common.{ap, sym, subst, ◌∙◌, append_assoc, length-append, arith}
 use Rattle.pc_core.specs.CoreData.{CoreData}
 use Rattle.pc_ann.specs.declared.annotation.Note.{Note}
-use Rattle.pc_ann.specs.declared.annotation.Ann.{Ann}
 use Rattle.pc_deriv.specs.declared.line.Line.{Line}
 use Rattle.pc_deriv.specs.declared.line.Line.TheVariants as line
 use Rattle.pc_judge.specs.declared.faults.JudgeFault.{JudgeFault}
@@ -37,7 +36,7 @@ wrong_stays core ls l right f w =
     record {
       found = record { few = few_more ls l right w.found.few; each = λ more k h. subst (λ x. IsFoundRight core x k) (on more) (w.found.each (l ∷ more) k h) };
       stops = λ more k h r. w.stops (l ∷ more) k h (subst (λ x. IsFoundRight core x k) (sym (on more)) r);
-      first = λ ann more e ok. w.first ann (l ∷ more) (e ∙ sym (on more)) ok;
+      first = λ v ann more e ok. w.first v ann (l ∷ more) (e ∙ sym (on more)) ok;
     }
 
 -- ---- the referee's list

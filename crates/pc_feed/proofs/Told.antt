@@ -1,5 +1,5 @@
 -- Which nodes a referee was asked of, by what is kept.
-use Rattle.std.specs.Prelude.{◌≡◌, ◌⊎◌, ◌↔◌, ℕ, ◌+◌, ◌-◌, ◌<◌, ◌≤◌, List, [], ◌∷◌, ◌++◌, length, map, take, drop, Option, Some, None, slice_get, refl}
+use Rattle.std.specs.Prelude.{◌≡◌, ◌⊎◌, ◌↔◌, ℕ, ◌+◌, ◌-◌, ◌<◌, ◌≤◌, List, [], ◌∷◌, ◌++◌, length, take, drop, Option, Some, None, slice_get, refl}
 use Rattle.std.proofs.Common.{inl, inr, ap, sym, subst, ◌∙◌, arith, append-nil, length-append}
 use Rattle.std.proofs.Math.Seq.{take-add}
 use Rattle.std.proofs.lemmas.Bool.{cases_lt}
@@ -15,7 +15,7 @@ use Rattle.pc_stream.specs.Waiting.{Begins}
 use Rattle.pc_feed.specs.declared.judging.Judging.{Judging}
 use Rattle.pc_feed.specs.Lines.{counts_in, notes_in, so_far}
 use Rattle.pc_feed.specs.Asked.{numbered, IsFoundRight, IsAsked, Grew, GrewPart}
-use Rattle.pc_feed.specs.Streams.{Stands, no_line, behind_head, NothingWrong, Found, Wrong, JudgedBy, Judged}
+use Rattle.pc_feed.specs.Streams.{Stands, no_line, behind_head, NothingWrong, Found, JudgedBy, Judged}
 use Rattle.pc_feed.specs.Steps.{GrewBy, first_nodes}
 use Rattle.pc_feed.proofs.Sayings.{notes_app, first_nodes_more}
 use Rattle.pc_feed.proofs.Places.{notes_are, right_within}
@@ -33,12 +33,12 @@ full_of core slots notes k l (inr e) = e
 
 all_found : (core : CoreData) (ls : List Line) (j : Judging) (so : NothingWrong core ls j) → Stands core ls j.slots so.notes → (k : ℕ) → k < length so.notes → IsFoundRight core ls k
 all_found core ls j so (no_line p q r) k l = let none : length so.notes ≡ 0 = ap (λ (ts : List Note). length ts) r in absurd (omega (arith, l, none))
-all_found core ls j so (behind_head p m n o) k l =
+all_found core ls j so (behind_head v p m n o) k l =
     let f = first_of so.notes k l in
-    let whole : lines_with core j.slots so.notes ++ [] ≡ ls = append-nil (lines_with core j.slots so.notes) ∙ sym p in
+    let whole : lines_with core v j.slots so.notes ++ [] ≡ ls = append-nil (lines_with core v j.slots so.notes) ∙ sym p in
     let b : Begins (so_far ls) j.slots so.notes =
     subst (λ x. Begins (so_far x) j.slots so.notes) whole
-    (subst (λ (ts : List Note). Begins (so_far (lines_with core j.slots ts ++ [])) j.slots ts) (sym f.2) (so_far_begins core j.slots f.0 f.1 [])) in
+    (subst (λ (ts : List Note). Begins (so_far (lines_with core v j.slots ts ++ [])) j.slots ts) (sym f.2) (so_far_begins core v j.slots f.0 f.1 [])) in
     let full = full_of core j.slots so.notes k l o in
     record {
       opens = record {

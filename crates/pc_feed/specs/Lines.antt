@@ -1,6 +1,5 @@
 -- The lines of a derivation's text that have ended, and what they say so far.
 use Rattle.std.specs.Prelude.{ℕ, List, [], ◌∷◌, Option, Some, None}
-use Rattle.pc_caps.specs.declared.capability.Cap.{Cap}
 use Rattle.pc_ann.specs.declared.annotation.Note.{Note}
 use Rattle.pc_ann.specs.declared.annotation.Ann.{Ann}
 use Rattle.pc_rules.specs.Parts.{Slots}
@@ -20,21 +19,21 @@ fault_in bytes = (fed nothing_taken bytes).1.fault
 -- how many slots and nodes the first line says that there are
 abbrev pub counts_in : List Line → Option (ℕ × ℕ)
 counts_in [] = None
-counts_in (line.Head slots nodes ∷ ls) = Some (slots, nodes)
+counts_in (line.Head version slots nodes ∷ ls) = Some (slots, nodes)
 counts_in (line.Slot entity cap ∷ ls) = None
 counts_in (line.Node note ∷ ls) = None
 
 -- the types of slots, whose lines stand before those of the nodes
 abbrev pub slots_in : List Line → Slots
 slots_in [] = []
-slots_in (line.Head slots nodes ∷ ls) = slots_in ls
+slots_in (line.Head version slots nodes ∷ ls) = slots_in ls
 slots_in (line.Slot entity cap ∷ ls) = (entity, cap) ∷ slots_in ls
 slots_in (line.Node note ∷ ls) = []
 
 -- the notes of nodes
 abbrev pub notes_in : List Line → List Note
 notes_in [] = []
-notes_in (line.Head slots nodes ∷ ls) = notes_in ls
+notes_in (line.Head version slots nodes ∷ ls) = notes_in ls
 notes_in (line.Slot entity cap ∷ ls) = notes_in ls
 notes_in (line.Node note ∷ ls) = note ∷ notes_in ls
 

@@ -1,5 +1,5 @@
 -- How one line is taken, and how a piece is.
-use Rattle.std.specs.Prelude.{◌≡◌, ◌⊎◌, ℕ, ◌+◌, ◌-◌, ◌<◌, ◌≤◌, true, false, List, [], ◌∷◌, ◌++◌, length, take, drop, slice_get, slice_range, Option, Some, None, Result, Ok, Err}
+use Rattle.std.specs.Prelude.{◌≡◌, ℕ, ◌+◌, ◌-◌, ◌<◌, ◌≤◌, true, false, List, [], ◌∷◌, ◌++◌, length, take, drop, slice_get, slice_range, Option, Some, None, Result, Ok, Err}
 use Rattle.pc_caps.specs.declared.capability.Cap.{Cap}
 use Rattle.pc_core.specs.declared.nodes.Slot.{Slot}
 use Rattle.pc_core.specs.declared.nodes.Node.{Node}
@@ -27,10 +27,10 @@ use Rattle.pc_feed.specs.Streams.{Found, Judged, ReadSo}
 
 -- Behind so many lines, with these counts, a line of this kind stands.
 abbrev pub LineFits : Option (ℕ × ℕ) → ℕ → Line → Type 0
-LineFits None n (line.Head slots nodes) = Unit {0}
+LineFits None n (line.Head version slots nodes) = Unit {0}
 LineFits None n (line.Slot entity cap) = ⊥
 LineFits None n (line.Node note) = ⊥
-LineFits (Some c) n (line.Head slots nodes) = ⊥
+LineFits (Some c) n (line.Head version slots nodes) = ⊥
 LineFits (Some c) n (line.Slot entity cap) = n ≤ c.0
 LineFits (Some c) n (line.Node note) = (c.0 < n) × (n ≤ c.0 + c.1)
 
@@ -58,7 +58,7 @@ MayHave core k ty = (y : Slot) → slice_get core.slots k ≡ Some y → HasWrit
 
 -- There is room for what the line says.
 abbrev pub HasRoom : CoreData → Judging → Line → Type 0
-HasRoom core j (line.Head slots nodes) = Unit {0}
+HasRoom core j (line.Head version slots nodes) = Unit {0}
 HasRoom core j (line.Slot entity cap) = length j.slots < length core.slots
 HasRoom core j (line.Node note) = (length j.slots ≡ length core.slots) × (j.right < length core.nodes)
 

@@ -8,6 +8,7 @@ use Rattle.pc_sub.specs.Declarations.{DeclOk}
 use Rattle.pc_rules.specs.Parts.{Slots, notes_of}
 use Rattle.pc_judge.specs.declared.faults.JudgeFault.{JudgeFault}
 use Rattle.pc_judge.specs.Faults.{KeepsType, Passes, FirstFault}
+use Rattle.pc_deriv.specs.declared.version.Version.{Version}
 use Rattle.pc_deriv.specs.declared.line.Line.{Line}
 use Rattle.pc_deriv.specs.declared.line.Line.TheVariants as line
 use Rattle.pc_deriv.specs.Lines.{nothing_taken, fed, slot_of, lines_of}
@@ -22,10 +23,10 @@ pub record StreamData : Type 0 where
   pub core : CoreData
   pub reading : Reading
 
--- The lines are those of these slots and nodes: none yet, or the counts, and slots and nodes behind them.
+-- The lines are those of these slots and nodes: none yet, or the version and the counts, and slots and nodes behind them.
 pub data Stands (core : CoreData) (ls : List Line) (slots : Slots) (notes : List Note) : Type 0 where
   no_line : ls ≡ [] → slots ≡ [] → notes ≡ [] → Stands core ls slots notes
-  behind_head : ls ≡ line.Head (length core.slots) (length core.nodes) ∷ (map slot_of slots ++ map line.Node notes)
+  behind_head : (version : ℕ) → ls ≡ line.Head version (length core.slots) (length core.nodes) ∷ (map slot_of slots ++ map line.Node notes)
       → length slots ≤ length core.slots → length notes ≤ length core.nodes
       → (notes ≡ []) ⊎ (length slots ≡ length core.slots) → Stands core ls slots notes
 
@@ -46,12 +47,12 @@ pub record Found (core : CoreData) (ls : List Line) (right : ℕ) : Type 0 where
   pub few : right ≤ length (notes_in ls)
   pub each : (more : List Line) (k : ℕ) → k < right → IsFoundRight core (ls ++ more) k
 
--- This is wrong in these lines: it is the first fault of each annotation whose lines begin so, unless a declaration fails;
--- and no further node is found right, whatever lines follow.
+-- This is wrong in these lines: it is the first fault of each annotation whose lines in a version begin so, unless a
+-- declaration fails; and no further node is found right, whatever lines follow.
 pub record Wrong (core : CoreData) (ls : List Line) (right : ℕ) (f : JudgeFault) : Type 0 where
   pub found : Found core ls right
   pub stops : (more : List Line) (k : ℕ) → right ≤ k → IsFoundRight core (ls ++ more) k → ⊥
-  pub first : (ann : Ann) (more : List Line) → lines_of ann ≡ ls ++ more → DeclOk core → FirstFault core ann f
+  pub first : (version : Version) (ann : Ann) (more : List Line) → lines_of version ann ≡ ls ++ more → DeclOk core → FirstFault core ann f
 
 abbrev pub JudgedBy : CoreData → List Line → Judging → Option JudgeFault → Type 0
 JudgedBy core ls j None = NothingWrong core ls j

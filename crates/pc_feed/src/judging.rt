@@ -1,10 +1,11 @@
 //! What is known of an annotation whose lines come one by one.
-ghost use Rattle.std.specs.Prelude.{◌≡◌, ◌<◌, ◌↔◌, List as Sequence, [], ◌∷◌, ◌++◌, None, Some, length, slice_get, IfOk, OnOk, OnErr, IsTrue};
+ghost use Rattle.std.specs.Prelude.{◌≡◌, ◌<◌, ◌↔◌, ℕ, List as Sequence, [], ◌∷◌, ◌++◌, None, Some, length, slice_get, IfOk, OnOk, OnErr, IsTrue};
 ghost use Rattle.pc_ann.specs.declared.annotation.Ann.{Ann as AnnIs};
 ghost use Rattle.pc_core.specs.declared.nodes.NodeKind.TheVariants as kind;
 ghost use Rattle.pc_rules.specs.Rules.{Holds};
 ghost use Rattle.pc_referee.specs.Asked.{asked_after};
 ghost use Rattle.pc_deriv.specs.Lines.{slot_of, lines_of};
+ghost use Rattle.pc_deriv.specs.declared.version.Version.{Version as VersionIs};
 ghost use Rattle.pc_deriv.specs.declared.line.Line.{Line as LineIs};
 ghost use Rattle.pc_deriv.specs.declared.line.Line.TheVariants as line;
 ghost use Rattle.pc_feed.specs.Steps.{Comes, HasRoom, JudgedSo, LineTaken, OneFound, SameFound, last_of, nothing_judged, waits_behind};
@@ -51,11 +52,11 @@ impl Judging {
         }
     }
 
-    // The first line.
+    // The first line, of either version.
     fn take_head(&mut self, core: &Core, slots: u32, nodes: u32)
         requires { self.old.fault ≡ None }
-        ensures { (ls : Sequence LineIs) → Comes ls (line.Head slots nodes) → Judged core.now ls self.old
-            → Judged core.now (ls ++ line.Head slots nodes ∷ []) self.new × (self.new.right ≡ self.old.right) }
+        ensures { (version : ℕ) (ls : Sequence LineIs) → Comes ls (line.Head version slots nodes) → Judged core.now ls self.old
+            → Judged core.now (ls ++ line.Head version slots nodes ∷ []) self.new × (self.new.right ≡ self.old.right) }
     {
         if has_counts(core, slots, nodes) {
             return;
@@ -169,7 +170,11 @@ impl Judging {
             → LineTaken core.now ls line self.old self.new (R.asked referee.old) (R.asked referee.new) result }
     {
         match line {
-            Line::Head { slots, nodes } => {
+            Line::Head {
+                version: _,
+                slots,
+                nodes,
+            } => {
                 self.take_head(core, slots, nodes);
                 Ok(())
             }
@@ -200,7 +205,7 @@ impl Judging {
 
     /// What is first wrong of the annotation whose lines these were: a declaration, or what was found.
     pub fn end(&self, core: &Core) -> Result<(), StreamFault>
-        ensures { (ann : AnnIs) → Judged core.now (lines_of ann) self.now → JudgedSo core.now ann result }
+        ensures { (version : VersionIs) (ann : AnnIs) → Judged core.now (lines_of version ann) self.now → JudgedSo core.now ann result }
     {
         core.formed();
         match declarations(core) {

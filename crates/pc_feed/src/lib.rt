@@ -1,11 +1,11 @@
 //! The judge that reads a derivation's text in pieces.
 //!
 //! Proved: however the bytes are cut, `Stream` answers what reading the whole text and judging its annotation would: it ends
-//! with Ok exactly where the bytes are the text of a valid annotation, and else with the fault of the text, or with the first
-//! fault of the annotation. Each node is decided by asking a referee, in order, up to the first thing that is wrong
-//! (`IsAsked`); of a valid annotation's text every node is asked (`valid_asks_all`). It keeps the types of the slots and the
-//! notes of the nodes whose parent has not come yet. `judge_file` does the same with a file, of which it holds one part at a
-//! time.
+//! with Ok exactly where the bytes are the text of a valid annotation, in either version, and else with the fault of the text,
+//! or with the first fault of the annotation. Each node is decided by asking a referee, in order, up to the first thing that
+//! is wrong (`IsAsked`); of a valid annotation's text every node is asked (`valid_asks_all`). It keeps the types of the slots
+//! and the notes of the nodes whose parent has not come yet. `judge_file` does the same with a file, of which it holds one
+//! part at a time.
 #![tactic(auto)]
 
 mod fault;

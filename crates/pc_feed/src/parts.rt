@@ -128,8 +128,8 @@ fn take_parts<F: Files, R: Referee>(
     }
 }
 
-/// Judges the derivation in the file of this name, of which it holds one part of 65,536 bytes at a time. The file is read
-/// until a part is shorter, and at most to the part behind the longest derivation. Each node is decided by asking the
+/// Judges the derivation in the file of this name, in version 1 or 2. It holds one part of 65,536 bytes at a time. The file
+/// is read until a part is shorter, and at most to the part behind the longest derivation. Each node is decided by asking the
 /// referee, as `Stream` says.
 ///
 /// # Errors

@@ -14,7 +14,7 @@ use pc_referee::Referee;
 use std::alloc::Global;
 use std::marker::Model;
 
-/// A judge of a core that is fed a derivation's text in pieces, of any length.
+/// A judge of a core that is fed a derivation's text in pieces, of any length. The first line tells the text's version.
 ///
 /// Contracts see of which bytes it is the stream (`IsFed`): those of all pieces that were fed, one behind the other. It keeps
 /// the types of the slots, the notes of the nodes whose parent has not come yet, and the bytes of one line.
@@ -69,10 +69,10 @@ impl<'p> Stream<'p> {
         self.reading.take_piece(self.core, piece, referee)
     }
 
-    /// Ok exactly where the bytes fed are the text of a valid annotation. Takes no memory.
+    /// Ok exactly where the bytes fed are the text of a valid annotation, in version 1 or 2. Takes no memory.
     ///
     /// # Errors
-    /// - `Text` exactly where they are no derivation's text, with its fault.
+    /// - `Text` exactly where they are no derivation's text in either version, with its fault.
     /// - `Invalid` exactly where they are the text of an annotation that is not valid, with its first fault.
     /// - `Memory` exactly where a call of `feed` answered it.
     pub fn end(self) -> Result<(), StreamFault>

@@ -4,11 +4,11 @@ use Rattle.pc_deriv.specs.Faults.{Begins}
 use Rattle.pc_deriv.proofs.Reached.{note_more}
 use Rattle.pc_deriv.proofs.reading.read_notes.Goals as goal
 
-pub loop-rest-preserved : goal.loop-rest-preserved
-loop-rest-preserved c =
+pub notes-preserved : goal.notes-preserved
+notes-preserved c =
     let text = c.args.text.now in
-    let read = c.loop-rest.notes in
+    let read = c.notes.notes in
     let next = c.in-Some.read in
-    let more = note_more text read c.loop-rest.rest.now next.0 next.1.now c.loop-rest.invariant.1 (sym c.in-Some.ensures) in
+    let more = note_more c.args.version text read c.notes.rest.now next.0 next.1.now c.notes.invariant.1 (sym c.in-Some.ensures) in
     let pushed = c.in_ok-push.ensures.ok in
-    (omega (arith, c.loop-rest-test.true, ap length pushed, length-append read (next.0 ∷ [])), subst (λ l. Begins note_line NoteFits text l next.1.now) (sym pushed) more)
+    (omega (arith, c.notes-test.true, ap length pushed, length-append read (next.0 ∷ [])), subst (λ l. Begins (note_line c.args.version) NoteFits text l next.1.now) (sym pushed) more)

@@ -3,8 +3,8 @@ use Rattle.pc_deriv.specs.Text.{note_line, NoteFits}
 use Rattle.pc_deriv.specs.Faults.{Begins}
 use Rattle.pc_deriv.proofs.reading.read_notes.Given as goal
 
-abbrev pub invariant-loop-rest : goal.invariant-loop-rest
-invariant-loop-rest l = (length l.notes ≤ l.count) × Begins note_line NoteFits l.text l.notes l.rest
+abbrev pub invariant-notes : goal.invariant-notes
+invariant-notes l = (length l.notes ≤ l.count) × Begins (note_line l.version) NoteFits l.text l.notes l.rest
 
-abbrev pub decreases-loop-rest : goal.decreases-loop-rest
-decreases-loop-rest l = l.count - length l.notes
+abbrev pub decreases-notes : goal.decreases-notes
+decreases-notes l = l.count - length l.notes

@@ -1,5 +1,4 @@
-use Rattle.std.proofs.Common.{◌≡◌, ◌≤◌, ℕ, List, Option, Ok, refl, sym, subst, ◌∙◌, arith}
-use Rattle.pc_feed.specs.Parts.{PartTaken}
+use Rattle.std.proofs.Common.{Ok, refl, ◌∙◌, arith}
 use Rattle.pc_feed.proofs.FileParts.{no_parts, next_part, last_part, part_of_same}
 use Rattle.pc_feed.proofs.parts.take_parts.Goals as goal
 

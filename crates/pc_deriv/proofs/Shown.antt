@@ -1,0 +1,22 @@
+-- What is written for a mask after a node.
+use Rattle.std.proofs.Common.{◌≡◌, refl, sym, ap, ◌∙◌}
+use Rattle.std.specs.Prelude.{bit_xor}
+use Rattle.std.specs.Int.Bits.{xor_assoc, xor_self, xor_zero_l}
+use Rattle.std.proofs.lemmas.Nat.{xor_lt}
+use Rattle.pc_ann.specs.declared.mask.Mask.{Mask}
+use Rattle.pc_deriv.specs.declared.version.Version.{Version}
+use Rattle.pc_deriv.specs.declared.version.Version.TheVariants as version
+use Rattle.pc_deriv.specs.Text.{shown_after, MaskFits}
+
+-- from what is written it gives the mask again
+pub shown_twice : (v : Version) (before after : Mask) → shown_after v before (shown_after v before after) ≡ after
+shown_twice version.One before after = refl
+shown_twice version.Two before after =
+    let a = before.0 in
+    let b = after.0 in
+    let same : bit_xor a (bit_xor a b) ≡ b = sym (xor_assoc a a b) ∙ ap (λ x. bit_xor x b) (xor_self a) ∙ xor_zero_l b in
+    (λ i. record { 0 = same i })
+
+pub shown_fits : (v : Version) (before after : Mask) → MaskFits before → MaskFits after → MaskFits (shown_after v before after)
+shown_fits version.One before after p q = q
+shown_fits version.Two before after p q = xor_lt 64 before.0 after.0 p q
