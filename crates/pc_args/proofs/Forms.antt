@@ -3,8 +3,8 @@ use Rattle.std.proofs.Common.{◌≡◌, ◌∙◌, ℕ, List, [], ◌∷◌, So
 use Rattle.std.specs.Prelude.{if◌then◌else◌, option_and_then}
 use Rattle.clap.specs.Words.{fault_of, subcommand_of, takes}
 use Rattle.clap.proofs.OnLiterals.{clap_on_literals}
-use Rattle.pc_args.specs.Asked.{Asked, Text, check, command_of, has_fault, is_refused, judge, make, named, run, sends, show, swap, trace}
-use Rattle.pc_args.specs.Forms.{AskFor, WrittenFormsAreTaken, check_words, is_plain, judge_words, make_words, run_words, sends_words, show_words, swap_words, trace_words}
+use Rattle.pc_args.specs.Asked.{Asked, Text, check, command_of, has_fault, is_refused, judge, make, named, run, sends, show, swap, trace, upgrade}
+use Rattle.pc_args.specs.Forms.{AskFor, WrittenFormsAreTaken, check_words, is_plain, judge_words, make_words, run_words, sends_words, show_words, swap_words, trace_words, upgrade_words}
 use Rattle.pc_args.specs.Line.{rcap}
 use Rattle.std.proofs.lemmas.Bool.{not-true}
 
@@ -78,6 +78,15 @@ sends_found : (c : ℕ) (rest : Text) → nat_eq c 45 ≡ false → option_and_t
 unfolding clap_on_literals
 sends_found c rest plain = simp plain refl
 
+upgrade_taken : (c d : ℕ) (rest more : Text) → nat_eq c 45 ≡ false → nat_eq d 45 ≡ false → takes rcap (upgrade_words (c ∷ rest) (d ∷ more)) ≡ true
+unfolding clap_on_literals
+upgrade_taken c d rest more plain also = simp plain (simp also refl)
+
+upgrade_found : (c d : ℕ) (rest more : Text) → nat_eq c 45 ≡ false → nat_eq d 45 ≡ false
+    → option_and_then named (subcommand_of rcap (upgrade_words (c ∷ rest) (d ∷ more))) ≡ Some (upgrade (c ∷ rest) (d ∷ more))
+unfolding clap_on_literals
+upgrade_found c d rest more plain also = simp plain (simp also refl)
+
 -- Words that are taken are not refused.
 unrefused : (words : List Text) → takes rcap words ≡ true → is_refused words ≡ false
 unfolding is_refused
@@ -102,6 +111,11 @@ sends_asks : (c : ℕ) (rest : Text) → nat_eq c 45 ≡ false → AskFor (sends
 sends_asks c rest plain =
     let t = sends_taken c rest plain in
     (t, read_from (sends_words (c ∷ rest)) (sends (c ∷ rest)) t (sends_found c rest plain))
+
+upgrade_asks : (c d : ℕ) (rest more : Text) → nat_eq c 45 ≡ false → nat_eq d 45 ≡ false → AskFor (upgrade_words (c ∷ rest) (d ∷ more)) (upgrade (c ∷ rest) (d ∷ more))
+upgrade_asks c d rest more plain also =
+    let t = upgrade_taken c d rest more plain also in
+    (t, read_from (upgrade_words (c ∷ rest) (d ∷ more)) (upgrade (c ∷ rest) (d ∷ more)) t (upgrade_found c d rest more plain also))
 
 checks : (source : Text) → is_plain source ≡ true → AskFor (check_words source) (check source)
 checks [] e = let bad : false ≡ true = e in cc
@@ -164,5 +178,13 @@ sendings (c ∷ rest) e =
     let plain : nat_eq c 45 ≡ false = not-true (nat_eq c 45) e in
     sends_asks c rest plain
 
+upgrades : (source derivation : Text) → is_plain source ≡ true → is_plain derivation ≡ true → AskFor (upgrade_words source derivation) (upgrade source derivation)
+upgrades [] derivation e f = let bad : false ≡ true = e in cc
+upgrades (c ∷ rest) [] e f = let bad : false ≡ true = f in cc
+upgrades (c ∷ rest) (d ∷ more) e f =
+    let plain : nat_eq c 45 ≡ false = not-true (nat_eq c 45) e in
+    let also : nat_eq d 45 ≡ false = not-true (nat_eq d 45) f in
+    upgrade_asks c d rest more plain also
+
 pub forms_taken : WrittenFormsAreTaken
-forms_taken = record { checks = checks; judges = judges; runs = runs; shows = shows; makes = makes; swaps = swaps; traces = traces; sendings = sendings }
+forms_taken = record { checks = checks; judges = judges; runs = runs; shows = shows; makes = makes; swaps = swaps; traces = traces; sendings = sendings; upgrades = upgrades }

@@ -6,7 +6,7 @@ use Rattle.clap.specs.Kinds.{Kinds}
 use Rattle.clap.specs.Words.{Row, fault_of, first_of, subcommand_of, takes}
 use Rattle.pc_args.specs.Line.{rcap}
 use Rattle.pc_args.specs.declared.words.Command.{Command}
-use Rattle.pc_args.specs.declared.words.Command.TheVariants.{Check, Judge, Run, Show, Make, Swap, Trace, Sends}
+use Rattle.pc_args.specs.declared.words.Command.TheVariants.{Check, Judge, Run, Show, Make, Swap, Trace, Sends, Upgrade}
 
 abbrev pub Text : Type 0
 Text = List ℕ
@@ -25,6 +25,7 @@ pub data Asked : Type 0 where
   swap : Text → Text → Text → Asked
   trace : Text → Text → Asked
   sends : Text → Asked
+  upgrade : Text → Text → Asked
 
 abbrev pub asked_by : Command → Asked
 asked_by (Check source) = check source.now
@@ -35,6 +36,7 @@ asked_by (Make seed size) = make seed.now size.now
 asked_by (Swap source schedule place) = swap source.now schedule.now place.now
 asked_by (Trace source schedule) = trace source.now schedule.now
 asked_by (Sends source) = sends source.now
+asked_by (Upgrade source derivation) = upgrade source.now derivation.now
 
 -- the value of the argument of this name
 abbrev pub value : Text → List Row → Text
@@ -50,6 +52,7 @@ named p = if bytes_eq p.0 (codes "check") then Some (check (value (codes "SRC") 
     else if bytes_eq p.0 (codes "swap") then Some (swap (value (codes "SRC") p.1) (value (codes "SCHED") p.1) (value (codes "PLACE") p.1))
     else if bytes_eq p.0 (codes "trace") then Some (trace (value (codes "SRC") p.1) (value (codes "SCHED") p.1))
     else if bytes_eq p.0 (codes "sends") then Some (sends (value (codes "SRC") p.1))
+    else if bytes_eq p.0 (codes "upgrade") then Some (upgrade (value (codes "SRC") p.1) (value (codes "DERIV") p.1))
     else None
 
 -- whether there is a fault among these

@@ -1,7 +1,7 @@
 -- The written forms of commands.
 use Rattle.std.specs.Prelude.{◌≡◌, ◌==◌, Bool, true, false, not, List, [], ◌∷◌, Some, codes}
 use Rattle.clap.specs.Words.{takes}
-use Rattle.pc_args.specs.Asked.{Asked, Text, check, command_of, judge, make, run, sends, show, swap, trace}
+use Rattle.pc_args.specs.Asked.{Asked, Text, check, command_of, judge, make, run, sends, show, swap, trace, upgrade}
 use Rattle.pc_args.specs.Line.{rcap}
 
 -- A name or number that is not empty and does not begin with `-`.
@@ -33,6 +33,9 @@ trace_words source schedule = codes "trace" ∷ source ∷ schedule ∷ []
 abbrev pub sends_words : Text → List Text
 sends_words source = codes "sends" ∷ source ∷ []
 
+abbrev pub upgrade_words : Text → Text → List Text
+upgrade_words source derivation = codes "upgrade" ∷ source ∷ derivation ∷ []
+
 -- The command line takes the words, and this is what they ask for.
 abbrev pub AskFor : List Text → Asked → Type 0
 AskFor words asked = (takes rcap words ≡ true) × (command_of words ≡ Some asked)
@@ -51,3 +54,5 @@ pub record WrittenFormsAreTaken : Type 0 where
   pub traces : (source schedule : Text) → is_plain source ≡ true → is_plain schedule ≡ true
       → AskFor (trace_words source schedule) (trace source schedule)
   pub sendings : (source : Text) → is_plain source ≡ true → AskFor (sends_words source) (sends source)
+  pub upgrades : (source derivation : Text) → is_plain source ≡ true → is_plain derivation ≡ true
+      → AskFor (upgrade_words source derivation) (upgrade source derivation)

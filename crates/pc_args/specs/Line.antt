@@ -38,6 +38,10 @@ trace = with_rule (with_rule (new_app (codes "trace")) (positional (codes "SRC")
 abbrev pub sends : App
 sends = with_rule (new_app (codes "sends")) (positional (codes "SRC"))
 
+-- `upgrade SRC DERIV`
+abbrev pub upgrade : App
+upgrade = with_rule (with_rule (new_app (codes "upgrade")) (positional (codes "SRC"))) (positional (codes "DERIV"))
+
 -- The words begin behind the program's name, and no `help` is added as a subcommand.
 abbrev pub bare : App
 bare = on_top (λ s. record s { no_binary_name = true; disable_help_subcommand = true; subcommand_required = true }) (new_app (codes "rcap"))
@@ -54,6 +58,10 @@ reading = with_subcommand (with_subcommand judging run.top) show.top
 abbrev pub changing : App
 changing = with_subcommand (with_subcommand reading make.top) swap.top
 
+-- with those that tell what a run and a source do
+abbrev pub telling : App
+telling = with_subcommand (with_subcommand changing trace.top) sends.top
+
 -- with all subcommands
 abbrev pub rcap : App
-rcap = with_subcommand (with_subcommand changing trace.top) sends.top
+rcap = with_subcommand telling upgrade.top

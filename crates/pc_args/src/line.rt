@@ -79,6 +79,14 @@ fn make_sends<'a>(alloc: Global) -> Result<Command<'a>, AllocError>
     Command::new(alloc, "sends").arg(make_positional(alloc, "SRC"))
 }
 
+fn make_upgrade<'a>(alloc: Global) -> Result<Command<'a>, AllocError>
+    ensures app { IfOk result (λ c. app_of c ≡ line.upgrade) }
+    ensures local { IfOk result (λ c. (fields_of c).has_globals ≡ false) }
+{
+    let upgrade = Command::new(alloc, "upgrade").arg(make_positional(alloc, "SRC"))?;
+    upgrade.arg(make_positional(alloc, "DERIV"))
+}
+
 // The command line without a subcommand.
 fn make_bare<'a>(alloc: Global) -> Command<'a>
     ensures app { app_of result ≡ line.bare }
@@ -120,14 +128,22 @@ fn make_changing<'a>(alloc: Global) -> Result<Command<'a>, AllocError>
         .subcommand(make_swap(alloc)?)
 }
 
-// The whole command line, its words not yet read.
-fn make_rcap<'a>(alloc: Global) -> Result<Command<'a>, AllocError>
-    ensures app { IfOk result (λ c. app_of c ≡ line.rcap) }
+// With those that tell what a run and a source do.
+fn make_telling<'a>(alloc: Global) -> Result<Command<'a>, AllocError>
+    ensures app { IfOk result (λ c. app_of c ≡ line.telling) }
     ensures local { IfOk result (λ c. (fields_of c).has_globals ≡ false) }
 {
     make_changing(alloc)?
         .subcommand(make_trace(alloc)?)?
         .subcommand(make_sends(alloc)?)
+}
+
+// The whole command line, its words not yet read.
+fn make_rcap<'a>(alloc: Global) -> Result<Command<'a>, AllocError>
+    ensures app { IfOk result (λ c. app_of c ≡ line.rcap) }
+    ensures local { IfOk result (λ c. (fields_of c).has_globals ≡ false) }
+{
+    make_telling(alloc)?.subcommand(make_upgrade(alloc)?)
 }
 
 /// The matches of the words, or why clap refuses them.

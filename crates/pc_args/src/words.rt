@@ -50,6 +50,11 @@ pub enum Command<'a> {
     Sends {
         source: &'a str,
     },
+    /// To write a derivation of a source anew, in version 2 of its text.
+    Upgrade {
+        source: &'a str,
+        derivation: &'a str,
+    },
 }
 
 /// Why words ask for nothing.
@@ -111,6 +116,10 @@ fn command_in<'a>(matches: &ArgMatches<'a>) -> Option<Command<'a>>
         }),
         "sends" => Some(Command::Sends {
             source: value_of(own, "SRC"),
+        }),
+        "upgrade" => Some(Command::Upgrade {
+            source: value_of(own, "SRC"),
+            derivation: value_of(own, "DERIV"),
         }),
         _ => None,
     }

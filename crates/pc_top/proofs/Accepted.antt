@@ -5,7 +5,7 @@ use Rattle.std.specs.Io.KnownBytes.{Appends}
 use Rattle.pc_ann.specs.declared.annotation.Ann.{Ann}
 use Rattle.pc_rules.specs.Valid.{Valid}
 use Rattle.pc_regions.specs.Laws.{ValidIsSafe}
-use Rattle.pc_args.specs.Asked.{Text, Asked, check, judge, run, show, make, swap, trace, sends, command_of}
+use Rattle.pc_args.specs.Asked.{Text, Asked, check, judge, run, show, make, swap, trace, sends, upgrade, command_of}
 use Rattle.pc_top.specs.Accepting.{AcceptedStage}
 use Rattle.pc_top.specs.Answer.{Answer}
 use Rattle.pc_top.specs.Answer.Answer.{told as answer_told, file as answer_file, out_failed, err_failed, file_err_failed, no_memory}
@@ -26,6 +26,7 @@ use Rattle.pc_top.specs.Source.{SourceStage, source_limit}
 use Rattle.pc_top.specs.Swap.{IsSwap, SwapScheduled}
 use Rattle.pc_top.specs.Swap.IsSwap.{placed, no_number}
 use Rattle.pc_top.specs.Trace.{TraceScheduled}
+use Rattle.pc_top.specs.Upgrade.{IsUpgrade, Upgraded, upgraded}
 use Rattle.pc_top.specs.Verdict.{Verdict, IsAccepting}
 use Rattle.pc_top.specs.declared.accepting.Accepted.{Accepted}
 use Rattle.pc_top.specs.declared.source.Source.{Source}
@@ -70,6 +71,18 @@ judge_derivable file derivation v is e =
     let d = passed (in_parts derivation) derivation_limit (DerivationStage derivation.name) (Judged file.name derivation.name p.1) v (λ r h. other_refuses v.status (derivation_other h) e) p.4 in
     derivable file p.0 p.1 d.1 p.2 p.3 (judged_valid d.4.1 (subst (λ (w : Verdict). IsAccepting w.status) d.4.2 e))
 
+-- and what is upgraded
+pub upgraded_valid : {source_name name : Text} {s : Source} {ann : Ann} {end : Result (Unit {0}) Verdict} → Judging source_name name s ann end → IsAccepting (upgraded ann end).status → Valid s.core ann
+upgraded_valid (holds v) e = v
+upgraded_valid (fails f h) e = absurd (six_refuses e)
+
+upgrade_derivable : (file derivation : Named) (v : Verdict) → IsUpgrade file derivation v → IsAccepting v.status → IfSome file.told IsDerivable
+upgrade_derivable file derivation v is e =
+    let Next : Source → Verdict → Type 0 = λ s. FromFile derivation derivation_limit (DerivationStage derivation.name) (Upgraded file.name derivation.name s) in
+    let p = passed file source_limit (SourceStage file.name) Next v (λ r h. other_refuses v.status (source_other h) e) is in
+    let d = passed derivation derivation_limit (DerivationStage derivation.name) (Upgraded file.name derivation.name p.1) v (λ r h. other_refuses v.status (derivation_other h) e) p.4 in
+    derivable file p.0 p.1 d.1 p.2 p.3 (upgraded_valid d.4.1 (subst (λ (w : Verdict). IsAccepting w.status) d.4.2 e))
+
 pub words_refuse : (v : Verdict) → v.status ≡ 2 → IsAccepting v.status → ⊥
 words_refuse v is (inl e) = omega (arith, is, e)
 words_refuse v is (inr e) = omega (arith, is, e)
@@ -95,6 +108,7 @@ verdict_accepts files (Some (make seed size)) v is e = make_derivable seed size 
 verdict_accepts files (Some (swap source schedule place)) v is e = swap_derivable (named files source) (named files schedule) place v is e
 verdict_accepts files (Some (trace source schedule)) v is e = accepted_derivable (named files source) (TraceScheduled (named files schedule)) v is e
 verdict_accepts files (Some (sends source)) v is e = accepted_derivable (named files source) Sent v is e
+verdict_accepts files (Some (upgrade source derivation)) v is e = upgrade_derivable (named files source) (named files derivation) v is e
 
 -- no other answer than the verdict's accepts
 faults_refuse : (status n : ℕ) → status ≡ n → 9 ≤ n → n ≤ 11 → IsAccepting status → ⊥
@@ -140,6 +154,7 @@ asked_safe law told (Some (make seed size)) h = made_safe law seed size h
 asked_safe law told (Some (swap source schedule place)) h = source_safe law (told source) h
 asked_safe law told (Some (trace source schedule)) h = source_safe law (told source) h
 asked_safe law told (Some (sends source)) h = source_safe law (told source) h
+asked_safe law told (Some (upgrade source derivation)) h = source_safe law (told source) h
 
 pub accepted_safe : DerivableIsSafe → (told : Text → Option Text) (words : List Text) → Accepts told words → IsMadeSafe told words
 accepted_safe law told words h = asked_safe law told (command_of words) h

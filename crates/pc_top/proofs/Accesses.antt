@@ -8,7 +8,7 @@ use Rattle.pc_run.specs.Spreading.{spread}
 use Rattle.pc_sched.specs.Limits.{schedule_limit}
 use Rattle.pc_sched.specs.declared.turns.Turn.{Turn}
 use Rattle.pc_trace.specs.declared.touch.Touch.{Touch}
-use Rattle.pc_args.specs.Asked.{Text, Asked, check, judge, run, show, make, swap, trace, sends, command_of}
+use Rattle.pc_args.specs.Asked.{Text, Asked, check, judge, run, show, make, swap, trace, sends, upgrade, command_of}
 use Rattle.pc_top.specs.Accepting.{AcceptedStage}
 use Rattle.pc_top.specs.Answer.{Answer}
 use Rattle.pc_top.specs.Answer.Answer.{told as answer_told, file as answer_file, out_failed, err_failed, file_err_failed, no_memory}
@@ -110,6 +110,7 @@ verdict_traces files (Some (make seed size)) v out is e o = tt
 verdict_traces files (Some (swap source schedule place)) v out is e o = tt
 verdict_traces files (Some (trace source schedule)) v out is e o = trace_done (named files source) (named files schedule) v out is e o
 verdict_traces files (Some (sends source)) v out is e o = tt
+verdict_traces files (Some (upgrade source derivation)) v out is e o = tt
 
 pub answer_traces : (files : Files) (words : List Text) (out err : Change) (status : ℕ) → Answer (IsVerdict files words) (FailedIn files words) out err status → status ≡ 0 → Traces files.told words out
 answer_traces files words out err status (answer_told v is s o l) e = verdict_traces files (command_of words) v out is (sym s ∙ e) o

@@ -6,7 +6,10 @@ use Rattle.pc_check.specs.declared.fault.CheckFault.{CheckFault}
 use Rattle.pc_check.specs.declared.fault.CheckFault.TheVariants as fault
 use Rattle.pc_ann.specs.declared.annotation.Ann.{Ann}
 use Rattle.pc_rules.specs.Valid.{Valid}
+use Rattle.pc_deriv.specs.Faults.{IsText}
 use Rattle.pc_deriv.specs.Limits.{slot_limit, node_limit}
+use Rattle.pc_deriv.specs.Text.{deriv_text}
+use Rattle.pc_deriv.specs.declared.version.Version.TheVariants as version
 use Rattle.pc_core.specs.Formed.{Formed}
 use Rattle.pc_run.specs.Ends.{NeverLacks}
 use Rattle.pc_types.specs.Laws.{AcceptedNeverLacks}
@@ -95,3 +98,8 @@ small_notes core ann small v =
     let a = v.slots in
     let b = v.notes in
     (omega (arith, few, a), omega (arith, nodes, b))
+
+-- ---- the text in version 1
+
+pub first : (ann : Ann) (text : Text) → IsText text ann → text ≡ deriv_text version.One ann → (is : IsText text ann) × (is.version ≡ version.One)
+first ann text t same = (record { version = version.One; slots = t.slots; notes = t.notes; within = t.within; same = same }, refl)

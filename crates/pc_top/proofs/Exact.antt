@@ -6,7 +6,7 @@ use Rattle.pc_check.specs.Laws.{NoneWithoutRule, NoneWithUnset, NoneWithFault}
 use Rattle.pc_core.specs.CoreData.{CoreData}
 use Rattle.pc_gen.specs.Numbers.{IsSeed, IsSize}
 use Rattle.pc_rules.specs.Valid.{Derivable}
-use Rattle.pc_args.specs.Asked.{Text, Asked, check, judge, run, show, make, swap, trace, sends}
+use Rattle.pc_args.specs.Asked.{Text, Asked, check, judge, run, show, make, swap, trace, sends, upgrade}
 use Rattle.pc_top.specs.Accepting.{AcceptedStage}
 use Rattle.pc_top.specs.After.After.{stops, goes}
 use Rattle.pc_top.specs.Asked.{IsVerdictOf}
@@ -81,7 +81,7 @@ module _ (laws : SourceLaws) (formed : CoresAreFormed) (ruleless : NoneWithoutRu
     exact_zero : (v : Verdict) → FromFile file source_limit (AcceptedStage file.name) Derived v → (v.status ≡ 0) ↔ IsDerivable bytes
     exact_zero v is =
         let there : v.status ≡ 0 → IsDerivable bytes = λ e. subst (λ (o : Option Text). IfSome o IsDerivable) tells (accepted_derivable file Derived v is (inl e)) in
-        let back : IsDerivable bytes → v.status ≡ 0 = λ d. let w = went_on d.0 d.1 Derived v d.2 is in ap (λ (x : Verdict). x.status) w.1.2 in
+        let back : IsDerivable bytes → v.status ≡ 0 = λ d. let w = went_on d.0 d.1 Derived v d.2 is in ap (λ (x : Verdict). x.status) w.1.3 in
         (there, back)
 
     exact_one : (Last : Accepted → Verdict → Type 0) (v : Verdict) → ((a : Accepted) → Last a v → v.status ≡ 1 → ⊥)
@@ -120,6 +120,7 @@ module _ (laws : SourceLaws) (formed : CoresAreFormed) (ruleless : NoneWithoutRu
       exact_one (named files name) bytes (told_there files name source bytes e told) (unfailed_there files name source e n) (TraceScheduled (named files schedule)) v (λ a l. trace_not_one (named files schedule) a v l) is
   one_asked files (sends name) source bytes v e told n p is i =
       exact_one (named files name) bytes (told_there files name source bytes e told) (unfailed_there files name source e n) Sent v (λ a l. sent_not_one a v l) is
+  one_asked files (upgrade name derivation) source bytes v e told n p is i = let bad : false ≡ true = i in cc
 
   -- the program that is made
   made_one : (seed size : Text) (a b : ℕ) (v : Verdict) → IsSeed seed a → IsSize size b → IsMake seed size v → (v.status ≡ 1) ↔ IsUnderivable (made_text a b)

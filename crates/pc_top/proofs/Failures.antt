@@ -3,7 +3,7 @@ use Rattle.std.proofs.Common.{◌≡◌, ◌≤◌, ℕ, List, Option, Some, Non
 use Rattle.std.specs.Prelude.{◌⊎◌, Result}
 use Rattle.pc_ann.specs.declared.annotation.Ann.{Ann}
 use Rattle.pc_core.specs.CoreData.{CoreData}
-use Rattle.pc_args.specs.Asked.{Text, Asked, check, judge, run, show, make, swap, trace, sends, command_of}
+use Rattle.pc_args.specs.Asked.{Text, Asked, check, judge, run, show, make, swap, trace, sends, upgrade, command_of}
 use Rattle.pc_io.specs.Change.{Change}
 use Rattle.pc_top.specs.After.After.{stops, goes}
 use Rattle.pc_top.specs.Accepting.{AcceptedStage}
@@ -28,6 +28,7 @@ use Rattle.pc_top.specs.Swap.IsSwap.{placed, no_number}
 use Rattle.pc_top.specs.Swap.Swapping.{tells, no_place, too_long}
 use Rattle.pc_top.specs.Trace.{TraceScheduled, Tracing, traced}
 use Rattle.pc_top.specs.Trace.Tracing.{tells as traced_text, too_long as traced_long, too_many}
+use Rattle.pc_top.specs.Upgrade.{IsUpgrade, upgraded}
 use Rattle.pc_top.specs.Verdict.{Verdict}
 use Rattle.pc_top.specs.declared.accepting.Accepted.{Accepted}
 use Rattle.pc_top.specs.declared.source.Source.{Source}
@@ -48,7 +49,7 @@ accepted_own {v = v} (stops h) = inl (source_other h).1
 accepted_own {v = v} (goes h t) = own_at v.status 1 (typing_one t) (omega arith)
 
 derived_own : (a : Accepted) (v : Verdict) → Derived a v → IsOwn v.status
-derived_own a v d = own_at v.status 0 (ap (λ (w : Verdict). w.status) d.2) (omega arith)
+derived_own a v d = own_at v.status 0 (ap (λ (w : Verdict). w.status) d.3) (omega arith)
 
 sent_own : (a : Accepted) (v : Verdict) → Sent a v → IsOwn v.status
 sent_own a v s = own_at v.status 0 (ap (λ (w : Verdict). w.status) s.2) (omega arith)
@@ -99,6 +100,15 @@ judge_own source derivation v (refuses r g h) = inl (source_other h).1
 judge_own source derivation v (goes_on r s g h (refuses d i k)) = inl (derivation_other k).1
 judge_own source derivation v (goes_on r s g h (goes_on d ann i k l)) = subst IsOwn (sym (ap (λ (w : Verdict). w.status) l.2)) (judging_own l.1)
 
+upgrading_own : {source_name name : Text} {s : Source} {ann : Ann} {end : Result (Unit {0}) Verdict} → Judging source_name name s ann end → IsOwn (upgraded ann end).status
+upgrading_own (holds v) = inl (omega arith)
+upgrading_own (fails f g) = inl (omega arith)
+
+upgrade_own : (source derivation : Named) (v : Verdict) → IsUpgrade source derivation v → IsOwn v.status
+upgrade_own source derivation v (refuses r g h) = inl (source_other h).1
+upgrade_own source derivation v (goes_on r s g h (refuses d i k)) = inl (derivation_other k).1
+upgrade_own source derivation v (goes_on r s g h (goes_on d ann i k l)) = subst IsOwn (sym (ap (λ (w : Verdict). w.status) l.2)) (upgrading_own l.1)
+
 show_own : (source : Named) (v : Verdict) → IsShow source v → IsOwn v.status
 show_own source v (refuses r g h) = inl (file_other h).1
 show_own source v (goes_on r f g h l) = own_at v.status 0 (ap (λ (w : Verdict). w.status) l) (omega arith)
@@ -121,6 +131,7 @@ verdict_own files (Some (make seed size)) v is = make_own seed size v is
 verdict_own files (Some (swap source schedule place)) v is = swap_own (named files source) (named files schedule) place v is
 verdict_own files (Some (trace source schedule)) v is = accepting_own (named files source) (TraceScheduled (named files schedule)) v (λ a l. trace_scheduled_own (named files schedule) a v l) is
 verdict_own files (Some (sends source)) v is = accepting_own (named files source) Sent v (λ a l. sent_own a v l) is
+verdict_own files (Some (upgrade source derivation)) v is = upgrade_own (named files source) (named files derivation) v is
 
 pub verdicts_own : NoVerdictIsAFailure
 verdicts_own files words v is = verdict_own files (command_of words) v is

@@ -18,8 +18,11 @@ use Rattle.pc_ann.specs.declared.annotation.Rule.{Rule}
 use Rattle.pc_ann.specs.declared.annotation.Rule.TheVariants as rule
 use Rattle.pc_deriv.proofs.Digits.{spell, last_glyph, spell_last, spell_next}
 use Rattle.pc_deriv.specs.Faults.{IsText}
-use Rattle.pc_deriv.specs.Names.{rule_name, cap_name, form_name}
-use Rattle.pc_deriv.specs.Text.{head_line, slot_line, type_text, mask_text, masks_text, note_line, lines, line_end, blank, SlotFits, TypeFits, MaskFits, MasksFit, NoteFits}
+use Rattle.pc_deriv.proofs.Shown.{shown_fits}
+use Rattle.pc_deriv.specs.Names.{version_name, rule_name, cap_name, form_name}
+use Rattle.pc_deriv.specs.Text.{head_line, slot_line, type_text, mask_text, masks_text, note_line, shown_after, deriv_text, lines, line_end, blank, SlotFits, TypeFits, MaskFits, MasksFit, NoteFits}
+use Rattle.pc_deriv.specs.declared.version.Version.{Version}
+use Rattle.pc_deriv.specs.declared.version.Version.TheVariants as version
 use Rattle.pc_top.specs.Judge.{derivation_limit}
 
 -- The parts of a line.
@@ -106,17 +109,25 @@ type_size : (ty : Option (ℕ × Form)) → TypeFits ty → length (type_text ty
 type_size None fit = omega arith
 type_size (Some ty) fit = both_sizes (decimal ty.0) _ 10 5 (number_size ty.0 fit) (both_sizes blank (form_name ty.1) 1 4 (omega arith) (form_size ty.1))
 
-masks_size : (t : Note) → MasksFit t → length (masks_text t) ≤ 69
-masks_size t fit =
+masks_size : (v : Version) (t : Note) → MasksFit t → length (masks_text v t) ≤ 69
+masks_size v t fit =
+    let live = shown_after v t.live_before t.live_after in
+    let set = shown_after v t.set_before t.set_after in
+    let live_fits = shown_fits v t.live_before t.live_after fit.0.0 fit.1.0 in
+    let set_fits = shown_fits v t.set_before t.set_after fit.0.1 fit.1.1 in
     both_sizes blank _ 1 68 (omega arith) (both_sizes (mask_text t.live_before) _ 16 52 (mask_size t.live_before fit.0.0)
     (both_sizes blank _ 1 51 (omega arith) (both_sizes (mask_text t.set_before) _ 16 35 (mask_size t.set_before fit.0.1)
-    (both_sizes blank _ 1 34 (omega arith) (both_sizes (mask_text t.live_after) _ 16 18 (mask_size t.live_after fit.1.0)
-    (both_sizes blank _ 1 17 (omega arith) (both_sizes (mask_text t.set_after) line_end 16 1 (mask_size t.set_after fit.1.1) (omega arith))))))))
+    (both_sizes blank _ 1 34 (omega arith) (both_sizes (mask_text live) _ 16 18 (mask_size live live_fits)
+    (both_sizes blank _ 1 17 (omega arith) (both_sizes (mask_text set) line_end 16 1 (mask_size set set_fits) (omega arith))))))))
 
-note_size : (t : Note) → NoteFits t → length (note_line t) ≤ 98
-note_size t fit =
+note_size : (v : Version) (t : Note) → NoteFits t → length (note_line v t) ≤ 98
+note_size v t fit =
     both_sizes (codes "n ") _ 2 96 (omega arith) (both_sizes (rule_name t.rule) _ 11 85 (rule_size t.rule) (both_sizes blank _ 1 84 (omega arith)
-    (both_sizes (type_text t.ty) (masks_text t) 15 69 (type_size t.ty fit.0) (masks_size t fit.1))))
+    (both_sizes (type_text t.ty) (masks_text v t) 15 69 (type_size t.ty fit.0) (masks_size v t fit.1))))
+
+version_size : (v : Version) → length (version_name v) ≤ 1
+version_size version.One = omega arith
+version_size version.Two = omega arith
 
 -- The whole text.
 lines_size : {A : Type 0} → (line : A → List ℕ) (Fits : A → Type 0) (size : ℕ) → ((x : A) → Fits x → length (line x) ≤ size) → (xs : List A) → AllByRecursion Fits xs → length (lines line xs) ≤ size * length xs
@@ -131,14 +142,16 @@ lines_size line Fits size h (x ∷ xs) f =
 pub text_within : (bytes : List ℕ) (ann : Ann) → IsText bytes ann → length bytes ≤ derivation_limit
 text_within bytes ann t =
     let slots = lines_size slot_line SlotFits 17 slot_size ann.slots t.slots in
-    let notes = lines_size note_line NoteFits 98 note_size ann.notes t.notes in
+    let v = t.version in
+    let notes = lines_size (note_line v) NoteFits 98 (note_size v) ann.notes t.notes in
     let few = t.within.0 in
     let nodes = t.within.1 in
     let a = number_size (length ann.slots) (omega (arith, few)) in
     let b = number_size (length ann.notes) (omega (arith, nodes)) in
-    let head : length (head_line (length ann.slots, length ann.notes)) ≤ 40
-    = both_sizes (codes "rcap-derivation 1 ") _ 18 22 (omega arith) (both_sizes (decimal (length ann.slots)) _ 10 12 a (both_sizes blank _ 1 11 (omega arith) (both_sizes (decimal (length ann.notes)) line_end 10 1 b (omega arith)))) in
-    let body = length-append (lines slot_line ann.slots) (lines note_line ann.notes) in
-    let whole = length-append (head_line (length ann.slots, length ann.notes)) (lines slot_line ann.slots ++ lines note_line ann.notes) in
+    let head : length (head_line v (length ann.slots, length ann.notes)) ≤ 40
+    = both_sizes (codes "rcap-derivation ") _ 16 24 (omega arith) (both_sizes (version_name v) _ 1 23 (version_size v) (both_sizes blank _ 1 22 (omega arith)
+    (both_sizes (decimal (length ann.slots)) _ 10 12 a (both_sizes blank _ 1 11 (omega arith) (both_sizes (decimal (length ann.notes)) line_end 10 1 b (omega arith)))))) in
+    let body = length-append (lines slot_line ann.slots) (lines (note_line v) ann.notes) in
+    let whole = length-append (head_line v (length ann.slots, length ann.notes)) (lines slot_line ann.slots ++ lines (note_line v) ann.notes) in
     let same = ap (λ (xs : List ℕ). length xs) t.same in
     omega (arith, slots, notes, few, nodes, head, body, whole, same)

@@ -28,4 +28,5 @@ mod Sent
 mod Statuses
 mod Swaps
 mod TwoFiles
+mod Upgrades
 mod Written

@@ -13,7 +13,9 @@ use Rattle.pc_rules.specs.Statements.{OneValid}
 use Rattle.pc_rules.specs.Valid.{NoRule, Unset}
 use Rattle.pc_check.specs.Laws.{NoneWithoutRule, NoneWithUnset, NoneWithFault, OneNode, OneConstructor, OneKindOfFault}
 use Rattle.pc_deriv.specs.Laws.{OneAnnotation, NoFaultOfText, OneFault as OneTextFault}
+use Rattle.pc_deriv.specs.Text.{deriv_text}
 use Rattle.pc_deriv.specs.declared.fault.DerivFault.{DerivFault}
+use Rattle.pc_deriv.specs.declared.version.Version.{Version}
 use Rattle.pc_gen.specs.Schedule.{schedule}
 use Rattle.pc_judge.specs.Faults.{OneFirst, NotValid}
 use Rattle.pc_judge.specs.declared.faults.JudgeFault.{JudgeFault}
@@ -28,7 +30,7 @@ use Rattle.pc_semantics.specs.Text.{end_of, run_text}
 use Rattle.pc_semantics.specs.declared.outcome.Outcome.{Outcome}
 use Rattle.pc_semantics.specs.declared.outcome.Outcome.TheVariants.{TooLong}
 use Rattle.pc_swap.specs.Laws.{KeptAreNotApart}
-use Rattle.pc_args.specs.Asked.{Text, Asked, check, judge, run, show, make, swap, trace, sends, command_of}
+use Rattle.pc_args.specs.Asked.{Text, Asked, check, judge, run, show, make, swap, trace, sends, upgrade, command_of}
 use Rattle.pc_top.specs.After.{IsOne}
 use Rattle.pc_top.specs.Accepting.{AcceptedStage, Typing}
 use Rattle.pc_top.specs.Accepting.Typing.{typed, declared, no_rule, unset}
@@ -56,6 +58,7 @@ use Rattle.pc_top.specs.Source.{Length, SourceStage, source_limit}
 use Rattle.pc_top.specs.Swap.{IsSwap, IsSwapAt, SwapScheduled, Swapped}
 use Rattle.pc_top.specs.Swap.IsSwap.{placed, no_number}
 use Rattle.pc_top.specs.Trace.{TraceScheduled, TracedSo}
+use Rattle.pc_top.specs.Upgrade.{Upgraded, upgraded}
 use Rattle.pc_top.specs.Verdict.{Verdict, done, headed, refused, stopped}
 use Rattle.pc_top.specs.declared.accepting.Accepted.{Accepted}
 use Rattle.pc_top.specs.declared.source.Source.{Source}
@@ -151,7 +154,7 @@ module _ (laws : Laws) where
   one_accepted name r = after_is_one (SourceStage name r) (Typing name) (one_source laws.source name r) (λ s h. one_typing name s (formed_of h))
 
   one_derived : (a : Accepted) (v w : Verdict) → Derived a v → Derived a w → v ≡ w
-  one_derived a v w (text, t, is) (other, u, was) = is ∙ (ap done (t.same ∙ sym u.same) ∙ sym was)
+  one_derived a v w (text, t, first, is) (other, u, also, was) = is ∙ (ap done (t.same ∙ (ap (λ (x : Version). deriv_text x a.ann) (first ∙ sym also) ∙ sym u.same)) ∙ sym was)
 
   -- ---- judge
 
@@ -172,6 +175,11 @@ module _ (laws : Laws) where
 
   one_judged : (source_name name : Text) (s : Source) (ann : Ann) → Formed s.core → (v w : Verdict) → Judged source_name name s ann v → Judged source_name name s ann w → v ≡ w
   one_judged source_name name s ann is v w (end, h, e) (other, k, f) = e ∙ (ap judged (one_judging source_name name s ann is end other h k) ∙ sym f)
+
+  -- ---- upgrade
+
+  one_upgraded : (source_name name : Text) (s : Source) (ann : Ann) → Formed s.core → (v w : Verdict) → Upgraded source_name name s ann v → Upgraded source_name name s ann w → v ≡ w
+  one_upgraded source_name name s ann is v w (end, h, e) (other, k, f) = e ∙ (ap (upgraded ann) (one_judging source_name name s ann is end other h k) ∙ sym f)
 
   -- ---- run
 
@@ -252,6 +260,11 @@ module _ (laws : Laws) where
         (λ d turns k. one_traced schedule x.source.core (spread turns))) v w a b
     one_of (Some (sends source)) v w t a b =
         one_from (named files source) source_limit (AcceptedStage source) Sent t.0 (unfailed source) (one_accepted source) (λ r x h. one_sent x) v w a b
+    one_of (Some (upgrade source derivation)) v w t a b =
+        let last = λ (s : Source). Upgraded source derivation s in
+        one_from (named files source) source_limit (SourceStage source) (λ s. FromFile (named files derivation) derivation_limit (DerivationStage derivation) (last s)) t.0 (unfailed source) (one_source laws.source source)
+        (λ r s h. one_from (named files derivation) derivation_limit (DerivationStage derivation) (last s) t.1.0 (unfailed derivation) (one_derivation derivation)
+        (λ d ann k. one_upgraded source derivation s ann (formed_of h))) v w a b
 
 pub verdict_one : Laws → VerdictIsOne
 verdict_one laws files words v w n t a b = one_of laws files n (command_of words) v w t a b

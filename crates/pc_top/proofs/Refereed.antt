@@ -2,7 +2,7 @@
 use Rattle.std.proofs.Common.{◌≡◌, ℕ, Option, Some, None, Ok, Err, refl, sym, subst, ◌∙◌, inl, inr, arith}
 use Rattle.std.specs.Prelude.{Result}
 use Rattle.pc_referee.specs.Asked.{Pairs}
-use Rattle.pc_args.specs.Asked.{Text, Asked, check, judge, make, run, sends, show, swap, trace}
+use Rattle.pc_args.specs.Asked.{Text, Asked, check, judge, make, run, sends, show, swap, trace, upgrade}
 use Rattle.pc_io.specs.Change.{Change}
 use Rattle.pc_top.specs.Answer.{Finishes, LineEnds, StopFinishes}
 use Rattle.pc_top.specs.Referee.{Asks, AsksSo, JudgeAsks, JudgedAll, NotDone}
@@ -25,6 +25,7 @@ asks_no_memory told (Some (make seed size)) a = refl
 asks_no_memory told (Some (swap source schedule place)) a = refl
 asks_no_memory told (Some (trace source schedule)) a = refl
 asks_no_memory told (Some (sends source)) a = refl
+asks_no_memory told (Some (upgrade source derivation)) a = refl
 
 -- ---- a command that is not done has another status
 
@@ -53,3 +54,4 @@ asks_answer told (Some (make seed size)) a b err status r h f = h
 asks_answer told (Some (swap source schedule place)) a b err status r h f = h
 asks_answer told (Some (trace source schedule)) a b err status r h f = h
 asks_answer told (Some (sends source)) a b err status r h f = h
+asks_answer told (Some (upgrade source derivation)) a b err status r h f = h

@@ -6,7 +6,7 @@ use Rattle.pc_check.specs.Laws.{NoneWithoutRule, NoneWithUnset, NoneWithFault}
 use Rattle.pc_core.specs.CoreData.{CoreData}
 use Rattle.pc_core.specs.Formed.{Formed}
 use Rattle.pc_rules.specs.Valid.{Derivable}
-use Rattle.pc_args.specs.Asked.{Text, Asked, check, judge, run, show, make, swap, trace, sends, command_of}
+use Rattle.pc_args.specs.Asked.{Text, Asked, check, judge, run, show, make, swap, trace, sends, upgrade, command_of}
 use Rattle.pc_top.specs.After.After.{stops, goes}
 use Rattle.pc_top.specs.Accepting.{AcceptedStage, Typing}
 use Rattle.pc_top.specs.Accepting.Typing.{declared, no_rule, unset}
@@ -33,6 +33,7 @@ use Rattle.pc_top.specs.Swap.IsSwap.{placed, no_number}
 use Rattle.pc_top.specs.Swap.Swapping.{tells, no_place, too_long}
 use Rattle.pc_top.specs.Trace.{TraceScheduled, Tracing, traced}
 use Rattle.pc_top.specs.Trace.Tracing.{tells as traced_text, too_long as traced_long, too_many}
+use Rattle.pc_top.specs.Upgrade.{IsUpgrade, upgraded}
 use Rattle.pc_top.specs.Verdict.{Verdict}
 use Rattle.pc_top.specs.declared.accepting.Accepted.{Accepted}
 use Rattle.pc_top.specs.declared.source.Source.{Source}
@@ -54,7 +55,7 @@ ran_not_one (whole h) e = omega arith
 ran_not_one (cut n h) e = omega arith
 
 pub derived_not_one : (a : Accepted) (v : Verdict) → Derived a v → v.status ≡ 1 → ⊥
-derived_not_one a v d e = let zero : v.status ≡ 0 = ap (λ (w : Verdict). w.status) d.2 in omega (arith, zero, e)
+derived_not_one a v d e = let zero : v.status ≡ 0 = ap (λ (w : Verdict). w.status) d.3 in omega (arith, zero, e)
 
 pub sent_not_one : (a : Accepted) (v : Verdict) → Sent a v → v.status ≡ 1 → ⊥
 sent_not_one a v s e = let zero : v.status ≡ 0 = ap (λ (w : Verdict). w.status) s.2 in omega (arith, zero, e)
@@ -88,6 +89,15 @@ judge_not_one : (source derivation : Named) (v : Verdict) → IsJudge source der
 judge_not_one source derivation v (refuses r g h) e = other_not_one v.status (source_other h) e
 judge_not_one source derivation v (goes_on r s g h (refuses d i k)) e = other_not_one v.status (derivation_other k) e
 judge_not_one source derivation v (goes_on r s g h (goes_on d ann i k l)) e = judging_not_one l.1 (ap (λ (w : Verdict). w.status) (sym l.2) ∙ e)
+
+upgrading_not_one : {source_name name : Text} {s : Source} {ann : Ann} {end : Result (Unit {0}) Verdict} → Judging source_name name s ann end → (upgraded ann end).status ≡ 1 → ⊥
+upgrading_not_one (holds v) e = omega arith
+upgrading_not_one (fails f g) e = omega arith
+
+upgrade_not_one : (source derivation : Named) (v : Verdict) → IsUpgrade source derivation v → v.status ≡ 1 → ⊥
+upgrade_not_one source derivation v (refuses r g h) e = other_not_one v.status (source_other h) e
+upgrade_not_one source derivation v (goes_on r s g h (refuses d i k)) e = other_not_one v.status (derivation_other k) e
+upgrade_not_one source derivation v (goes_on r s g h (goes_on d ann i k l)) e = upgrading_not_one l.1 (ap (λ (w : Verdict). w.status) (sym l.2) ∙ e)
 
 show_not_one : (source : Named) (v : Verdict) → IsShow source v → v.status ≡ 1 → ⊥
 show_not_one source v (refuses r g h) e = other_not_one v.status (file_other h) e
@@ -132,6 +142,7 @@ module _ (formed : CoresAreFormed) (ruleless : NoneWithoutRule) (setless : NoneW
   verdict_refuses files (Some (swap source schedule place)) v is e = (refl, swap_underivable (named files source) (named files schedule) place v is e)
   verdict_refuses files (Some (trace source schedule)) v is e = (refl, underivable (named files source) (TraceScheduled (named files schedule)) v (λ a l. trace_not_one (named files schedule) a v l) is e)
   verdict_refuses files (Some (sends source)) v is e = (refl, underivable (named files source) Sent v (λ a l. sent_not_one a v l) is e)
+  verdict_refuses files (Some (upgrade source derivation)) v is e = absurd (upgrade_not_one (named files source) (named files derivation) v is e)
 
   pub refused_underivable : RefusedIsUnderivable
   refused_underivable files words v is e = verdict_refuses files (command_of words) v is e

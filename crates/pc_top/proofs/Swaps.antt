@@ -7,7 +7,7 @@ use Rattle.pc_io.specs.Change.{Change}
 use Rattle.pc_run.specs.Spreading.{spread}
 use Rattle.pc_sched.specs.Limits.{schedule_limit}
 use Rattle.pc_sched.specs.declared.turns.Turn.{Turn}
-use Rattle.pc_args.specs.Asked.{Text, Asked, check, judge, run, show, make, swap, trace, sends, command_of}
+use Rattle.pc_args.specs.Asked.{Text, Asked, check, judge, run, show, make, swap, trace, sends, upgrade, command_of}
 use Rattle.pc_top.specs.Accepting.{AcceptedStage}
 use Rattle.pc_top.specs.Answer.{Answer}
 use Rattle.pc_top.specs.Answer.Answer.{told as answer_told, file as answer_file, out_failed, err_failed, file_err_failed, no_memory}
@@ -121,6 +121,7 @@ verdict_swaps files (Some (make seed size)) v out is e o = tt
 verdict_swaps files (Some (swap source schedule place)) v out is e o = swap_done (named files source) (named files schedule) place v out is e o
 verdict_swaps files (Some (trace source schedule)) v out is e o = tt
 verdict_swaps files (Some (sends source)) v out is e o = tt
+verdict_swaps files (Some (upgrade source derivation)) v out is e o = tt
 
 pub answer_swaps : (files : Files) (words : List Text) (out err : Change) (status : ℕ) → Answer (IsVerdict files words) (FailedIn files words) out err status → status ≡ 0 → Swaps files.told words out
 answer_swaps files words out err status (answer_told v is s o l) e = verdict_swaps files (command_of words) v out is (sym s ∙ e) o

@@ -5,6 +5,8 @@ use Rattle.std.specs.Io.KnownBytes.{Appends}
 use Rattle.pc_ann.specs.declared.annotation.Ann.{Ann}
 use Rattle.pc_core.specs.CoreData.{CoreData}
 use Rattle.pc_deriv.specs.Faults.{IsText}
+use Rattle.pc_deriv.specs.Text.{deriv_text}
+use Rattle.pc_deriv.specs.declared.version.Version.TheVariants as version
 use Rattle.pc_gen.specs.Numbers.{IsSeed, IsSize}
 use Rattle.pc_grammar.specs.FileAnswers.{IsFileAnswer, spelled}
 use Rattle.pc_lex.specs.Answers.{TokenList}
@@ -15,7 +17,7 @@ use Rattle.pc_run.specs.Spreading.{spread}
 use Rattle.pc_sched.specs.Limits.{schedule_limit}
 use Rattle.pc_sched.specs.declared.turns.Turn.{Turn}
 use Rattle.pc_semantics.specs.Text.{run_text}
-use Rattle.pc_args.specs.Asked.{Text, Asked, check, judge, run, show, make, swap, trace, sends, command_of}
+use Rattle.pc_args.specs.Asked.{Text, Asked, check, judge, run, show, make, swap, trace, sends, upgrade, command_of}
 use Rattle.pc_top.specs.Accepting.{AcceptedStage}
 use Rattle.pc_top.specs.After.After.{goes}
 use Rattle.pc_top.specs.Answer.{Answer}
@@ -52,6 +54,7 @@ use Rattle.pc_top.proofs.Sent.{sends_on_out}
 use Rattle.pc_top.proofs.Statuses.{accepted_refuses, derivation_other, file_other, other_refuses, schedule_other, six_refuses, source_other}
 use Rattle.pc_top.proofs.Swaps.{swap_on_out}
 use Rattle.pc_top.proofs.Accesses.{trace_on_out}
+use Rattle.pc_top.proofs.Upgrades.{upgrade_on_out}
 
 -- ---- check
 
@@ -60,8 +63,8 @@ check_on_out file v out is e o =
     let p = passed file source_limit (AcceptedStage file.name) Derived v (λ r h. accepted_refuses h e) is in
     let s = accepted_source p.3 in
     let text : Text = p.4.0 in
-    let grew : Appends out.before out.now text = subst (λ (w : Verdict). Appends out.before out.now w.out) p.4.2 o in
-    of_told (WritesDerivation out) file.told p.1.source.bytes (p.1.source.core, (source_says s.0).1, p.1.ann, s.1, text, p.4.1, grew)
+    let grew : Appends out.before out.now text = subst (λ (w : Verdict). Appends out.before out.now w.out) p.4.3 o in
+    of_told (WritesDerivation out) file.told p.1.source.bytes (p.1.source.core, (source_says s.0).1, p.1.ann, s.1, text, p.4.1, p.4.2, grew)
     (source_whole file p.0 p.1.source p.2 s.0).1
 
 -- ---- judge
@@ -146,6 +149,7 @@ verdict_writes tells files (Some (make seed size)) v out is e o = make_on_out se
 verdict_writes tells files (Some (swap source schedule place)) v out is e o = swap_on_out (named files source) (named files schedule) place v out is e o
 verdict_writes tells files (Some (trace source schedule)) v out is e o = trace_on_out (named files source) (named files schedule) v out is e o
 verdict_writes tells files (Some (sends source)) v out is e o = sends_on_out tells (named files source) v out is e o
+verdict_writes tells files (Some (upgrade source derivation)) v out is e o = upgrade_on_out (named files source) (named files derivation) v out is e o
 
 pub answer_writes : TablesTell → (files : Files) (words : List Text) (out err : Change) (status : ℕ)
     → Answer (IsVerdict files words) (FailedIn files words) out err status → IsAccepting status → OnOut files.told words out
@@ -167,7 +171,7 @@ source_accepted files later source derivation text same given is =
     let read = source_whole (named files source) p.0 p.1.source p.2 s.0 in
     let again : IsReadingOf (named later source) source_limit (whole p.1.source.bytes) = told_same source_limit (files.told source) (later.told source) p.1.source.bytes same read in
     let passes : SourceStage source (whole p.1.source.bytes) (Ok p.1.source) = subst (λ (q : Reading). SourceStage source q (Ok p.1.source)) (source_says s.0).0 s.0 in
-    let is_text = subst (λ (t : Text). IsText t p.1.ann) (sym (out_same text p.4.0 p.4.2)) p.4.1 in
+    let is_text = subst (λ (t : Text). IsText t p.1.ann) (sym (out_same text p.4.0 p.4.3)) p.4.1 in
     let short = text_within text p.1.ann is_text in
     goes_on (whole p.1.source.bytes) p.1.source again passes
     (goes_on (whole text) p.1.ann (told_same derivation_limit (Some text) (later.told derivation) text given (short, refl)) (goes (fits short) (reads is_text))

@@ -1,7 +1,7 @@
 -- The verdict on the words of a command line.
 use Rattle.std.specs.Prelude.{ℕ, ◌≡◌, Option, Some, None, List, IfSome, IsTrue}
 use Rattle.pc_gen.specs.Numbers.{IsSeed, IsSize}
-use Rattle.pc_args.specs.Asked.{Text, Asked, check, judge, run, show, make, swap, trace, sends, command_of}
+use Rattle.pc_args.specs.Asked.{Text, Asked, check, judge, run, show, make, swap, trace, sends, upgrade, command_of}
 use Rattle.pc_top.specs.Check.{IsCheck}
 use Rattle.pc_top.specs.Commands.{files_of, infers}
 use Rattle.pc_top.specs.CoreOf.{IsDerivable, IsUnderivable, HasSafeCore}
@@ -14,6 +14,7 @@ use Rattle.pc_top.specs.Sends.{IsSends}
 use Rattle.pc_top.specs.Show.{IsShow}
 use Rattle.pc_top.specs.Swap.{IsSwap}
 use Rattle.pc_top.specs.Trace.{IsTrace}
+use Rattle.pc_top.specs.Upgrade.{IsUpgrade}
 use Rattle.pc_top.specs.Verdict.{Verdict, refused}
 
 -- Words that the command line does not take are refused with status 2.
@@ -27,6 +28,7 @@ IsVerdictOf files (Some (make seed size)) v = IsMake seed size v
 IsVerdictOf files (Some (swap source schedule place)) v = IsSwap (named files source) (named files schedule) place v
 IsVerdictOf files (Some (trace source schedule)) v = IsTrace (named files source) (named files schedule) v
 IsVerdictOf files (Some (sends source)) v = IsSends (named files source) v
+IsVerdictOf files (Some (upgrade source derivation)) v = IsUpgrade (named files source) (named files derivation) v
 
 -- The verdict on the words: a status, a text on out and a line on err.
 abbrev pub IsVerdict : Files → List Text → Verdict → Type 0
@@ -58,6 +60,7 @@ OfSource Holds told (Some (make seed size)) = OfMade Holds seed size
 OfSource Holds told (Some (swap source schedule place)) = IfSome (told source) Holds
 OfSource Holds told (Some (trace source schedule)) = IfSome (told source) Holds
 OfSource Holds told (Some (sends source)) = IfSome (told source) Holds
+OfSource Holds told (Some (upgrade source derivation)) = IfSome (told source) Holds
 
 -- It has a core with a derivation.
 abbrev pub Accepts : (Text → Option Text) → List Text → Type 0

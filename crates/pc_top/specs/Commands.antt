@@ -1,6 +1,6 @@
 -- What each command reads.
 use Rattle.std.specs.Prelude.{Bool, true, false, List, [], ◌∷◌, Option, Some, None}
-use Rattle.pc_args.specs.Asked.{Text, Asked, check, judge, make, run, sends, show, swap, trace}
+use Rattle.pc_args.specs.Asked.{Text, Asked, check, judge, make, run, sends, show, swap, trace, upgrade}
 
 -- The files that a command reads, in this order.
 abbrev pub files_of : Asked → List Text
@@ -12,6 +12,7 @@ files_of (make seed size) = []
 files_of (swap source schedule place) = source ∷ schedule ∷ []
 files_of (trace source schedule) = source ∷ schedule ∷ []
 files_of (sends source) = source ∷ []
+files_of (upgrade source derivation) = source ∷ derivation ∷ []
 
 -- The file among them whose core has to have a derivation, where there is one. The program of `make` stands in none.
 abbrev pub source_of : Asked → Option Text
@@ -23,6 +24,7 @@ source_of (make seed size) = None
 source_of (swap source schedule place) = Some source
 source_of (trace source schedule) = Some source
 source_of (sends source) = Some source
+source_of (upgrade source derivation) = Some source
 
 -- Whether the command looks for that derivation itself.
 abbrev pub infers : Asked → Bool
@@ -34,3 +36,4 @@ infers (make seed size) = true
 infers (swap source schedule place) = true
 infers (trace source schedule) = true
 infers (sends source) = true
+infers (upgrade source derivation) = false

@@ -1,7 +1,7 @@
 -- What the statuses 0 and 1 say of a source, exactly.
 use Rattle.std.specs.Prelude.{ℕ, ◌≡◌, ◌↔◌, Some, List, IsTrue}
 use Rattle.pc_gen.specs.Numbers.{IsSeed, IsSize}
-use Rattle.pc_args.specs.Asked.{Text, Asked, check, judge, run, show, make, swap, trace, sends, command_of}
+use Rattle.pc_args.specs.Asked.{Text, Asked, check, judge, run, show, make, swap, trace, sends, upgrade, command_of}
 use Rattle.pc_top.specs.Asked.{IsVerdict}
 use Rattle.pc_top.specs.Commands.{infers, source_of}
 use Rattle.pc_top.specs.CoreOf.{IsDerivable, IsUnderivable}
@@ -20,6 +20,7 @@ HasNumber (make seed size) = Unit {0}
 HasNumber (swap source schedule place) = (n : ℕ) × IsPlace place n
 HasNumber (trace source schedule) = Unit {0}
 HasNumber (sends source) = Unit {0}
+HasNumber (upgrade source derivation) = Unit {0}
 
 -- The words ask for this, and this verdict is theirs. The source of the command tells these bytes, and no reading of it failed.
 pub record ReadsSource (files : Files) (words : List Text) (asked : Asked) (source bytes : Text) (v : Verdict) : Type 0 where

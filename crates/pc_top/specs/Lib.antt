@@ -31,4 +31,5 @@ pub mod Source
 pub mod Stages
 pub mod Swap
 pub mod Trace
+pub mod Upgrade
 pub mod Verdict

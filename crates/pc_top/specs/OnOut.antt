@@ -20,7 +20,9 @@ use Rattle.pc_sends.specs.Tables.{IsTable}
 use Rattle.pc_sends.specs.declared.table.Table.{Table}
 use Rattle.pc_trace.specs.declared.touch.Touch.{Touch}
 use Rattle.pc_deriv.specs.Faults.{IsText}
-use Rattle.pc_args.specs.Asked.{Text, Asked, check, judge, run, show, make, swap, trace, sends, command_of}
+use Rattle.pc_deriv.specs.Text.{deriv_text}
+use Rattle.pc_deriv.specs.declared.version.Version.TheVariants as version
+use Rattle.pc_args.specs.Asked.{Text, Asked, check, judge, run, show, make, swap, trace, sends, upgrade, command_of}
 use Rattle.pc_top.specs.Asked.{IsVerdict}
 use Rattle.pc_top.specs.CoreOf.{CoreOf}
 use Rattle.pc_io.specs.Change.{Change}
@@ -33,10 +35,10 @@ use Rattle.pc_top.specs.Swap.{IsPlace, Neighbours, StandAt, SwapText}
 use Rattle.pc_top.specs.Trace.{Traced, trace_text}
 use Rattle.pc_top.specs.Verdict.{done}
 
--- Out grew by the text of a valid annotation of the source's core.
+-- Out grew by the text in version 1 of a valid annotation of the source's core.
 abbrev pub WritesDerivation : Change → Text → Type 0
 WritesDerivation out bytes =
-    (core : CoreData) × CoreOf bytes core × (ann : Ann) × Valid core ann × (text : Text) × IsText text ann × Appends out.before out.now text
+    (core : CoreData) × CoreOf bytes core × (ann : Ann) × Valid core ann × (text : Text) × (is : IsText text ann) × (is.version ≡ version.One) × Appends out.before out.now text
 
 -- Out grew by the text of the run of the source's core by the schedule.
 abbrev pub WritesRun : Change → Text → Text → Type 0
@@ -75,6 +77,12 @@ WritesSends out bytes =
     (core : CoreData) × CoreOf bytes core × (ann : Ann) × Valid core ann × (table : Table) × IsTable core (entities ann) table
     × Appends out.before out.now (table_text core table) × NamesAreThere core table × TellsEveryRun core table
 
+-- Out grew by the text in version 2 of the annotation of which the derivation is a text, in either version. It is valid for the
+-- source's core.
+abbrev pub WritesUpgraded : Change → Text → Text → Type 0
+WritesUpgraded out source derivation =
+    (core : CoreData) × CoreOf source core × (ann : Ann) × Valid core ann × IsText derivation ann × Appends out.before out.now (deriv_text version.Two ann)
+
 abbrev pub OnOutOf : (Text → Option Text) → Option Asked → Change → Type 0
 OnOutOf told None out = ⊥
 OnOutOf told (Some (check source)) out = IfSome (told source) (WritesDerivation out)
@@ -87,12 +95,13 @@ OnOutOf told (Some (swap source schedule place)) out =
 OnOutOf told (Some (trace source schedule)) out =
     IfSome (told source) (λ bytes. IfSome (told schedule) (λ text. WritesTrace out bytes text ⊎ Appends out.before out.now []))
 OnOutOf told (Some (sends source)) out = IfSome (told source) (WritesSends out)
+OnOutOf told (Some (upgrade source derivation)) out = IfSome (told source) (λ bytes. IfSome (told derivation) (WritesUpgraded out bytes))
 
 -- What the command of the words writes: the source's derivation, `accepted`, the text of the run or the printed tree, where
 -- the files that say it are told; or the numbers of the program that it makes, and the text of its run; or the schedule with two
 -- turns exchanged or why they stay, and nothing where a step before them would make a text that is too long; or the accesses
 -- of the run with their clocks, and nothing where a step would make a text that is too long; or the lines of who sends what, which
--- are true of every run.
+-- are true of every run; or a derivation in version 2 of its text.
 abbrev pub OnOut : (Text → Option Text) → List Text → Change → Type 0
 OnOut told words out = OnOutOf told (command_of words) out
 
@@ -109,6 +118,7 @@ SwapsOf told (Some (swap source schedule place)) out =
     IfSome (told source) (λ bytes. IfSome (told schedule) (λ text. (n : ℕ) × IsPlace place n × WritesSwap out bytes text n))
 SwapsOf told (Some (trace source schedule)) out = Unit {0}
 SwapsOf told (Some (sends source)) out = Unit {0}
+SwapsOf told (Some (upgrade source derivation)) out = Unit {0}
 
 abbrev pub Swaps : (Text → Option Text) → List Text → Change → Type 0
 Swaps told words out = SwapsOf told (command_of words) out
@@ -124,6 +134,7 @@ TracesOf told (Some (make seed size)) out = Unit {0}
 TracesOf told (Some (swap source schedule place)) out = Unit {0}
 TracesOf told (Some (trace source schedule)) out = IfSome (told source) (λ bytes. IfSome (told schedule) (WritesTrace out bytes))
 TracesOf told (Some (sends source)) out = Unit {0}
+TracesOf told (Some (upgrade source derivation)) out = Unit {0}
 
 abbrev pub Traces : (Text → Option Text) → List Text → Change → Type 0
 Traces told words out = TracesOf told (command_of words) out

@@ -6,7 +6,7 @@ use Rattle.pc_rules.specs.Valid.{Valid}
 use Rattle.pc_deriv.specs.Faults.{IsText}
 use Rattle.pc_referee.specs.Asked.{Pairs}
 use Rattle.pc_feed.specs.Asked.{numbered}
-use Rattle.pc_args.specs.Asked.{Text, Asked, check, judge, run, show, make, swap, trace, sends}
+use Rattle.pc_args.specs.Asked.{Text, Asked, check, judge, run, show, make, swap, trace, sends, upgrade}
 use Rattle.pc_top.specs.CoreOf.{CoreOf}
 use Rattle.pc_top.specs.declared.stop.Stop.{Stop}
 use Rattle.pc_top.specs.declared.stop.Stop.TheVariants.{Refused, File, Sink, Memory}
@@ -59,6 +59,7 @@ AsksSo told (Some (make seed size)) before after result = after ≡ before
 AsksSo told (Some (swap source schedule place)) before after result = after ≡ before
 AsksSo told (Some (trace source schedule)) before after result = after ≡ before
 AsksSo told (Some (sends source)) before after result = after ≡ before
+AsksSo told (Some (upgrade source derivation)) before after result = after ≡ before
 
 -- Where `judge` answers 0, the referee was asked of each node of the source's core, in order, with its note in the
 -- derivation. No other command asks it.
@@ -72,3 +73,4 @@ Asks told (Some (make seed size)) status before after = after ≡ before
 Asks told (Some (swap source schedule place)) status before after = after ≡ before
 Asks told (Some (trace source schedule)) status before after = after ≡ before
 Asks told (Some (sends source)) status before after = after ≡ before
+Asks told (Some (upgrade source derivation)) status before after = after ≡ before

@@ -22,10 +22,10 @@ use pc_referee::Referee;
 use std::alloc::{AllocError, Global};
 
 /// How many bytes a derivation may have.
-const DERIVATION_LIMIT: u32 = 33_554_432;
+pub const DERIVATION_LIMIT: u32 = 33_554_432;
 
-// The line of the first fault of a derivation of this name.
-fn make_fault_line(
+/// The line of the first fault of a derivation of this name.
+pub fn make_fault_line(
     alloc: Global,
     source_name: &str,
     name: &str,
@@ -59,8 +59,8 @@ fn refused(status: u8, line: Result<Bytes, AllocError>) -> Stop
     }
 }
 
-// The refusal of bytes that are no derivation's text.
-fn refuse_text(alloc: Global, name: &str, fault: LineFault) -> Stop
+/// The refusal of bytes that are no derivation's text.
+pub fn refuse_text(alloc: Global, name: &str, fault: LineFault) -> Stop
     ensures { IsRefusal (text_status (as_read fault)) (text_line name.now (as_read fault)) result }
 {
     match fault {

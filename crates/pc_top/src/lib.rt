@@ -35,6 +35,7 @@ mod top;
 mod traced_lines;
 mod tracing;
 mod tree;
+mod upgrade;
 mod words;
 mod writing;
 

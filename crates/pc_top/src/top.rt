@@ -24,6 +24,7 @@ use crate::show::run_show;
 use crate::stop::Stop;
 use crate::swapping::run_swap;
 use crate::tracing::run_trace;
+use crate::upgrade::run_upgrade;
 use crate::words::refuse_words;
 use pc_args::{Command, WordsFault, read_words};
 use pc_io::{Files, Sink};
@@ -70,8 +71,8 @@ pub fn rcap<F: Files, O: Sink, E: Sink, R: Referee>(
     ensures refused { result ≡ 1 → HasNoDerivation (F.bytes files.old) (texts words.now) }
 
     // The derivation of the source, `accepted`, the text of the run, the printed tree, the made program's numbers and the
-    // text of its run, the exchanged schedule, the accesses of the run, or the lines of who sends what are on out. What those
-    // lines say is true of every run: over every list of actors, of every length, what an actor is about to send has its
+    // text of its run, the exchanged schedule, the accesses of the run, the lines of who sends what, or a valid derivation in
+    // version 2 of its text are on out. What the lines of who sends what say is true of every run: over every list of actors, of every length, what an actor is about to send has its
     // line, and no message of a method that is told as never sent waits anywhere.
     ensures writes { IsAccepting result → OnOut (F.bytes files.old) (texts words.now)
         (change (O.written out.old) (O.written out.new) (O.faults out.old) (O.faults out.new)) }
@@ -136,6 +137,9 @@ fn run_words<F: Files, O: Sink, R: Referee>(
             run_trace(alloc, files, out, source, schedule)
         }
         Ok(Command::Sends { source }) => run_sends(alloc, files, out, source),
+        Ok(Command::Upgrade { source, derivation }) => {
+            run_upgrade(alloc, files, out, source, derivation)
+        }
         Err(WordsFault::Refused) => Err(refuse_words(alloc)),
         Err(WordsFault::Memory) => Err(Stop::Memory),
     }

@@ -5,7 +5,7 @@ use Rattle.pc_top.specs.Check.{Derived}
 use Rattle.pc_io.specs.Change.{change}
 use Rattle.pc_top.specs.Named.{FailedAt, file_at}
 use Rattle.pc_top.specs.Source.{source_limit}
-use Rattle.pc_top.proofs.Deriving.{accepted_source, small_notes, source_formed}
+use Rattle.pc_top.proofs.Deriving.{accepted_source, first, small_notes, source_formed}
 use Rattle.pc_top.proofs.Parts.{part_goes_on, part_stops, text_ends}
 use Rattle.pc_top.proofs.check.run_check.Goals as goal
 
@@ -23,7 +23,8 @@ write-requires g c =
 
 pub returns-clause-ends : goal.returns-clause-ends
 returns-clause-ends g c =
+    let one = first c.in_ok-accepted.accepted.ann c.in_ok-text.text c.in_ok-text.ensures.read_back c.in_ok-text.ensures.text in
     let out = change (g.O.Sink.written c.args.out.now) (g.O.Sink.written c.put_text.new.out) (g.O.Sink.faults c.args.out.now) (g.O.Sink.faults c.put_text.new.out) in
     let file = file_at (g.F.Files.bytes c.args.files.now) (g.F.Files.faults c.args.files.now) (g.F.Files.faults c.accept_source.new.files) (g.F.Files.taken c.accept_source.new.files) c.args.source.now in
     part_goes_on source_limit (AcceptedStage c.args.source.now) Derived _ (FailedAt file) file out c.in_ok-accepted.accepted _ (λ n f. inl f) c.in_ok-accepted.ensures.stage
-    (text_ends (Derived c.in_ok-accepted.accepted) (FailedAt file) out c.as_slice.result.now _ (rw c.as_slice.ensures (c.in_ok-text.text, c.in_ok-text.ensures.read_back, refl)) c.put_text.ensures.wrote)
+    (text_ends (Derived c.in_ok-accepted.accepted) (FailedAt file) out c.as_slice.result.now _ (rw c.as_slice.ensures (c.in_ok-text.text, one.0, one.1, refl)) c.put_text.ensures.wrote)

@@ -1,5 +1,5 @@
 use Rattle.std.proofs.Common.{inl, refl}
-use Rattle.pc_args.specs.Asked.{check, command_of, judge, make, run, sends, show, swap, trace, texts}
+use Rattle.pc_args.specs.Asked.{check, command_of, judge, make, run, sends, show, swap, trace, upgrade, texts}
 use Rattle.pc_args.proofs.Refusals.{asks_nothing}
 use Rattle.pc_top.specs.Named.{files_change}
 use Rattle.pc_top.proofs.Answers.{words_refused, words_end}
@@ -47,6 +47,11 @@ returns-in-Ok-Sends-clause-ends g c =
     let files = files_change (g.F.Files.bytes c.args.files.now) (g.F.Files.faults c.args.files.now) (g.F.Files.faults c.run_sends.new.files) (g.F.Files.taken c.run_sends.new.files) in
     words_end files (texts c.args.words.now) (sends c.in-Ok-Sends.source.now) _ _ (rw c.in-Ok-Sends.field-0-is at c.in-Ok-Sends.ensures) c.run_sends.ensures.ends
 
+pub returns-in-Ok-Upgrade-clause-ends : goal.returns-in-Ok-Upgrade-clause-ends
+returns-in-Ok-Upgrade-clause-ends g c =
+    let files = files_change (g.F.Files.bytes c.args.files.now) (g.F.Files.faults c.args.files.now) (g.F.Files.faults c.run_upgrade.new.files) (g.F.Files.taken c.run_upgrade.new.files) in
+    words_end files (texts c.args.words.now) (upgrade c.in-Ok-Upgrade.source.now c.in-Ok-Upgrade.derivation.now) _ _ (rw c.in-Ok-Upgrade.field-0-is at c.in-Ok-Upgrade.ensures) c.run_upgrade.ensures.ends
+
 pub returns-in-Err-Refused-clause-ends : goal.returns-in-Err-Refused-clause-ends
 returns-in-Err-Refused-clause-ends g c =
     let files = files_change (g.F.Files.bytes c.args.files.now) (g.F.Files.faults c.args.files.now) (g.F.Files.faults c.args.files.now) (g.F.Files.taken c.args.files.now) in
@@ -82,6 +87,10 @@ returns-in-Ok-Trace-clause-asks g c =
 pub returns-in-Ok-Sends-clause-asks : goal.returns-in-Ok-Sends-clause-asks
 returns-in-Ok-Sends-clause-asks g c =
     asks_end (g.F.Files.bytes c.args.files.now) (sends c.in-Ok-Sends.source.now) (command_of (texts c.args.words.now)) (g.R.Referee.asked c.args.referee.now) (g.R.Referee.asked c.args.referee.now) c.run_sends.result (rw c.in-Ok-Sends.field-0-is at c.in-Ok-Sends.ensures) refl
+
+pub returns-in-Ok-Upgrade-clause-asks : goal.returns-in-Ok-Upgrade-clause-asks
+returns-in-Ok-Upgrade-clause-asks g c =
+    asks_end (g.F.Files.bytes c.args.files.now) (upgrade c.in-Ok-Upgrade.source.now c.in-Ok-Upgrade.derivation.now) (command_of (texts c.args.words.now)) (g.R.Referee.asked c.args.referee.now) (g.R.Referee.asked c.args.referee.now) c.run_upgrade.result (rw c.in-Ok-Upgrade.field-0-is at c.in-Ok-Upgrade.ensures) refl
 
 pub returns-in-Ok-Judge-clause-asks : goal.returns-in-Ok-Judge-clause-asks
 returns-in-Ok-Judge-clause-asks g c =
