@@ -218,6 +218,13 @@ def longest_lines(part):
     yield from shapes.lines(nodes, "n callrecover 4294967295 iso^" + " ffffffffffffffff" * 4)
 
 
+@derivation("the same lines in version 2", NOT_VALID)
+def longest_lines_of_version_2(part):
+    head, *rest = longest_lines(part)
+    yield head.replace("rcap-derivation 1 ", "rcap-derivation 2 ")
+    yield from rest
+
+
 @derivation("640,000 slots, and then a bad line", BAD_LINE)
 def bad_last_line(part):
     slots = int(part * 640_000)

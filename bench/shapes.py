@@ -358,6 +358,110 @@ def chain_of_new_methods(part):
     yield from main_with(["0"])
 
 
+# Bodies of traits, which stand in the core once for each entity that takes them over.
+
+
+@shape("nodes: a body of 190 numbers that 998 classes take over")
+def body_of_many_classes(part):
+    yield "trait T\n  fun m() =>\n"
+    yield from lines(190, "    0")
+    yield from (f"class E{n} is T\n" for n in numbered(part, 998))
+    yield from main_with(["0"])
+
+
+@shape("a body of 190,000 numbers that 998 classes would take over", LIMIT)
+def long_body_of_many_classes(part):
+    yield "trait T\n  fun m() =>\n"
+    yield from lines(int(part * 190_000), "0")
+    yield from (f"class E{n} is T\n" for n in range(998))
+    yield from main_with(["0"])
+
+
+@shape("a body of 190 texts of 4,096 bytes that 998 classes take over")
+def texts_of_many_classes(part):
+    yield "trait T\n  fun m() =>\n"
+    yield from lines(190, f'"{"a" * int(part * 4_096)}"')
+    yield from (f"class E{n} is T\n" for n in range(998))
+    yield from main_with(["0"])
+
+
+@shape("slots: a body of 62 locals that 998 classes take over")
+def locals_of_many_classes(part):
+    items = "".join(f"    var a{n}: U64 = 0\n" for n in range(62))
+    yield f"trait T\n  fun m() =>\n{items}"
+    yield from (f"class E{n} is T\n" for n in numbered(part, 998))
+    yield from main_with(["0"])
+
+
+@shape("methods: 100 classes that take over the 98 methods of a trait")
+def classes_that_take_over(part):
+    yield "trait T\n"
+    yield from (f"  fun m{n}() => 0\n" for n in range(98))
+    yield from (f"class E{n} is T\n" for n in numbered(part, 100))
+    yield from main_with(["0"])
+
+
+@shape("102 classes that would take over the 98 methods of a trait", LIMIT)
+def classes_that_take_over_too_many(part):
+    yield "trait T\n"
+    yield from (f"  fun m{n}() => 0\n" for n in range(98))
+    yield from (f"class E{n} is T\n" for n in range(102))
+    yield from main_with(lines(int(part * 190_000), "0"))
+
+
+@shape("methods: a class with the 4,998 bodies of its trait")
+def bodies_of_a_trait(part):
+    yield "trait T\n"
+    yield from (f"  fun m{n}() => 0\n" for n in numbered(part, 4_998))
+    yield "class C is T\n"
+    yield from main_with(["0"])
+
+
+@shape("a class with the bodies of 499 traits, ten of each")
+def bodies_of_many_traits(part):
+    count = int(part * 499)
+    for n in range(count):
+        yield f"trait T{n}\n"
+        yield from (f"  fun m{n}x{k}() => 0\n" for k in range(10))
+    yield f"class C is ({' & '.join(f'T{n}' for n in range(count))})\n"
+    yield from main_with(["0"])
+
+
+@shape("990 traits in a chain, with ten bodies, and a class below the last")
+def chain_of_bodies(part):
+    count = int(part * 990)
+    yield "trait T0\n"
+    yield from (f"  fun m{n}() => 0\n" for n in range(10))
+    yield from (f"trait T{n} is T{n - 1}\n" for n in range(1, count))
+    yield f"class C is T{count - 1}\n"
+    yield from main_with(["0"])
+
+
+@shape("139 traits in a chain, a new body in each, and a class below the last")
+def chain_of_new_bodies(part):
+    count = int(part * 139)
+    yield "trait T0\n  fun m0() => 0\n"
+    yield from (f"trait T{n} is T{n - 1}\n  fun m{n}() => 0\n" for n in range(1, count))
+    yield f"class C is T{count - 1}\n"
+    yield from main_with(["0"])
+
+
+@shape("an unknown name at the end of a body of 190,000 numbers", WRONG_NAMES)
+def bad_name_in_a_trait(part):
+    yield "trait T\n  fun m() =>\n"
+    yield from lines(int(part * 190_000), "0")
+    yield "a\n"
+    yield from (f"class E{n} is T\n" for n in range(998))
+    yield from main_with(["0"])
+
+
+@shape("190,000 numbers in a body that nothing takes over")
+def body_of_nothing(part):
+    yield "trait T\n  fun m() =>\n"
+    yield from lines(int(part * 190_000), "0")
+    yield from main_with(["0"])
+
+
 # Slots.
 
 

@@ -1,8 +1,10 @@
 //! Small bodies built by hand, with the fault that each has.
 use crate::parts::{name_at, type_at};
 use pc_caps::{Cap, List, Span};
-use pc_names::NameTable;
-use pc_resolve::{BodyFault, Constructor, Context, Known, check, check_added};
+use pc_members::NameTable;
+use pc_resolve::{
+    BodyFault, Constructor, Constructors, Context, Known, LocalSlots, check, check_added,
+};
 use pc_tree::{
     EntityKind, Expr, FieldDef, Item, MethodDef, MethodWord, Name, ParamDef, Seq, Suffix, TypeRef,
 };
@@ -40,12 +42,12 @@ fn typed(alloc: Global, word: Word) -> Result<TypeRef, AllocError> {
     type_at(alloc, word.0, at(word.1), None)
 }
 
-fn constructors(alloc: Global, name: Option<&[u8]>) -> Result<List<Constructor>, AllocError> {
+fn constructors(alloc: Global, name: Option<&[u8]>) -> Result<Constructors, AllocError> {
     let mut constructors = List::new(alloc);
     if let Some(name) = name {
         constructors.push(Constructor::new(List::from_slice(alloc, name)?, 1))?;
     }
-    Ok(constructors)
+    Constructors::of(alloc, constructors)
 }
 
 fn entities(alloc: Global) -> Result<List<Known>, AllocError> {
@@ -66,14 +68,20 @@ fn names(alloc: Global, name: &[u8]) -> Result<List<List<u8>>, AllocError> {
 
 // The method belongs to an entity with a field f and a method m.
 fn context(alloc: Global) -> Result<Context, AllocError> {
+    let fields = names(alloc, b"f")?;
+    let methods = names(alloc, b"m")?;
     let entities = entities(alloc)?;
     if entities.len() > 10 {
         return Err(AllocError);
     }
-    let fields = names(alloc, b"f")?;
-    let methods = names(alloc, b"m")?;
-    let texts = NameTable::new(alloc);
-    Ok(Context::new(fields, methods, entities, texts, List::new(alloc)))
+    Context::new(
+        alloc,
+        fields,
+        methods,
+        entities,
+        NameTable::new(alloc),
+        LocalSlots::new(alloc),
+    )
 }
 
 // A constructor with a parameter p and these items.
@@ -112,16 +120,29 @@ fn told(answer: Result<(), BodyFault>) -> Option<BodyFault> {
     }
 }
 
+fn told_in_context(
+    alloc: Global,
+    fields: &[FieldDef],
+    method: &MethodDef,
+) -> Result<Option<BodyFault>, AllocError> {
+    let context = context(alloc)?;
+    Ok(told(check(alloc, &context, fields, method)))
+}
+
+fn told_of_added(alloc: Global, fields: &[FieldDef]) -> Result<Option<BodyFault>, AllocError> {
+    let context = context(alloc)?;
+    Ok(told(check_added(alloc, &context, fields)))
+}
+
 // What is told of a constructor with these items, where the field has this value.
 fn of_items(
     alloc: Global,
     value: Option<Expr>,
     items: List<Item>,
 ) -> Result<Option<BodyFault>, AllocError> {
-    let context = context(alloc)?;
     let fields = fields(alloc, value)?;
     let method = method(alloc, items)?;
-    Ok(told(check(alloc, &context, fields.as_slice(), &method)))
+    told_in_context(alloc, fields.as_slice(), &method)
 }
 
 fn of_item(alloc: Global, item: Item) -> Result<Option<BodyFault>, AllocError> {
@@ -383,8 +404,7 @@ fn no_parameter_is_visible_in_an_initial_value(rt: HostRuntime) -> Result<(), Fa
 fn an_added_constructor_has_the_initial_values(rt: HostRuntime) -> Result<(), Fail> {
     let alloc = rt.alloc();
     let fields = fields(alloc, Some(bare(alloc, (b"p", 10))?))?;
-    let context = context(alloc)?;
-    let answer = told(check_added(alloc, &context, fields.as_slice()));
+    let answer = told_of_added(alloc, fields.as_slice())?;
     assert_eq!(rt; answer, fault_of(Answer::Unknown(10)));
     Ok(())
 }

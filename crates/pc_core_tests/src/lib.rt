@@ -21,3 +21,5 @@ mod reading;
 mod rows;
 #[cfg(test)]
 mod rows_of_files;
+#[cfg(test)]
+mod taken_over;

@@ -3,7 +3,7 @@ use crate::parts::{digit, name_at, span, type_at};
 use crate::rows_of_files::{MAIN, entity_of};
 use pc_caps::{List, Span};
 use pc_names::{NameFault, Names, Which, collect};
-use pc_tree::{EntityKind, FieldDef, File, MethodDef, MethodWord, Name};
+use pc_tree::{EntityKind, FieldDef, File, MethodDef, MethodWord, Name, Seq};
 use std::alloc::{AllocError, Global};
 use std::test::Fail;
 
@@ -37,19 +37,37 @@ fn numbered_fields(alloc: Global, count: u32) -> Result<List<FieldDef>, AllocErr
     Ok(fields)
 }
 
+/// The functions of so many numbers, without bodies.
 fn numbered_methods(alloc: Global, count: u32) -> Result<List<MethodDef>, AllocError> {
     let mut methods = List::new(alloc);
     for number in 0..count {
-        methods.push(MethodDef {
-            word: MethodWord::Fun,
-            cap: None,
-            name: numbered(alloc, b'm', number)?,
-            params: List::new(alloc),
-            result: None,
-            body: None,
-        })?;
+        methods.push(numbered_method(alloc, number, None)?)?;
     }
     Ok(methods)
+}
+
+/// The same, each with a body of no items.
+fn numbered_bodies(alloc: Global, count: u32) -> Result<List<MethodDef>, AllocError> {
+    let mut methods = List::new(alloc);
+    for number in 0..count {
+        let body = Seq {
+            items: List::new(alloc),
+            span: numbered_span(number),
+        };
+        methods.push(numbered_method(alloc, number, Some(body))?)?;
+    }
+    Ok(methods)
+}
+
+fn numbered_method(alloc: Global, number: u32, body: Option<Seq>) -> Result<MethodDef, AllocError> {
+    Ok(MethodDef {
+        word: MethodWord::Fun,
+        cap: None,
+        name: numbered(alloc, b'm', number)?,
+        params: List::new(alloc),
+        result: None,
+        body,
+    })
 }
 
 /// A class with so many fields, and `Main`.
@@ -157,6 +175,35 @@ fn methods_at_their_limit(rt: HostRuntime) -> Result<(), Fail> {
     let file = with_methods(rt.alloc(), 7_999)?;
     assert!(rt;
         collect(rt.alloc(), &file).err() == Some(NameFault::TooMany(Which::Methods, span(66, 67)))
+    );
+    Ok(())
+}
+
+/// `Main` with one method, a primitive with so many, a trait with a thousand bodies, and a class that takes them over, with an
+/// added constructor.
+fn with_bodies(alloc: Global, count: u32) -> Result<File, AllocError> {
+    let mut entities = List::new(alloc);
+    entities.push(entity_of(alloc, &MAIN)?)?;
+    let mut first = entity_of(alloc, &(EntityKind::Primitive, (b"D", 6), &[], &[], &[]))?;
+    first.methods = numbered_methods(alloc, count)?;
+    entities.push(first)?;
+    let mut above = entity_of(alloc, &(EntityKind::Trait, (b"A", 26), &[], &[], &[]))?;
+    above.methods = numbered_bodies(alloc, 1_000)?;
+    entities.push(above)?;
+    entities.push(entity_of(
+        alloc,
+        &(EntityKind::Class, (b"C", 46), &[(b"A", 51)], &[], &[]),
+    )?)?;
+    Ok(File { entities })
+}
+
+#[test]
+fn methods_taken_over_at_their_limit(rt: HostRuntime) -> Result<(), Fail> {
+    let file = with_bodies(rt.alloc(), 7_998)?;
+    assert!(rt; collect(rt.alloc(), &file).is_ok());
+    let file = with_bodies(rt.alloc(), 7_999)?;
+    assert!(rt;
+        collect(rt.alloc(), &file).err() == Some(NameFault::TooMany(Which::Methods, span(46, 47)))
     );
     Ok(())
 }

@@ -4,8 +4,8 @@ use crate::reading::{read_expr, read_seq};
 use pc_caps::{Cap, List, Span};
 use pc_core::Node;
 use pc_emit::{EmitStop, emit, emit_added};
-use pc_names::NameTable;
-use pc_resolve::{Constructor, Context, Known, Placed};
+use pc_members::NameTable;
+use pc_resolve::{Constructor, Constructors, Context, Known, LocalSlots, Placed};
 use pc_tree::{EntityKind, FieldDef, MethodDef, MethodWord, ParamDef, TypeRef};
 use std::alloc::{AllocError, Global};
 
@@ -25,15 +25,12 @@ fn typed(alloc: Global, text: &[u8]) -> Result<TypeRef, AllocError> {
     type_at(alloc, text, METHOD, None)
 }
 
-fn constructors(
-    alloc: Global,
-    rows: &[(&'static [u8], u32)],
-) -> Result<List<Constructor>, AllocError> {
+fn constructors(alloc: Global, rows: &[(&'static [u8], u32)]) -> Result<Constructors, AllocError> {
     let mut list = List::new(alloc);
     for (name, method) in rows {
         list.push(Constructor::new(List::from_slice(alloc, name)?, *method))?;
     }
-    Ok(list)
+    Constructors::of(alloc, list)
 }
 
 /// An entity: its name, its kind, and its constructors with their numbers.
@@ -87,14 +84,19 @@ fn context(alloc: Global, slots: &[(u32, u32)]) -> Result<Option<Context>, Alloc
     for (start, slot) in slots {
         placed.push(Placed::new(*start, *slot))?;
     }
+    let slots = LocalSlots::of(alloc, placed)?;
+    with_slots(alloc, slots)
+}
+
+fn with_slots(alloc: Global, slots: LocalSlots) -> Result<Option<Context>, AllocError> {
     let fields = names(alloc, &[b"f"])?;
     let methods = names(alloc, &[b"m", b"go"])?;
+    let texts = texts(alloc)?;
     let entities = entities(alloc)?;
     if entities.len() > 100 {
         return Ok(None);
     }
-    let texts = texts(alloc)?;
-    Ok(Some(Context::new(fields, methods, entities, texts, placed)))
+    Ok(Some(Context::new(alloc, fields, methods, entities, texts, slots)?))
 }
 
 /// The field `f`, with an initial value where this text is not empty.

@@ -2,16 +2,17 @@
 use pc_caps::Form;
 use pc_core::Core;
 use pc_feed::{Stream, StreamFault};
+use pc_judge::JudgeFault;
 use pc_referee::{ListReferee, Rules};
 use pc_rules::{Mask, Note, Rule};
 use pc_test_sources::core_of;
 use std::alloc::{AllocError, Global};
 use std::test::Fail;
 
-pub(crate) const SOURCE: &[u8] =
-    b"class C\nactor Main\n  new create(env: Env) =>\n    let a: C iso = C\n";
+const SOURCE: &[u8] = b"class C\nactor Main\n  new create(env: Env) =>\n    let a: C iso = C\n";
 
-const LINES: [&[u8]; 12] = [
+/// The derivation.
+pub(crate) const LINES: [&[u8]; 12] = [
     b"rcap-derivation 1 4 7\n",
     b"s 6 ref\n",
     b"s 7 ref\n",
@@ -26,14 +27,53 @@ const LINES: [&[u8]; 12] = [
     b"n body - 3 0 3 0\n",
 ];
 
-/// The derivation with other bytes for one line, counted from 1.
-pub(crate) fn variant(alloc: Global, number: usize, line: &[u8]) -> Result<Vec<u8>, AllocError> {
+/// The same in version 2.
+pub(crate) const LINES2: [&[u8]; 12] = [
+    b"rcap-derivation 2 4 7\n",
+    b"s 6 ref\n",
+    b"s 7 ref\n",
+    b"s 4 val\n",
+    b"s 6 iso\n",
+    b"n prim 0 val 1 0 0 0\n",
+    b"n seq 0 val 1 0 0 0\n",
+    b"n body - 1 0 0 0\n",
+    b"n new 6 iso^ 3 0 0 0\n",
+    b"n define - 3 0 4 0\n",
+    b"n seq - 3 0 0 0\n",
+    b"n body - 3 0 0 0\n",
+];
+
+/// The lines with other bytes for one of them, counted from 1.
+pub(crate) fn variant_of(
+    alloc: Global,
+    lines: &[&[u8]],
+    number: usize,
+    line: &[u8],
+) -> Result<Vec<u8>, AllocError> {
     let mut text: Vec<u8> = Vec::new(alloc);
-    for at in 0..LINES.len() {
-        let is_changed = at + 1 == number;
-        text.extend_from_slice(if is_changed { line } else { LINES[at] })?;
+    for at in 0..lines.len() {
+        if at + 1 == number {
+            text.extend_from_slice(line)?;
+        } else {
+            text.extend_from_slice(lines[at])?;
+        }
     }
     Ok(text)
+}
+
+/// The derivation with other bytes for one line, counted from 1.
+pub(crate) fn variant(alloc: Global, number: usize, line: &[u8]) -> Result<Vec<u8>, AllocError> {
+    variant_of(alloc, &LINES, number, line)
+}
+
+/// The derivation in version 2 with other bytes for one line, counted from 1.
+pub(crate) fn variant2(alloc: Global, number: usize, line: &[u8]) -> Result<Vec<u8>, AllocError> {
+    variant_of(alloc, &LINES2, number, line)
+}
+
+/// The core of the program.
+pub(crate) fn program(alloc: Global) -> Option<Core> {
+    core_of(alloc, SOURCE)
 }
 
 /// What a judge says of two pieces.
@@ -49,68 +89,89 @@ pub(crate) fn judge_pieces(
     stream.end()
 }
 
-fn note(rule: Rule, ty: Option<(u32, Form)>, before: u64, after: u64) -> Note {
+/// A node of the derivation: its rule, its type, and the live masks before and after it.
+type NodeRow = (Rule, Option<(u32, Form)>, u64, u64);
+
+const NODES: [NodeRow; 7] = [
+    (Rule::Prim, Some((0, Form::Val)), 1, 1),
+    (Rule::Seq, Some((0, Form::Val)), 1, 1),
+    (Rule::Body, None, 1, 1),
+    (Rule::New, Some((6, Form::IsoE)), 3, 3),
+    (Rule::Define, None, 3, 7),
+    (Rule::Seq, None, 3, 3),
+    (Rule::Body, None, 3, 3),
+];
+
+fn note(row: NodeRow) -> Note {
     Note {
-        rule,
-        ty,
-        live_before: Mask(before),
+        rule: row.0,
+        ty: row.1,
+        live_before: Mask(row.2),
         set_before: Mask(0),
-        live_after: Mask(after),
+        live_after: Mask(row.3),
         set_after: Mask(0),
     }
 }
 
-/// The notes of the derivation.
-pub(crate) fn notes() -> [Note; 7] {
-    [
-        note(Rule::Prim, Some((0, Form::Val)), 1, 1),
-        note(Rule::Seq, Some((0, Form::Val)), 1, 1),
-        note(Rule::Body, None, 1, 1),
-        note(Rule::New, Some((6, Form::IsoE)), 3, 3),
-        note(Rule::Define, None, 3, 7),
-        note(Rule::Seq, None, 3, 3),
-        note(Rule::Body, None, 3, 3),
-    ]
+// Whether what was asked is this node of the derivation.
+fn is_node(asked: Option<&(u32, Note)>, at: usize) -> bool {
+    match (asked, NODES.get(at)) {
+        (Some((number, own)), Some(row)) => *number as usize == at && *own == note(*row),
+        (None, _) | (_, None) => false,
+    }
 }
 
 /// Whether the referee was asked of these first nodes and of no other.
 pub(crate) fn was_asked(referee: &ListReferee, count: usize) -> bool {
     let asked = referee.asked();
-    if asked.len() != count {
-        return false;
-    }
-    let notes = notes();
-    for at in 0..7 {
-        if at >= count {
-            return true;
-        }
-        match asked.get(at) {
-            None => return false,
-            Some((number, note)) => {
-                if *number as usize != at || *note != notes[at] {
-                    return false;
-                }
-            }
+    for at in 0..count {
+        if !is_node(asked.get(at), at) {
+            return false;
         }
     }
-    true
+    asked.len() == count
+}
+
+// What a judge that was fed a text without a fault says of it, where so many first nodes are asked of.
+fn judge_asking(
+    alloc: Global,
+    core: &Core,
+    text: &[u8],
+    count: usize,
+) -> Option<Result<(), StreamFault>> {
+    let mut referee = ListReferee::new(alloc);
+    let mut stream = Stream::start(alloc, core);
+    let fed = stream.feed(text, &mut referee);
+    let end = stream.end();
+    if fed.is_ok() && was_asked(&referee, count) {
+        Some(end)
+    } else {
+        None
+    }
+}
+
+// The same of the program.
+fn asked(alloc: Global, text: &[u8], count: usize) -> Option<Result<(), StreamFault>> {
+    let core = program(alloc)?;
+    judge_asking(alloc, &core, text, count)
 }
 
 #[test]
 fn each_node_is_asked_up_to_the_first_fault(rt: HostRuntime) -> Result<(), Fail> {
-    let alloc = rt.alloc();
-    let core = core_of(alloc, SOURCE).expect(&rt, "the program has a core");
-    let text = variant(alloc, 0, b"")?;
-    let mut referee = ListReferee::new(alloc);
-    let mut stream = Stream::start(alloc, &core);
-    assert!(rt; stream.feed(&text, &mut referee) == Ok(()));
-    assert!(rt; was_asked(&referee, 7));
-    assert!(rt; stream.end() == Ok(()));
-    let wrong = variant(alloc, 9, b"n new 6 ref 3 0 3 0\n")?;
-    let mut asked_less = ListReferee::new(alloc);
-    let mut other = Stream::start(alloc, &core);
-    assert!(rt; other.feed(&wrong, &mut asked_less) == Ok(()));
-    assert!(rt; was_asked(&asked_less, 3));
-    assert!(rt; other.end().is_err());
+    let text = variant(rt.alloc(), 0, b"")?;
+    assert!(rt; asked(rt.alloc(), &text, 7) == Some(Ok(())));
+    let text = variant(rt.alloc(), 9, b"n new 6 ref 3 0 3 0\n")?;
+    let fault = StreamFault::Invalid(JudgeFault::Node(3));
+    assert!(rt; asked(rt.alloc(), &text, 3) == Some(Err(fault)));
+    Ok(())
+}
+
+#[test]
+fn the_same_is_asked_in_version_2(rt: HostRuntime) -> Result<(), Fail> {
+    let text = variant2(rt.alloc(), 0, b"")?;
+    assert!(rt; asked(rt.alloc(), &text, 7) == Some(Ok(())));
+    let text = variant2(rt.alloc(), 9, b"n new 6 ref 3 0 0 0\n")?;
+    let fault = StreamFault::Invalid(JudgeFault::Node(3));
+    assert!(rt; asked(rt.alloc(), &text, 3) == Some(Err(fault)));
     Ok(())
 }

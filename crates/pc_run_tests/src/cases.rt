@@ -4,7 +4,8 @@ use pc_io::MemSink;
 use pc_run::{Report, RunFault};
 use std::alloc::Global;
 
-fn report(moved: u64, skipped: u64, actors: u32, objects: u64, waiting: u64) -> Report {
+/// What a run reports: steps that moved and were skipped, actors, objects, and messages that wait.
+pub(crate) fn report(moved: u64, skipped: u64, actors: u32, objects: u64, waiting: u64) -> Report {
     Report {
         moved,
         skipped,
@@ -16,7 +17,7 @@ fn report(moved: u64, skipped: u64, actors: u32, objects: u64, waiting: u64) -> 
 
 /// Whether a run answers this and writes this, to a sink of which these calls fail, each after so many bytes. Where memory
 /// was wanting, a prefix of it was written, and the next run answers and writes the same.
-fn runs(
+pub(crate) fn runs(
     alloc: Global,
     program: &[u8],
     schedule: &[u8],

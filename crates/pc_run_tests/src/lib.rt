@@ -11,3 +11,5 @@ mod derived;
 mod programs;
 #[cfg(test)]
 mod safety;
+#[cfg(test)]
+mod taken_over;

@@ -2,19 +2,19 @@
 use crate::texts::tree_of;
 use pc_core::Core;
 use pc_elab::elaborate;
-use pc_names::collect;
+use pc_names::{NameFault, collect};
 use std::alloc::Global;
+
+/// The core of a text, or the first fault of its names. A text that has no tree is answered as want of memory.
+pub fn core_or_fault(alloc: Global, text: &[u8]) -> Result<Core, NameFault> {
+    let Ok(tree) = tree_of(alloc, text) else {
+        return Err(NameFault::Memory);
+    };
+    let names = collect(alloc, &tree)?;
+    elaborate(alloc, &tree, &names)
+}
 
 /// The core of a text, where it has one.
 pub fn core_of(alloc: Global, text: &[u8]) -> Option<Core> {
-    let Ok(tree) = tree_of(alloc, text) else {
-        return None;
-    };
-    let Ok(names) = collect(alloc, &tree) else {
-        return None;
-    };
-    match elaborate(alloc, &tree, &names) {
-        Ok(core) => Some(core),
-        Err(_) => None,
-    }
+    core_or_fault(alloc, text).ok()
 }

@@ -4,5 +4,5 @@
 mod cores;
 mod texts;
 
-pub use cores::core_of;
+pub use cores::{core_of, core_or_fault};
 pub use texts::{tokens_of, tree_of};

@@ -1,13 +1,12 @@
 //! Derivations that come in pieces. The expected values are those of the whole texts.
-use crate::derivations::{VARIANTS, note, variant};
+use crate::derivations::{VARIANTS, VARIANTS2, note, variant, variant2};
 use pc_caps::{Cap, Form};
 use pc_deriv::{DerivFault, Line, LineFault, Lines, Note, Rule};
 use std::alloc::{AllocError, Global};
 use std::test::Fail;
 
-/// The lines of the example.
-const LINES: [Line; 5] = [
-    Line::Head { slots: 4, nodes: 7 },
+/// The lines of the example's slots.
+const SLOT_LINES: [Line; 4] = [
     Line::Slot(6, Cap::Ref),
     Line::Slot(7, Cap::Ref),
     Line::Slot(4, Cap::Val),
@@ -63,17 +62,25 @@ fn taken(
     Ok((ended, lines.finish()))
 }
 
-// Whether these are all lines of the example.
-fn is_example(ended: &[Line]) -> bool {
+// Whether these are all lines of the example in the version of this number.
+fn is_example(version: u32, ended: &[Line]) -> bool {
     if ended.len() != 12 {
         return false;
     }
-    let notes = notes();
-    for at in 0..5 {
-        if ended[at] != LINES[at] {
+    let head = Line::Head {
+        version,
+        slots: 4,
+        nodes: 7,
+    };
+    if ended[0] != head {
+        return false;
+    }
+    for at in 0..4 {
+        if ended[at + 1] != SLOT_LINES[at] {
             return false;
         }
     }
+    let notes = notes();
     for at in 0..7 {
         if ended[at + 5] != Line::Node(notes[at]) {
             return false;
@@ -91,24 +98,44 @@ fn is_same(answer: Result<(), LineFault>, wanted: Option<DerivFault>) -> bool {
     }
 }
 
+// Where a text is cut so that its lines are not those of the example, if anywhere.
+fn wrong_cut(alloc: Global, version: u32, bytes: &[u8]) -> Result<Option<usize>, AllocError> {
+    for cut in 0..bytes.len() {
+        let (ended, answer) = taken(alloc, &bytes[..cut], &bytes[cut..])?;
+        if !is_example(version, &ended) || answer.is_err() {
+            return Ok(Some(cut));
+        }
+    }
+    Ok(None)
+}
+
+// Whether a text whose bytes come one by one has the lines of the example.
+fn is_taken_by_bytes(alloc: Global, version: u32, bytes: &[u8]) -> Result<bool, AllocError> {
+    let mut lines = Lines::new();
+    let mut ended = Vec::new(alloc);
+    for at in 0..bytes.len() {
+        if feed(&mut lines, &bytes[at..at + 1], &mut ended)?.is_err() {
+            return Ok(false);
+        }
+    }
+    Ok(is_example(version, &ended) && lines.finish().is_ok())
+}
+
 #[test]
 fn wherever_the_example_is_cut_its_lines_are_the_same(rt: HostRuntime) -> Result<(), Fail> {
     let alloc = rt.alloc();
     let text = variant(alloc, 0, b"")?;
-    let bytes = text.as_slice();
-    for cut in 0..bytes.len() {
-        let (ended, answer) = taken(alloc, &bytes[..cut], &bytes[cut..])?;
-        assert!(rt; is_example(&ended), "cut at {cut}");
-        assert!(rt; answer == Ok(()), "cut at {cut}");
-    }
-    let mut lines = Lines::new();
-    let mut ended = Vec::new(alloc);
-    for at in 0..bytes.len() {
-        let answer = feed(&mut lines, &bytes[at..at + 1], &mut ended)?;
-        assert!(rt; answer == Ok(()), "byte {at}");
-    }
-    assert!(rt; is_example(&ended));
-    assert!(rt; lines.finish() == Ok(()));
+    assert!(rt; wrong_cut(alloc, 1, text.as_slice())?.is_none());
+    assert!(rt; is_taken_by_bytes(alloc, 1, text.as_slice())?);
+    Ok(())
+}
+
+#[test]
+fn wherever_version_2_is_cut_its_lines_are_the_same(rt: HostRuntime) -> Result<(), Fail> {
+    let alloc = rt.alloc();
+    let text = variant2(alloc, 0, b"")?;
+    assert!(rt; wrong_cut(alloc, 2, text.as_slice())?.is_none());
+    assert!(rt; is_taken_by_bytes(alloc, 2, text.as_slice())?);
     Ok(())
 }
 
@@ -128,9 +155,26 @@ fn wherever_a_variant_is_cut_its_fault_is_the_same(rt: HostRuntime) -> Result<()
 }
 
 #[test]
+fn wherever_a_variant_of_version_2_is_cut_its_fault_is_the_same(
+    rt: HostRuntime,
+) -> Result<(), Fail> {
+    let alloc = rt.alloc();
+    for (number, line, wanted) in VARIANTS2 {
+        let text = variant2(alloc, number, line)?;
+        let bytes = text.as_slice();
+        for nth in 0..bytes.len() / 23 {
+            let cut = 23 * nth;
+            let (_, answer) = taken(alloc, &bytes[..cut], &bytes[cut..])?;
+            assert!(rt; is_same(answer, wanted), "line {number} cut at {cut}");
+        }
+    }
+    Ok(())
+}
+
+#[test]
 fn counts_past_a_limit_are_found_in_pieces(rt: HostRuntime) -> Result<(), Fail> {
     let alloc = rt.alloc();
-    let rows: [(&[u8], &[u8], Result<(), LineFault>); 5] = [
+    let rows: [(&[u8], &[u8], Result<(), LineFault>); 8] = [
         (
             b"rcap-derivation 1 64",
             b"0001 0\n",
@@ -146,7 +190,18 @@ fn counts_past_a_limit_are_found_in_pieces(rt: HostRuntime) -> Result<(), Fail> 
             b"200001\n",
             Err(LineFault::TooMany),
         ),
+        (
+            b"rcap-derivation 2 0 ",
+            b"200001\n",
+            Err(LineFault::TooMany),
+        ),
+        (
+            b"rcap-derivation 3 0 ",
+            b"200001\n",
+            Err(LineFault::BadLine(1)),
+        ),
         (b"rcap-derivation 1 0 0\n", b"", Ok(())),
+        (b"rcap-derivation ", b"2 0 0\n", Ok(())),
         (b"", b"", Err(LineFault::BadLine(1))),
     ];
     for (first, second, wanted) in rows {
@@ -168,7 +223,11 @@ fn a_line_ends_at_its_line_end_or_at_its_128th_byte(rt: HostRuntime) -> Result<(
     assert!(rt; lines.finish() == Err(LineFault::BadLine(1)));
 
     let mut whole = Lines::new();
-    let head = Line::Head { slots: 0, nodes: 0 };
+    let head = Line::Head {
+        version: 1,
+        slots: 0,
+        nodes: 0,
+    };
     assert!(rt; whole.next(b"\nrcap-derivation 1 0 0\n", 1) == Ok((23, Some(head))));
     assert!(rt; whole.next(b"", 0) == Ok((0, None)));
     assert!(rt; whole.finish() == Ok(()));

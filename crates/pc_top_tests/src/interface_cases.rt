@@ -87,11 +87,7 @@ fn interfaces_stand_where_traits_do(rt: HostRuntime) -> Result<(), Fail> {
             3,
             "a.pony:2:3: unexpected\n",
         ),
-        (
-            "interface A\n  fun f() => 1\n",
-            3,
-            "a.pony:2:11: unexpected\n",
-        ),
+        ("interface A\n  fun f() => 1\n", 0, ""),
         (
             "interface A\nclass C\n  fun f() => A\n",
             4,

@@ -43,4 +43,8 @@ mod swap_cases;
 #[cfg(test)]
 mod trace_cases;
 #[cfg(test)]
+mod trait_cases;
+#[cfg(test)]
 mod tree_cases;
+#[cfg(test)]
+mod upgrade_cases;

@@ -44,7 +44,7 @@ fn add_methods(
     Ok(())
 }
 
-// A trait of a hundred methods and one that inherits them, 97 classes of 99 methods and the constructor that is added, a
+// A trait of a hundred methods and one that takes them over, 97 classes of 99 methods and the constructor that is added, a
 // class with so many, and a Main: 9,902 methods and those of the last class.
 fn with_methods(alloc: Global, last: usize) -> Result<Vec<u8>, AllocError> {
     let mut source = b"trait T\n".to_vec(alloc)?;

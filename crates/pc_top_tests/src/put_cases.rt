@@ -43,9 +43,13 @@ const DERIVATION: &str = "rcap-derivation 1 4 7\ns 6 ref\ns 7 ref\ns 4 val\ns 6 
 n prim 0 val 1 0 1 0\nn seq 0 val 1 0 1 0\nn body - 1 0 1 0\nn new 6 iso^ 3 0 3 0\nn define - 3 0 7 0\n\
 n seq - 3 0 3 0\nn body - 3 0 3 0\n";
 
+const SECOND: &str = "rcap-derivation 2 4 7\ns 6 ref\ns 7 ref\ns 4 val\ns 6 iso\n\
+n prim 0 val 1 0 0 0\nn seq 0 val 1 0 0 0\nn body - 1 0 0 0\nn new 6 iso^ 3 0 0 0\nn define - 3 0 4 0\n\
+n seq - 3 0 0 0\nn body - 3 0 0 0\n";
+
 const PRINTED: &str = "class C\n\nactor Main\n  new create(env: Env) =>\n    let a: C iso = C\n";
 
-const CASES: [Writing<'_>; 11] = [
+const CASES: [Writing<'_>; 12] = [
     Writing {
         words: CHECK,
         source: LOCAL,
@@ -60,6 +64,14 @@ const CASES: [Writing<'_>; 11] = [
         other: DERIVATION,
         status: 0,
         pieces: &["accepted\n"],
+        line: "",
+    },
+    Writing {
+        words: &["upgrade", "a.pony", "other"],
+        source: LOCAL,
+        other: DERIVATION,
+        status: 0,
+        pieces: &[SECOND],
         line: "",
     },
     Writing {

@@ -1,6 +1,7 @@
-//! What `judge` asks a referee that keeps what it was asked.
+//! What `judge` asks a referee that keeps what it was asked; other commands ask nothing.
 
 use crate::cases::{CHECK, JUDGE, SOURCE};
+use crate::upgrade_cases::UPGRADE;
 use pc_io::{MemFiles, MemSink};
 use pc_referee::ListReferee;
 use pc_top::rcap;
@@ -46,5 +47,7 @@ fn each_node_is_asked_up_to_the_first_that_is_wrong(rt: HostRuntime) -> Result<(
     assert!(rt; asks(alloc, JUDGE, right)? == (0, Some(7)));
     assert!(rt; asks(alloc, JUDGE, wrong)? == (6, Some(3)));
     assert!(rt; asks(alloc, CHECK, right)? == (0, Some(0)));
+    assert!(rt; asks(alloc, UPGRADE, right)? == (0, Some(0)));
+    assert!(rt; asks(alloc, UPGRADE, wrong)? == (6, Some(0)));
     Ok(())
 }

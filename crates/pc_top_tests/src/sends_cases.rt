@@ -46,10 +46,27 @@ actor Main
   new create(env: Env) => C().say(env.out)
 ";
 
+/// A trait's bodies: a function that sends, taken over by two classes, and a behaviour, taken over by two actors.
+const TAKEN: &[u8] = b"\
+trait Says
+  fun say(out: OutStream) => out.print(\"s\")
+trait tag Beats
+  be beat() => None
+class C is Says
+class D is Says
+actor A is Beats
+actor B is Beats
+actor Main
+  new create(env: Env) =>
+    C().say(env.out)
+    D().say(env.out)
+    A().beat()
+";
+
 #[test]
 fn who_sends_what(rt: HostRuntime) -> Result<(), Fail> {
     let alloc = rt.alloc();
-    let rows: [(&[u8], &str); 6] = [
+    let rows: [(&[u8], &str); 7] = [
         (
             BANK,
             "Teller sends OutStream.print\nTeller sends Teller.deposit\nMain sends Teller.create\n\
@@ -65,6 +82,12 @@ fn who_sends_what(rt: HostRuntime) -> Result<(), Fail> {
              never B.create\nnever Main.other\n",
         ),
         (CLASSES, "C sends OutStream.print\n"),
+        // It is the entity that took the method over that sends; traits send nothing.
+        (
+            TAKEN,
+            "C sends OutStream.print\nD sends OutStream.print\nMain sends A.create\nMain sends A.beat\n\
+             never B.create\nnever B.beat\n",
+        ),
         (GREETING, "Main sends OutStream.print\n"),
         // Where nothing is sent, the text is empty.
         (b"actor Main\n  new create(env: Env) => None\n", ""),

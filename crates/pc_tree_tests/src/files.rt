@@ -16,7 +16,7 @@ fn has_shape(alloc: Global, text: &[u8], shape: &[u8]) -> bool {
 }
 
 // Texts of files, and their entities, fields and methods; `=` and `=>` stand for a value and a body.
-const SHAPES: [(&[u8], &[u8]); 11] = [
+const SHAPES: [(&[u8], &[u8]); 14] = [
     (b"class C fun f() => 1 - 2 - 3", b"class C\n fun f() =>\n"),
     (
         b"class C primitive P actor A trait T",
@@ -46,6 +46,15 @@ const SHAPES: [(&[u8], &[u8]); 11] = [
     (
         b"trait T fun ref f(): A^ be b(a: A)",
         b"trait T\n fun ref f(): A^\n be b(a: A)\n",
+    ),
+    (b"trait T fun f(): A => a", b"trait T\n fun f(): A =>\n"),
+    (
+        b"trait T fun f() fun ref g() => 1 be b() be c(a: A) => a class C",
+        b"trait T\n fun f()\n fun ref g() =>\n be b()\n be c(a: A) =>\nclass C\n",
+    ),
+    (
+        b"interface val I is T fun f() \"\"\"of f\"\"\" => \"\"\"of the body\"\"\" 1 fun g() \"\"\"of g\"\"\" interface J be b() => 1",
+        b"interface val I is T\n fun f() =>\n fun g()\ninterface J\n be b() =>\n",
     ),
     (
         b"class C fun f() =>\n  let x: A = 1\n  x\nclass D",
@@ -83,7 +92,7 @@ fn fault_of(alloc: Global, text: &[u8]) -> Option<ParseFault> {
 }
 
 // Texts of no file, and the first byte of the first token with which none begins.
-const UNEXPECTED: [(&[u8], u32); 42] = [
+const UNEXPECTED: [(&[u8], u32); 45] = [
     // Nothing at all.
     (b"", 0),
     // A method alone.
@@ -142,8 +151,14 @@ const UNEXPECTED: [(&[u8], u32); 42] = [
     (b"class C fun f() fun g() => 1", 16),
     // An actor's method without a body.
     (b"actor A be b() be c() => 1", 15),
-    // A body in a trait.
-    (b"trait T fun f() => 1", 16),
+    // A primitive's method without a body, behind a trait's.
+    (b"trait T fun f() primitive P fun f() class C", 36),
+    // A body of nothing in a trait.
+    (b"trait T fun f() =>", 18),
+    // A body of nothing in an interface, before another method.
+    (b"interface I fun f() => fun g()", 23),
+    // A body without => in a trait.
+    (b"trait T fun f() 1", 16),
     // A body of nothing.
     (b"class C fun f() => fun g() => 1", 19),
     // A comma before ).

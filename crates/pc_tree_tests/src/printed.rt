@@ -40,6 +40,18 @@ fn each_kind_of_line(rt: HostRuntime) {
     assert!(rt; prints(rt.alloc(), SOURCE, LINES));
 }
 
+const SOME_BODIES: &[u8] =
+    b"trait A be b() => c; d fun f(): U64 fun ref g() => \"\"\"A body.\"\"\" f()\ninterface I fun h() => (e) fun i()";
+
+const SOME_LINES: &[u8] =
+    b"trait A\n  be b() =>\n    c\n    d\n  fun f(): U64\n  fun ref g() =>\n    f()\n\ninterface I\n  fun h() =>\n    (e)\n  fun i()\n";
+
+#[test]
+fn some_methods_of_a_trait_have_bodies(rt: HostRuntime) {
+    assert!(rt; prints(rt.alloc(), SOME_BODIES, SOME_LINES));
+    assert!(rt; prints(rt.alloc(), SOME_LINES, SOME_LINES));
+}
+
 #[test]
 fn what_was_printed(rt: HostRuntime) {
     assert!(rt; prints(rt.alloc(), LINES, LINES));
