@@ -1,18 +1,21 @@
-//! Reference capabilities, their forms, the order on forms and the tables on them; and the two small types that every
-//! layer shares, `Span` and `List`.
+//! Reference capabilities, their forms, the order on forms and the tables on them; and the small types that every
+//! layer shares, `Span`, `List` and `SharedBytes`.
 //!
 //! Proved: `below` is the closure of the ten pairs; `plain`, `unalias`, `stored`, `fits`, `view`, `taken`, `may_write`,
-//! `lift`, `sendable` and `sendable_form` are their tables. `List<T>` is a list, and may stand inside recursive types.
+//! `lift`, `sendable` and `sendable_form` are their tables. `List<T>` is a list, and may stand inside recursive types;
+//! `SharedBytes` are bytes, whoever else has them.
 #![tactic(auto)]
 
 mod capability;
 mod list;
 mod order;
 mod place;
+mod shared;
 mod span;
 
 pub use capability::{Cap, Form, plain, sendable, sendable_form, stored, unalias};
 pub use list::List;
 pub use order::{below, fits};
 pub use place::{lift, may_write, taken, view};
+pub use shared::SharedBytes;
 pub use span::Span;

@@ -1,6 +1,6 @@
 //! What stands inside the methods: slots and nodes.
 
-use pc_caps::{Cap, List, Span};
+use pc_caps::{Cap, List, SharedBytes, Span};
 use pc_tree::Op;
 
 /// The kind of a slot.
@@ -36,7 +36,7 @@ pub enum NodeKind {
     /// `true` or `false`.
     Truth(bool),
     /// A text, as its bytes.
-    Text(List<u8>),
+    Text(SharedBytes),
     /// The value of a primitive, by the entity's number.
     Prim(u32),
     /// `this`.

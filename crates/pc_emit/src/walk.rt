@@ -34,7 +34,7 @@ pub(crate) fn expr(
     match e {
         Expr::Number { value, span } => leaf(setting, nodes, NodeKind::Number(*value), *span),
         Expr::Truth { value, span } => leaf(setting, nodes, NodeKind::Truth(*value), *span),
-        Expr::Text { bytes, span } => read_text(setting, nodes, bytes.as_slice(), *span),
+        Expr::Text { bytes, span } => read_text(setting, nodes, bytes, *span),
         Expr::Name(name) => read_name(setting, scope.as_slice(), nodes, name),
         Expr::TypeName(name) => read_type(setting, nodes, name),
         Expr::This(span) => leaf(setting, nodes, NodeKind::This, *span),
