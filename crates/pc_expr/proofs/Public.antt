@@ -8,7 +8,7 @@ use Rattle.pc_expr.specs.declared.stop.ParseStop.{ParseStop}
 use Rattle.pc_expr.specs.declared.stop.ParseStop.TheVariants as stop
 use Rattle.pc_expr.specs.declared.fault.ParseFault.{ParseFault}
 use Rattle.pc_expr.specs.Gives.{EndsWithEnd, At, Stops}
-use Rattle.pc_expr.specs.Answers.{Told, Refuses, StopsAtToken, Names}
+use Rattle.pc_expr.specs.Answers.{Refuses, StopsAtToken, Names}
 
 ends_from : (tokens : List Token) (at : ℕ) → EndsWithEnd tokens → at < length tokens → EndsWithEnd (drop at tokens)
 ends_from tokens zero ends within = ends
@@ -23,17 +23,6 @@ pub stands : {Y : Type 0} (tokens : List Token) (e : ParseStop) (read : Outcome 
 stands tokens (stop.Unexpected k) read s = s.1
 stands tokens (stop.TooDeep k) read s = s.1
 stands tokens stop.Memory read s = tt
-
-pub told : {X Y : Type 0} (view : X → Y) (tokens : List Token) (e : ParseStop) (f : ParseFault) (read : Outcome Y) → Stops tokens e read → Names tokens e f → Told view tokens (Err f) read
-told view tokens (stop.Unexpected k) f read s named =
-    let Q : ParseFault → Type 0 = λ v. Told view tokens (Err v) read in
-    subst Q (sym named.1) (k, s.1, named.2, s.0)
-told view tokens (stop.TooDeep k) f read s named =
-    let Q : ParseFault → Type 0 = λ v. Told view tokens (Err v) read in
-    subst Q (sym named.1) (k, s.1, named.2, s.0)
-told view tokens stop.Memory f read s named =
-    let Q : ParseFault → Type 0 = λ v. Told view tokens (Err v) read in
-    subst Q (sym named) tt
 
 module _ {A : Type 0} (spells : A → List Token → Type 0) (depth : A → ℕ) (reading : ℕ → Parser A) (refuses : RefusesRight spells depth reading) (deep : DeepRight spells depth reading) where
   pub refused : (n : ℕ) (tokens : List Token) (at : ℕ) (e : ParseStop) (f : ParseFault) → Stops tokens e (reading n (drop at tokens)) → Names tokens e f → Refuses spells depth n tokens at f

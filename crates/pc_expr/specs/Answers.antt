@@ -1,7 +1,6 @@
 -- What the parser answers.
 use Rattle.std.specs.Prelude.{◌≡◌, ◌≢◌, ℕ, ◌<◌, List, ◌∷◌, drop, length, Result, Ok, Err}
 use Rattle.pc_token.specs.declared.kinds.Token.{Token}
-use Rattle.pc_grammar.specs.Reading.{Outcome, unexpected, too_deep}
 use Rattle.pc_grammar.specs.Begins.{IsRead, IsRefused, IsTooDeep}
 use Rattle.pc_expr.specs.declared.stop.ParseStop.{ParseStop}
 use Rattle.pc_expr.specs.declared.stop.ParseStop.TheVariants as stop
@@ -11,13 +10,6 @@ use Rattle.pc_expr.specs.declared.fault.ParseFault.TheVariants as fault
 -- the token at a place begins at a byte
 abbrev pub Places : List Token → ℕ → ℕ → Type 0
 Places tokens k p = (x : Token) × (more : List Token) × (drop k tokens ≡ x ∷ more) × (x.span.start ≡ p)
-
--- The result is what reading with one token ahead gives, a fault told by the byte of its token; or memory ran out.
-abbrev pub Told : {X Y : Type 0} → (X → Y) → List Token → Result (X × ℕ) ParseFault → Outcome Y → Type 0
-Told view tokens (Ok r) read = read ≡ Ok (view r.0, drop r.1 tokens)
-Told view tokens (Err (fault.Unexpected p)) read = (k : ℕ) × (k < length tokens) × Places tokens k p × (read ≡ Err (unexpected, drop k tokens))
-Told view tokens (Err (fault.TooDeep p)) read = (k : ℕ) × (k < length tokens) × Places tokens k p × (read ≡ Err (too_deep, drop k tokens))
-Told view tokens (Err fault.Memory) read = Unit {0}
 
 -- The result, seen as a tree, is this answer, or memory ran out.
 abbrev pub Is : {X Y : Type 0} → (X → Y) → Result (X × ℕ) ParseFault → Result (Y × ℕ) ParseFault → Type 0

@@ -1,11 +1,10 @@
 //! The public calls.
-ghost use Rattle.std.specs.Prelude.{◌<◌, ◌≤◌, ◌-◌, drop, IfOk, IfErr, length};
+ghost use Rattle.std.specs.Prelude.{◌<◌, ◌≤◌, ◌-◌, IfOk, IfErr, length};
 ghost use Rattle.pc_tree.specs.View.{expr_view, seq_view};
 ghost use Rattle.pc_tree.specs.Measures as levels;
 ghost use Rattle.pc_grammar.specs.Spells.{Spells, SpellsInfix, SpellsSeq};
-ghost use Rattle.pc_grammar.specs.Reading as reading;
 ghost use Rattle.pc_expr.specs.Gives.{EndsWithEnd};
-ghost use Rattle.pc_expr.specs.Answers.{Places, Told, ReadsTo, Refuses, IsOnly, StopsAtToken, Names};
+ghost use Rattle.pc_expr.specs.Answers.{Places, ReadsTo, Refuses, IsOnly, StopsAtToken, Names};
 
 use crate::fault::ParseFault;
 use crate::rules;
@@ -56,8 +55,6 @@ pub fn seq(
     ensures refused { IfErr result (Refuses SpellsSeq levels.seq_depth (200 - level) tokens.now at) }
     // Whatever answer holds of the tokens is the result, unless memory ran out.
     ensures exact { IsOnly SpellsSeq levels.seq_depth (200 - level) seq_view tokens.now at result }
-    // It is what reading with one token ahead gives.
-    ensures ahead { Told seq_view tokens.now result (reading.seq (200 - level) (drop at tokens.now)) }
 {
     match rules::seq(alloc, tokens, at, LEVELS - level) {
         Ok(read) => Ok(read),
@@ -81,8 +78,6 @@ pub fn expr(
     ensures refused { IfErr result (Refuses Spells levels.depth (200 - level) tokens.now at) }
     // Whatever answer holds of the tokens is the result, unless memory ran out.
     ensures exact { IsOnly Spells levels.depth (200 - level) expr_view tokens.now at result }
-    // It is what reading with one token ahead gives.
-    ensures ahead { Told expr_view tokens.now result (reading.expr (200 - level) (drop at tokens.now)) }
 {
     match rules::expr(alloc, tokens, at, LEVELS - level) {
         Ok(read) => Ok(read),
@@ -106,8 +101,6 @@ pub fn infix(
     ensures refused { IfErr result (Refuses SpellsInfix levels.depth (200 - level) tokens.now at) }
     // Whatever answer holds of the tokens is the result, unless memory ran out.
     ensures exact { IsOnly SpellsInfix levels.depth (200 - level) expr_view tokens.now at result }
-    // It is what reading with one token ahead gives.
-    ensures ahead { Told expr_view tokens.now result (reading.infix_ (200 - level) (drop at tokens.now)) }
 {
     match rules::infix(alloc, tokens, at, LEVELS - level) {
         Ok(read) => Ok(read),

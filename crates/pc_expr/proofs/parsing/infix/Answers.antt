@@ -5,7 +5,7 @@ use Rattle.pc_grammar.specs.Spells.{SpellsInfix}
 use Rattle.pc_grammar.specs.Reading as reading
 use Rattle.pc_grammar.proofs.Right.{infix_reads, infix_refuses, infix_deep}
 use Rattle.pc_grammar.proofs.OneAnswer.{infix_answer}
-use Rattle.pc_expr.proofs.Public.{is_at, refused, told}
+use Rattle.pc_expr.proofs.Public.{is_at, refused}
 use Rattle.pc_expr.proofs.Exact.{exact_tree, exact_fault}
 use Rattle.pc_expr.proofs.parsing.infix.Goals as goal
 
@@ -33,6 +33,3 @@ pub returns-in-Err-clause-exact : goal.returns-in-Err-clause-exact
 returns-in-Err-clause-exact c = λ answer is.
     exact_fault SpellsInfix depth (200 - c.args.level) (infix_answer (200 - c.args.level)) c.args.tokens.now c.args.at expr_view c.fault.result
     (refused SpellsInfix depth reading.infix_ infix_refuses infix_deep (200 - c.args.level) c.args.tokens.now c.args.at c.in-Err.stop c.fault.result c.in-Err.ensures.gives c.fault.ensures) answer is
-
-pub returns-in-Err-clause-ahead : goal.returns-in-Err-clause-ahead
-returns-in-Err-clause-ahead c = told expr_view c.args.tokens.now c.in-Err.stop c.fault.result _ c.in-Err.ensures.gives c.fault.ensures

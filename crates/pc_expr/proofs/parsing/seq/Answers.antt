@@ -5,7 +5,7 @@ use Rattle.pc_grammar.specs.Spells.{SpellsSeq}
 use Rattle.pc_grammar.specs.Reading as reading
 use Rattle.pc_grammar.proofs.Right.{seq_reads, seq_refuses, seq_deep}
 use Rattle.pc_grammar.proofs.OneAnswer.{seq_answer}
-use Rattle.pc_expr.proofs.Public.{is_at, refused, told}
+use Rattle.pc_expr.proofs.Public.{is_at, refused}
 use Rattle.pc_expr.proofs.Exact.{exact_tree, exact_fault}
 use Rattle.pc_expr.proofs.parsing.seq.Goals as goal
 
@@ -33,6 +33,3 @@ pub returns-in-Err-clause-exact : goal.returns-in-Err-clause-exact
 returns-in-Err-clause-exact c = λ answer is.
     exact_fault SpellsSeq seq_depth (200 - c.args.level) (seq_answer (200 - c.args.level)) c.args.tokens.now c.args.at seq_view c.fault.result
     (refused SpellsSeq seq_depth reading.seq seq_refuses seq_deep (200 - c.args.level) c.args.tokens.now c.args.at c.in-Err.stop c.fault.result c.in-Err.ensures.gives c.fault.ensures) answer is
-
-pub returns-in-Err-clause-ahead : goal.returns-in-Err-clause-ahead
-returns-in-Err-clause-ahead c = told seq_view c.args.tokens.now c.in-Err.stop c.fault.result _ c.in-Err.ensures.gives c.fault.ensures
