@@ -7,7 +7,7 @@ use Rattle.std.proofs.lemmas.Bool.Decides.{eqb_tells}
 use Rattle.std.proofs.lemmas.Nat.{shr_split}
 use Rattle.std.proofs.lemmas.Nat.Bits.{bit_at-lt, bit_at_lowest, bit_at-suc, bit_at_and, bit_at_or, bit_at-pow_same, bit_at-pow_other, and_pow, bit_at_above, bit_at_cat_low, bit_at_cat_high, bit_at_ones, bit_at_ones_above, same_from_bits}
 use Rattle.pc_ann.specs.declared.mask.Mask.{Mask}
-use Rattle.pc_ann.specs.Masks.{IsIn, first, with_number, without_number, meet, within}
+use Rattle.pc_ann.specs.Masks.{IsIn, first, with_number, without_number, meet, join, within}
 
 -- A number less one of its bits has that bit no more, and the others as before.
 half_twice : (q : ℕ) → q * 2 / 2 ≡ q
@@ -165,4 +165,20 @@ pub within_bits : (a b : Mask) → (IsTrue (within a b)) ↔ ((i : ℕ) → IsIn
 within_bits a b = (
   λ h i p. ((meet_bits a b i).0 (same_bit a.0 (bit_and a.0 b.0) i (ap (λ x. bit_at x i) (sym (eqb-true (bit_and a.0 b.0) a.0 h))) p)).1,
   λ h. eq-eqb (bit_and a.0 b.0) a.0 (same_from_bits (bit_and a.0 b.0) a.0 (λ i. each_bit a b i (h i))),
+)
+
+-- What either has.
+max_either : (x y : ℕ) → x < 2 → max x y ≡ 1 → (x ≡ 1) ⊎ (y ≡ 1)
+max_either x y l m = elim (zero_or_one x l) [ inl e ↦ inl e | inr e ↦ inr (omega (arith, e, m)) ]
+
+one_left : (x y : ℕ) → y < 2 → x ≡ 1 → max x y ≡ 1
+one_left x y l e = omega (arith, l, e)
+
+one_right : (x y : ℕ) → x < 2 → y ≡ 1 → max x y ≡ 1
+one_right x y l e = omega (arith, l, e)
+
+pub join_bits : (a b : Mask) (i : ℕ) → (IsIn (join a b) i) ↔ (IsIn a i ⊎ IsIn b i)
+join_bits a b i = (
+  λ h. elim (max_either (bit_at a.0 i) (bit_at b.0 i) (bit_at-lt a.0 i) (sym (bit_at_or a.0 b.0 i) ∙ bit_of (bit_or a.0 b.0) i h)) [ inl e ↦ inl (of_bit a.0 i e) | inr e ↦ inr (of_bit b.0 i e) ],
+  λ h. of_bit (bit_or a.0 b.0) i (bit_at_or a.0 b.0 i ∙ elim h [ inl p ↦ one_left (bit_at a.0 i) (bit_at b.0 i) (bit_at-lt b.0 i) (bit_of a.0 i p) | inr q ↦ one_right (bit_at a.0 i) (bit_at b.0 i) (bit_at-lt a.0 i) (bit_of b.0 i q) ]),
 )

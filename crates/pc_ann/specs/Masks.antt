@@ -30,6 +30,10 @@ without_number m i = record { 0 = m.0 - bit_and m.0 (2 ^ i) }
 abbrev pub meet : Mask → Mask → Mask
 meet a b = record { 0 = bit_and a.0 b.0 }
 
+-- The numbers that either mask has.
+abbrev pub join : Mask → Mask → Mask
+join a b = record { 0 = bit_or a.0 b.0 }
+
 -- The second mask has all numbers of the first.
 abbrev pub within : Mask → Mask → Bool
 within a b = nat_eq (bit_and a.0 b.0) a.0

@@ -50,6 +50,14 @@ impl Mask {
         Mask(self.0 & other.0)
     }
 
+    /// The numbers that either set has.
+    pub fn join(self, other: Mask) -> Mask
+        ensures value { result ≡ spec.join self other }
+        ensures bits { (i : ℕ) → (spec.IsIn result i) ↔ (spec.IsIn self i ⊎ spec.IsIn other i) }
+    {
+        Mask(self.0 | other.0)
+    }
+
     /// Whether the other set has all numbers of this one.
     #[tactic(auto, using(crate::specs::MaskLaws::within_bits))]
     pub fn is_within(self, other: Mask) -> bool

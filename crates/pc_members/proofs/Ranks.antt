@@ -100,7 +100,7 @@ found_from x (y ∷ xs) at k h = by (bytes_eq x y) refl (λ j g. found_from x xs
     by false e rest (suc k) g = rest k g
 
 -- In a list of names that differ, a name's number is its place.
-name_place : (x : Text) (xs : List Text) (k : ℕ) → Differ xs → slice_get xs k ≡ Some x → find_name xs x ≡ Some k
+pub name_place : (x : Text) (xs : List Text) (k : ℕ) → Differ xs → slice_get xs k ≡ Some x → find_name xs x ≡ Some k
 name_place x xs k d h =
     let f = found_from x xs 0 k h in
     let p : position (bytes_eq x) xs ≡ Some f.0 = position_from-zero (bytes_eq x) xs ∙ f.1 in
@@ -141,7 +141,7 @@ pub record Target (file : t.File) (n : Name) : Type 0 where
   pub named : entity_named file.entities n.text ≡ Some entity
 
 module _ (file : t.File) (above : List (List ℕ)) (founded : IsFounded file) (closed : Closes file above) where
-  target : (e : t.Entity) (n : Name) → Has file.entities e → Has e.provides n → Target file n
+  pub target : (e : t.Entity) (n : Name) → Has file.entities e → Has e.provides n → Target file n
   target e n he hn =
       let r = is_trait_named file.entities n.text (founded.provides e n he hn) in
       let g = named_there file.entities n.text r.1.0 r.0 r.1.1 r.3 in
@@ -178,7 +178,7 @@ module _ (file : t.File) (above : List (List ℕ)) (founded : IsFounded file) (c
   with_itself : (i : ℕ) (e : t.Entity) (q : Listed i) → slice_get file.entities i ≡ Some e → is_abstract e.kind ≡ true → Differ ((first_own + i) ∷ q.list)
   with_itself i e q h is = with_one (first_own + i) q.list (ascends_differ q.list q.is_above.0) (λ b. founded.straight (first_own + i) (e, number_at file i e h, is, (q.is_above.1 (first_own + i)).0 b))
 
-  rank_less : (i j : ℕ) (e f : t.Entity) → slice_get file.entities i ≡ Some e → slice_get file.entities j ≡ Some f → is_abstract f.kind ≡ true → Names file (first_own + i) (first_own + j) → rank_at above j < rank_at above i
+  pub rank_less : (i j : ℕ) (e f : t.Entity) → slice_get file.entities i ≡ Some e → slice_get file.entities j ≡ Some f → is_abstract f.kind ≡ true → Names file (first_own + i) (first_own + j) → rank_at above j < rank_at above i
   rank_less i j e f he hf is n =
       let p = listed i (get_below file.entities i e he) in
       let q = listed j (get_below file.entities j f hf) in
@@ -201,15 +201,15 @@ module _ (file : t.File) (above : List (List ℕ)) (founded : IsFounded file) (c
 
   -- ---- the methods of a trait
 
-  each_same : (f g : t.Entity → List t.Method) (ns : List Name) → ((n : Name) → Has ns n → of_entity f (entity_named file.entities n.text) ≡ of_entity g (entity_named file.entities n.text)) → of_each f file.entities ns ≡ of_each g file.entities ns
+  pub each_same : (f g : t.Entity → List t.Method) (ns : List Name) → ((n : Name) → Has ns n → of_entity f (entity_named file.entities n.text) ≡ of_entity g (entity_named file.entities n.text)) → of_each f file.entities ns ≡ of_each g file.entities ns
   each_same f g [] h = refl
   each_same f g (n ∷ ns) h = rw (h n (0, refl), each_same f g ns (λ m k. h m (has_on n ns m k))) refl
 
-  named_by : (i : ℕ) (e : t.Entity) (n : Name) (q : Target file n) → slice_get file.entities i ≡ Some e → Has e.provides n → Names file (first_own + i) (first_own + q.place)
+  pub named_by : (i : ℕ) (e : t.Entity) (n : Name) (q : Target file n) → slice_get file.entities i ≡ Some e → Has e.provides n → Names file (first_own + i) (first_own + q.place)
   named_by i e n q h hn = (e, number_at file i e h, (n, hn, q.number))
 
   -- From chains as long as the rank on, nothing more is found.
-  steady : (k i : ℕ) (e : t.Entity) → slice_get file.entities i ≡ Some e → rank_at above i < k → trait_methods k file.entities e ≡ trait_methods (suc k) file.entities e
+  pub steady : (k i : ℕ) (e : t.Entity) → slice_get file.entities i ≡ Some e → rank_at above i < k → trait_methods k file.entities e ≡ trait_methods (suc k) file.entities e
   steady zero i e h l = absurd (omega (arith, l))
   steady (suc k) i e h l =
       ap (λ ms. firsts [] (e.methods ++ ms))

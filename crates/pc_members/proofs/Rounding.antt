@@ -26,7 +26,7 @@ knows_none file own table same = record { count = same; known = λ j e h is r. n
     none j (inr p) = no_less _ p.1
 
 -- One place on: what is asked is asked already, or it is this place.
-one_place : {T : Type 0} → (above : List (List ℕ)) (r i j : ℕ) → IsReached above r (i + 1) j → (j ≡ i → rank above j ≡ r → T) → (IsReached above r i j → T) → T
+pub one_place : {T : Type 0} → (above : List (List ℕ)) (r i j : ℕ) → IsReached above r (i + 1) j → (j ≡ i → rank above j ≡ r → T) → (IsReached above r i j → T) → T
 one_place above r i j (inl l) f g = g (inl l)
 one_place {T} above r i j (inr p) f g = by (nat_eq j i) refl
   where
@@ -43,7 +43,7 @@ reach_kept file own r i table other k =
     record { count = k.count; known = λ j f h is q. k.known j f h is (one_place own r i j q (λ e g. absurd (other f (ap (slice_get file.entities) (sym e) ∙ h) is (ap (rank own) (sym e) ∙ g))) (λ x. x)) }
 
 -- The rank among the lists of the file's own entities is that among the lists of all.
-same_rank : (own above : List (List ℕ)) → own ≡ drop first_own above → (i : ℕ) → rank own i ≡ rank_at above i
+pub same_rank : (own above : List (List ℕ)) → own ≡ drop first_own above → (i : ℕ) → rank own i ≡ rank_at above i
 same_rank own above e i = ap (λ o. length (or_nil o)) (ap (λ l. slice_get l i) e ∙ get_drop above first_own i)
 
 pub reach_new : (file : t.File) (entities : List Text) (own : List (List ℕ)) (r i : ℕ) (e : t.Entity) (ms : List Member) (table next : List (List Member)) → entities ≡ entity_names file → ClosesOwn file own → IsFounded file

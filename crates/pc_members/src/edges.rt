@@ -12,8 +12,8 @@ use std::alloc::{AllocError, Global};
 /// How many entities are built in.
 const FIRST_OWN: usize = 6;
 
-// The numbers of those names that are entities.
-fn number_names(
+/// The numbers of those names that are entities.
+pub fn number_names(
     alloc: Global,
     entities: &NameTable,
     names: &[Name],

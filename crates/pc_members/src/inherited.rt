@@ -155,8 +155,8 @@ fn complete_all<'a>(
     Ok(lists)
 }
 
-// The part of a list of all entities that is about those of the file.
-fn own_part(lists: &[List<u32>]) -> &[List<u32>]
+/// The part of a list of all entities that is about those of the file.
+pub fn own_part(lists: &[List<u32>]) -> &[List<u32>]
     requires { first_own ≤ length lists.now }
     ensures { result.now ≡ drop first_own lists.now }
 {

@@ -15,9 +15,10 @@ mod texts;
 mod traits;
 
 pub use constructors::{has_added, is_new};
-pub use edges::list_edges;
-pub use inherited::list_members;
+pub use edges::{list_edges, number_names};
+pub use inherited::{list_members, own_part};
 pub use member::Member;
 pub use reach::close;
 pub use table::NameTable;
-pub use texts::add_texts;
+pub use texts::{add_methods, add_texts};
+pub use traits::rank_of;

@@ -21,8 +21,8 @@ fn add_fields(table: &mut NameTable, fields: &[FieldDef]) -> Result<(), AllocErr
     Ok(())
 }
 
-// The names of these methods go behind the others, each once.
-fn add_methods(table: &mut NameTable, methods: &[MethodDef]) -> Result<(), AllocError>
+/// The names of these methods go behind the others, each once. After an `Err` some of them are there.
+pub fn add_methods(table: &mut NameTable, methods: &[MethodDef]) -> Result<(), AllocError>
     ensures { OnOk result (table.new ≡ with_names table.old (method_texts (map method_view methods.now))) }
 {
     for method in methods {

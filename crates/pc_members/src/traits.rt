@@ -107,8 +107,8 @@ fn gather<'a>(
     Ok(list)
 }
 
-// How many entities are above that at this place of the file.
-fn rank_of(above: &[List<u32>], place: usize) -> usize
+/// How many entities are above that at this place of the file.
+pub fn rank_of(above: &[List<u32>], place: usize) -> usize
     ensures { result ≡ spec.rank above.now place }
 {
     match above.get(place) {

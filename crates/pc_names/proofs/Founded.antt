@@ -7,7 +7,6 @@ use Rattle.std.proofs.lemmas.List.{length_push, append_assoc}
 use Rattle.pc_tree.specs.declared.names.Name.{Name}
 use Rattle.pc_tree.specs.Tree as t
 use Rattle.pc_lists.specs.Places.{Has, Differ}
-use Rattle.pc_lists.proofs.Bools.{true_false}
 use Rattle.pc_lists.proofs.Elements.{differ_none}
 use Rattle.pc_lists.proofs.Cuts.{nil_left, nil_right}
 use Rattle.pc_names.specs.declared.fault.NameFault.{NameFault}
@@ -17,11 +16,8 @@ use Rattle.pc_members.specs.Words.{Text, is_among, built_in_names, texts_of, ent
 use Rattle.pc_members.specs.Tables.{trait_names}
 use Rattle.pc_members.specs.Chains.{first_own, Closes, IsFounded}
 use Rattle.pc_members.proofs.Differences.{differ_push, among_has}
-use Rattle.pc_names.specs.Faults.{where_, either, provided_faults, added_faults, field_faults, method_faults, entity_faults, entities_faults, entity_name_faults, declaration_faults, entity_limit}
-use Rattle.pc_members.specs.Words.{field_texts}
+use Rattle.pc_names.specs.Faults.{where_, either, provided_faults, added_faults, entity_faults, entities_faults, entity_name_faults, declaration_faults, entity_limit}
 use Rattle.pc_names.specs.Cycles.{cycle_faults}
-use Rattle.pc_names.specs.Counts.{count_faults}
-use Rattle.pc_names.specs.Mains.{main_faults}
 use Rattle.pc_names.specs.Names.{NamesData, Collected}
 use Rattle.pc_names.proofs.CycleFirsts.{no_cycle}
 

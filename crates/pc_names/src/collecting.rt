@@ -1,5 +1,5 @@
 //! The names of a file, or the first thing that is wrong with them.
-ghost use Rattle.std.specs.Prelude.{◌≡◌, ◌+◌, ◌<◌, ◌≤◌, ◌^◌, [], drop, length, IfOk, IfErr};
+ghost use Rattle.std.specs.Prelude.{◌≡◌, ◌+◌, ◌<◌, ◌^◌, [], drop, length, IfOk, IfErr};
 ghost use Rattle.pc_tree.specs.View.{file_view};
 ghost use Rattle.pc_members.specs.Chains.{first_own, edges_of, Closes, IsFounded};
 ghost use Rattle.pc_names.specs.Cycles.{cycle_faults};
@@ -17,7 +17,8 @@ use crate::mains::check_main;
 use crate::names::Names;
 use crate::texts::table_texts;
 use pc_caps::List;
-use pc_members::{NameTable, close, list_edges, list_members};
+use pc_counts::count_members;
+use pc_members::{NameTable, close, list_edges, own_part};
 use pc_tree::File;
 use std::alloc::{AllocError, Global};
 
@@ -48,14 +49,6 @@ fn list_above(
     close(alloc, edges.as_slice())
 }
 
-// The part of a list of all entities that is about those of the file.
-fn own_part(lists: &[List<u32>]) -> &[List<u32>]
-    requires { first_own ≤ length lists.now }
-    ensures { result.now ≡ drop first_own lists.now }
-{
-    &lists[FIRST_OWN as usize..]
-}
-
 // No trait or interface of a file stands above itself, where these are the entities above each.
 #[tactic(auto, using(crate::proofs::Passes::own_lengths, crate::proofs::Passes::own_few))]
 fn check_own_cycles(file: &File, above: &[List<u32>]) -> Result<(), NameFault>
@@ -79,8 +72,8 @@ fn check_members(
     requires founded { IsFounded (file_view file.now) }
     ensures { Tells result (member_faults (file_view file.now).entities) }
 {
-    let members = list_members(alloc, entities, above, file)?;
-    check_counts(file.entities.as_slice(), members.as_slice())?;
+    let counts = count_members(alloc, entities, above, file)?;
+    check_counts(file.entities.as_slice(), counts.as_slice())?;
     check_main(file.entities.as_slice())
 }
 

@@ -10,7 +10,7 @@ use std::alloc::AllocError;
 pub enum Which {
     /// More than 1,000 entities.
     Entities,
-    /// More than 10,000 methods, with those that traits inherit and constructors that are added.
+    /// More than 10,000 methods, with those that entities take over and constructors that are added.
     Methods,
     /// More than 64 slots of a method.
     Slots,

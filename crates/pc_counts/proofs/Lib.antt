@@ -1,0 +1,13 @@
+pub mod Sets
+pub mod Truths
+pub mod Sights
+pub mod Seen
+pub mod Places
+pub mod Blocks
+pub mod Fills
+pub mod Picks
+pub mod Ones
+pub mod Windows
+pub mod Covers
+pub mod Totals
+pub mod Planned
