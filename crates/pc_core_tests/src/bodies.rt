@@ -1,11 +1,25 @@
 //! Bodies, with all their nodes, and long ones.
-use crate::program::{Written, added_nodes, nodes_of};
+use crate::program::{KnownRow, METHOD, Written, program_of};
 use crate::rows::{Row, place_of_difference};
 use pc_caps::List;
 use pc_core::Node;
-use pc_emit::EmitStop;
-use pc_tree::MethodWord;
-use std::alloc::Global;
+use pc_emit::{EmitStop, emit, emit_added};
+use pc_tree::{EntityKind, MethodWord};
+use std::alloc::{AllocError, Global};
+
+// The entities of the language, and then `class C`, `actor A`, `primitive P` and `trait T`.
+const ENTITIES: [KnownRow; 10] = [
+    (b"None", EntityKind::Primitive, &[]),
+    (b"U64", EntityKind::Primitive, &[]),
+    (b"Bool", EntityKind::Primitive, &[]),
+    (b"String", EntityKind::Primitive, &[]),
+    (b"Env", EntityKind::Class, &[]),
+    (b"OutStream", EntityKind::Actor, &[]),
+    (b"C", EntityKind::Class, &[(b"create", 1), (b"make", 2)]),
+    (b"A", EntityKind::Actor, &[(b"create", 3)]),
+    (b"P", EntityKind::Primitive, &[]),
+    (b"T", EntityKind::Trait, &[]),
+];
 
 // A constructor of one parameter, behind an initial value.
 const FIRST: Written = Written {
@@ -121,6 +135,36 @@ const ADDED_ROWS: [Row; 6] = [
     ("body", 0, &[4], 0, (300, 304)),
 ];
 
+// What an added `create` is put for.
+const ADDED: Written = Written {
+    word: MethodWord::New,
+    number: 8,
+    params: &[],
+    gives: false,
+    slots: &[],
+    initial: b"7",
+};
+
+// The nodes of a body behind those that are there, and its number.
+fn nodes_of(
+    alloc: Global,
+    of: &Written,
+    text: &[u8],
+    nodes: &mut List<Node>,
+) -> Result<Option<u32>, EmitStop> {
+    let program = program_of(alloc, &ENTITIES, of, text)?;
+    let body = emit(
+        alloc,
+        &program.context,
+        of.number,
+        nodes,
+        program.fields.as_slice(),
+        &program.method,
+    );
+    drop(program);
+    body
+}
+
 // How far a body stands as in these rows, and its number.
 fn stands(
     alloc: Global,
@@ -136,96 +180,105 @@ fn stands(
 
 #[test]
 fn a_constructor_with_sugar(rt: HostRuntime) {
-    let stands = stands(rt.alloc(), &FIRST, FIRST_TEXT, &FIRST_ROWS);
-    assert_eq!(rt; stands, Ok((Some(16), 17)));
+    assert!(rt; stands(rt.alloc(), &FIRST, FIRST_TEXT, &FIRST_ROWS) == Ok((Some(16), 17)));
 }
 
 #[test]
 fn a_choice_without_an_else(rt: HostRuntime) {
-    let stands = stands(rt.alloc(), &SECOND, SECOND_TEXT, &SECOND_ROWS);
-    assert_eq!(rt; stands, Ok((Some(21), 22)));
+    assert!(rt; stands(rt.alloc(), &SECOND, SECOND_TEXT, &SECOND_ROWS) == Ok((Some(21), 22)));
 }
 
 #[test]
 fn a_recover_and_a_group(rt: HostRuntime) {
-    let stands = stands(rt.alloc(), &THIRD, THIRD_TEXT, &THIRD_ROWS);
-    assert_eq!(rt; stands, Ok((Some(19), 20)));
+    assert!(rt; stands(rt.alloc(), &THIRD, THIRD_TEXT, &THIRD_ROWS) == Ok((Some(19), 20)));
 }
 
 #[test]
 fn no_body(rt: HostRuntime) {
-    let stands = stands(rt.alloc(), &THIRD, b"", &[]);
-    assert_eq!(rt; stands, Ok((None, 0)));
+    assert!(rt; stands(rt.alloc(), &THIRD, b"", &[]) == Ok((None, 0)));
+}
+
+// The nodes of the added `create` behind those that are there, and the number of its body.
+fn added_nodes(alloc: Global, nodes: &mut List<Node>) -> Result<u32, EmitStop> {
+    let program = program_of(alloc, &ENTITIES, &ADDED, b"")?;
+    let body = emit_added(
+        alloc,
+        &program.context,
+        ADDED.number,
+        nodes,
+        program.fields.as_slice(),
+        METHOD,
+    );
+    drop(program);
+    body
+}
+
+// How far the added `create` stands as in its rows, and the number of its body.
+fn added_stands(alloc: Global) -> Result<(u32, usize), EmitStop> {
+    let mut nodes: List<Node> = List::new(alloc);
+    let body = added_nodes(alloc, &mut nodes)?;
+    let place = place_of_difference(nodes.as_slice(), ADDED.number, &ADDED_ROWS);
+    Ok((body, place))
 }
 
 #[test]
 fn an_added_constructor(rt: HostRuntime) {
-    let mut nodes: List<Node> = List::new(rt.alloc());
-    let body = added_nodes(rt.alloc(), 8, b"7", &mut nodes);
-    assert_eq!(rt; body, Ok(5));
-    let place = place_of_difference(nodes.as_slice(), 8, &ADDED_ROWS);
-    assert_eq!(rt; place, 6);
+    assert!(rt; added_stands(rt.alloc()) == Ok((5, 6)));
 }
 
-// The body of a text of a beginning, so many middles, and an end.
-fn long_body(
-    alloc: Global,
-    begin: &[u8],
-    middle: &[u8],
-    times: u32,
-    end: &[u8],
-) -> Result<Option<u32>, EmitStop> {
+// A text: its beginning, its middle, how many times that stands there, and its end.
+type Long = (&'static [u8], &'static [u8], u32, &'static [u8]);
+
+fn put_all(text: &mut Vec<u8>, row: Long) -> Result<(), AllocError> {
+    text.extend_from_slice(row.0)?;
+    for _ in 0..row.2 {
+        text.extend_from_slice(row.1)?;
+    }
+    text.extend_from_slice(row.3)
+}
+
+fn long_text(alloc: Global, row: Long) -> Result<Vec<u8>, AllocError> {
     let mut text: Vec<u8> = Vec::new(alloc);
-    extend(&mut text, begin)?;
-    for _ in 0..times {
-        extend(&mut text, middle)?;
-    }
-    extend(&mut text, end)?;
-    let mut nodes: List<Node> = List::new(alloc);
-    nodes_of(alloc, &THIRD, &text, &mut nodes)
+    put_all(&mut text, row)?;
+    Ok(text)
 }
 
-fn extend(text: &mut Vec<u8>, more: &[u8]) -> Result<(), EmitStop> {
-    match text.extend_from_slice(more) {
-        Ok(()) => Ok(()),
-        Err(_) => Err(EmitStop::Memory),
-    }
+fn body_of(alloc: Global, text: &[u8]) -> Result<Option<u32>, EmitStop> {
+    let mut nodes: List<Node> = List::new(alloc);
+    nodes_of(alloc, &THIRD, text, &mut nodes)
+}
+
+// The body of a long text.
+fn long_body(alloc: Global, row: Long) -> Result<Option<u32>, EmitStop> {
+    let text = long_text(alloc, row)?;
+    body_of(alloc, &text)
 }
 
 // The term `1` and so many operators have two nodes each and one more, with a sequence and a body around them.
 #[test]
 fn a_long_chain_of_operators(rt: HostRuntime) {
-    let body = long_body(rt.alloc(), b"1", b"+1", 99_998, b"");
-    assert_eq!(rt; body, Ok(Some(199_998)));
+    assert!(rt; long_body(rt.alloc(), (b"1", b"+1", 99_998, b"")) == Ok(Some(199_998)));
 }
 
 #[test]
 fn a_chain_of_operators_that_is_too_long(rt: HostRuntime) {
-    let body = long_body(rt.alloc(), b"1", b"+1", 99_999, b"");
-    assert_eq!(rt; body, Err(EmitStop::Full));
+    assert!(rt; long_body(rt.alloc(), (b"1", b"+1", 99_999, b"")) == Err(EmitStop::Full));
 }
 
 #[test]
 fn a_long_chain_of_calls(rt: HostRuntime) {
-    let body = long_body(rt.alloc(), b"1", b".m()", 49_998, b"");
-    assert_eq!(rt; body, Ok(Some(50_000)));
+    assert!(rt; long_body(rt.alloc(), (b"1", b".m()", 49_998, b"")) == Ok(Some(50_000)));
 }
 
 // Each arm has six nodes but the first, which has five, and the missing `else` two.
+const ARMS: Long = (b"if 1 then 1 ", b"elseif 1 then 1 ", 30_000, b"end");
+
 #[test]
 fn a_long_chain_of_arms(rt: HostRuntime) {
-    let body = long_body(
-        rt.alloc(),
-        b"if 1 then 1 ",
-        b"elseif 1 then 1 ",
-        30_000,
-        b"end",
-    );
-    assert_eq!(rt; body, Ok(Some(180_008)));
+    assert!(rt; long_body(rt.alloc(), ARMS) == Ok(Some(180_008)));
 }
 
 #[test]
 fn a_long_sequence(rt: HostRuntime) {
-    let body = long_body(rt.alloc(), b"1", b";1", 99_998, b"");
-    assert_eq!(rt; body, Ok(Some(100_000)));
+    assert!(rt; long_body(rt.alloc(), (b"1", b";1", 99_998, b"")) == Ok(Some(100_000)));
 }

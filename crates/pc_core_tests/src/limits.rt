@@ -1,11 +1,10 @@
 //! Files at the limits of what may be named, and long chains.
 use crate::parts::{digit, name_at, span, type_at};
-use crate::rows_of_files::{MAIN, entity_of};
+use crate::rows_of_files::{EntityRow, MAIN, entity_of};
 use pc_caps::{List, Span};
 use pc_names::{NameFault, Names, Which, collect};
-use pc_tree::{EntityKind, FieldDef, File, MethodDef, MethodWord, Name, Seq};
+use pc_tree::{Entity, EntityKind, FieldDef, File, MethodDef, MethodWord, Name, Seq};
 use std::alloc::{AllocError, Global};
-use std::test::Fail;
 
 fn numbered_span(number: u32) -> Span {
     let start = number.saturating_mul(10);
@@ -24,90 +23,277 @@ fn numbered(alloc: Global, letter: u8, number: u32) -> Result<Name, AllocError> 
     name_at(alloc, &text, numbered_span(number))
 }
 
-fn numbered_fields(alloc: Global, count: u32) -> Result<List<FieldDef>, AllocError> {
-    let mut fields = List::new(alloc);
-    for number in 0..count {
-        fields.push(FieldDef {
-            fixed: false,
-            name: numbered(alloc, b'f', number)?,
-            ty: type_at(alloc, b"U64", span(0, 3), None)?,
-            value: None,
-        })?;
-    }
-    Ok(fields)
+fn numbered_field(alloc: Global, number: u32) -> Result<FieldDef, AllocError> {
+    Ok(FieldDef {
+        fixed: false,
+        name: numbered(alloc, b'f', number)?,
+        ty: type_at(alloc, b"U64", span(0, 3), None)?,
+        value: None,
+    })
 }
 
-/// The functions of so many numbers, without bodies.
-fn numbered_methods(alloc: Global, count: u32) -> Result<List<MethodDef>, AllocError> {
-    let mut methods = List::new(alloc);
+fn add_fields(alloc: Global, fields: &mut List<FieldDef>, count: u32) -> Result<(), AllocError> {
     for number in 0..count {
-        methods.push(numbered_method(alloc, number, None)?)?;
+        fields.push(numbered_field(alloc, number)?)?;
     }
-    Ok(methods)
+    Ok(())
 }
 
-/// The same, each with a body of no items.
-fn numbered_bodies(alloc: Global, count: u32) -> Result<List<MethodDef>, AllocError> {
-    let mut methods = List::new(alloc);
-    for number in 0..count {
-        let body = Seq {
-            items: List::new(alloc),
-            span: numbered_span(number),
-        };
-        methods.push(numbered_method(alloc, number, Some(body))?)?;
-    }
-    Ok(methods)
-}
-
-fn numbered_method(alloc: Global, number: u32, body: Option<Seq>) -> Result<MethodDef, AllocError> {
+/// A function, without a body.
+fn numbered_method(alloc: Global, number: u32) -> Result<MethodDef, AllocError> {
     Ok(MethodDef {
         word: MethodWord::Fun,
         cap: None,
         name: numbered(alloc, b'm', number)?,
         params: List::new(alloc),
         result: None,
-        body,
+        body: None,
     })
 }
 
-/// A class with so many fields, and `Main`.
-fn with_fields(alloc: Global, count: u32) -> Result<File, AllocError> {
-    let mut entities = List::new(alloc);
-    let mut class = entity_of(alloc, &(EntityKind::Class, (b"C", 6), &[], &[], &[]))?;
-    class.fields = numbered_fields(alloc, count)?;
-    entities.push(class)?;
-    entities.push(entity_of(alloc, &MAIN)?)?;
-    Ok(File { entities })
-}
-
-#[test]
-fn fields_at_their_limit(rt: HostRuntime) -> Result<(), Fail> {
-    let file = with_fields(rt.alloc(), 64)?;
-    assert!(rt; collect(rt.alloc(), &file).is_ok());
-    let file = with_fields(rt.alloc(), 65)?;
-    assert!(rt;
-        collect(rt.alloc(), &file).err()
-            == Some(NameFault::TooMany(Which::Fields, numbered_span(64)))
-    );
+fn add_methods(alloc: Global, methods: &mut List<MethodDef>, count: u32) -> Result<(), AllocError> {
+    for number in 0..count {
+        methods.push(numbered_method(alloc, number)?)?;
+    }
     Ok(())
 }
 
-/// `Main`, and a chain of traits so long, of which the last names the first where it is closed.
-fn with_traits(alloc: Global, count: u32, closed: bool) -> Result<File, AllocError> {
-    let mut entities = List::new(alloc);
-    entities.push(entity_of(alloc, &MAIN)?)?;
+/// A function, with a body of no items.
+fn numbered_body(alloc: Global, number: u32) -> Result<MethodDef, AllocError> {
+    Ok(MethodDef {
+        word: MethodWord::Fun,
+        cap: None,
+        name: numbered(alloc, b'm', number)?,
+        params: List::new(alloc),
+        result: None,
+        body: Some(Seq {
+            items: List::new(alloc),
+            span: numbered_span(number),
+        }),
+    })
+}
+
+fn add_bodies(alloc: Global, methods: &mut List<MethodDef>, count: u32) -> Result<(), AllocError> {
     for number in 0..count {
-        let mut link = entity_of(alloc, &(EntityKind::Trait, (b"T", 0), &[], &[], &[]))?;
-        link.name = numbered(alloc, b'T', number)?;
-        if number.saturating_add(1) < count {
-            link.provides
-                .push(numbered(alloc, b'T', number.saturating_add(1))?)?;
-        } else if closed {
-            link.provides.push(numbered(alloc, b'T', 0)?)?;
-        }
-        entities.push(link)?;
+        methods.push(numbered_body(alloc, number)?)?;
     }
+    Ok(())
+}
+
+/// A name of so many bytes.
+fn long_name(alloc: Global, length: u32) -> Result<Name, AllocError> {
+    let mut text = List::new(alloc);
+    for _ in 0..length {
+        text.push(b'L')?;
+    }
+    Ok(Name {
+        text,
+        span: span(0, length),
+    })
+}
+
+/// What an entity has besides what its row says.
+#[derive(Clone, Copy)]
+enum More {
+    Nothing,
+    /// So many fields.
+    Fields(u32),
+    /// So many functions without bodies.
+    Methods(u32),
+    /// So many functions with bodies of no items.
+    Bodies(u32),
+    /// A name of so many bytes.
+    Name(u32),
+}
+
+fn add_more(alloc: Global, entity: &mut Entity, more: More) -> Result<(), AllocError> {
+    match more {
+        More::Nothing => Ok(()),
+        More::Fields(count) => add_fields(alloc, &mut entity.fields, count),
+        More::Methods(count) => add_methods(alloc, &mut entity.methods, count),
+        More::Bodies(count) => add_bodies(alloc, &mut entity.methods, count),
+        More::Name(length) => {
+            entity.name = long_name(alloc, length)?;
+            Ok(())
+        }
+    }
+}
+
+/// An entity.
+type Row = (EntityRow, More);
+
+fn entity(alloc: Global, row: &Row) -> Result<Entity, AllocError> {
+    let mut entity = entity_of(alloc, &row.0)?;
+    add_more(alloc, &mut entity, row.1)?;
+    Ok(entity)
+}
+
+fn add_rows(alloc: Global, entities: &mut List<Entity>, rows: &[Row]) -> Result<(), AllocError> {
+    for row in rows {
+        entities.push(entity(alloc, row)?)?;
+    }
+    Ok(())
+}
+
+fn file(alloc: Global, rows: &[Row]) -> Result<File, AllocError> {
+    let mut entities = List::new(alloc);
+    add_rows(alloc, &mut entities, rows)?;
     Ok(File { entities })
+}
+
+fn fault_in(alloc: Global, file: &File) -> Option<NameFault> {
+    collect(alloc, file).err()
+}
+
+// What is told of the names of a file.
+fn told(alloc: Global, rows: &[Row]) -> Result<Option<NameFault>, AllocError> {
+    let file = file(alloc, rows)?;
+    Ok(fault_in(alloc, &file))
+}
+
+/// A class with so many fields, and `Main`.
+fn with_fields(count: u32) -> [Row; 2] {
+    [
+        (
+            (EntityKind::Class, (b"C", 6), &[], &[], &[]),
+            More::Fields(count),
+        ),
+        (MAIN, More::Nothing),
+    ]
+}
+
+#[test]
+fn fields_at_their_limit(rt: HostRuntime) {
+    let fault = NameFault::TooMany(Which::Fields, numbered_span(64));
+    assert!(rt; told(rt.alloc(), &with_fields(64)) == Ok(None));
+    assert!(rt; told(rt.alloc(), &with_fields(65)) == Ok(Some(fault)));
+}
+
+/// `Main` with one method; a trait with a thousand; one that takes them over; a class with an added constructor; and a
+/// primitive with so many.
+fn with_methods(count: u32) -> [Row; 5] {
+    [
+        (MAIN, More::Nothing),
+        (
+            (EntityKind::Trait, (b"A", 6), &[], &[], &[]),
+            More::Methods(1_000),
+        ),
+        (
+            (EntityKind::Trait, (b"B", 26), &[(b"A", 31)], &[], &[]),
+            More::Nothing,
+        ),
+        (
+            (EntityKind::Class, (b"C", 46), &[(b"A", 51)], &[], &[]),
+            More::Nothing,
+        ),
+        (
+            (EntityKind::Primitive, (b"D", 66), &[], &[], &[]),
+            More::Methods(count),
+        ),
+    ]
+}
+
+#[test]
+fn methods_at_their_limit(rt: HostRuntime) {
+    let fault = NameFault::TooMany(Which::Methods, span(66, 67));
+    assert!(rt; told(rt.alloc(), &with_methods(7_998)) == Ok(None));
+    assert!(rt; told(rt.alloc(), &with_methods(7_999)) == Ok(Some(fault)));
+}
+
+/// `Main` with one method, a primitive with so many, a trait with a thousand bodies, and a class that takes them over, with an
+/// added constructor.
+fn with_bodies(count: u32) -> [Row; 4] {
+    [
+        (MAIN, More::Nothing),
+        (
+            (EntityKind::Primitive, (b"D", 6), &[], &[], &[]),
+            More::Methods(count),
+        ),
+        (
+            (EntityKind::Trait, (b"A", 26), &[], &[], &[]),
+            More::Bodies(1_000),
+        ),
+        (
+            (EntityKind::Class, (b"C", 46), &[(b"A", 51)], &[], &[]),
+            More::Nothing,
+        ),
+    ]
+}
+
+#[test]
+fn methods_taken_over_at_their_limit(rt: HostRuntime) {
+    let fault = NameFault::TooMany(Which::Methods, span(46, 47));
+    assert!(rt; told(rt.alloc(), &with_bodies(7_998)) == Ok(None));
+    assert!(rt; told(rt.alloc(), &with_bodies(7_999)) == Ok(Some(fault)));
+}
+
+/// Two classes with names of so many bytes, and `Main`.
+fn with_long_names(one: u32, other: u32) -> [Row; 3] {
+    [
+        (
+            (EntityKind::Class, (b"C", 6), &[], &[], &[]),
+            More::Name(one),
+        ),
+        (
+            (EntityKind::Class, (b"D", 26), &[], &[], &[]),
+            More::Name(other),
+        ),
+        (MAIN, More::Nothing),
+    ]
+}
+
+#[test]
+fn long_names(rt: HostRuntime) {
+    let fault = NameFault::Double(span(0, 200_000));
+    assert!(rt; told(rt.alloc(), &with_long_names(200_000, 199_999)) == Ok(None));
+    assert!(rt; told(rt.alloc(), &with_long_names(200_000, 200_000)) == Ok(Some(fault)));
+}
+
+/// A chain of traits: how many they are, whether the last names the first, and how many methods each has.
+type Chain = (u32, bool, u32);
+
+fn next_of(number: u32, chain: Chain) -> Option<u32> {
+    if number.saturating_add(1) < chain.0 {
+        Some(number.saturating_add(1))
+    } else if chain.1 {
+        Some(0)
+    } else {
+        None
+    }
+}
+
+fn set_link(alloc: Global, link: &mut Entity, number: u32, chain: Chain) -> Result<(), AllocError> {
+    link.name = numbered(alloc, b'T', number)?;
+    if let Some(next) = next_of(number, chain) {
+        link.provides.push(numbered(alloc, b'T', next)?)?;
+    }
+    add_methods(alloc, &mut link.methods, chain.2)
+}
+
+fn link(alloc: Global, number: u32, chain: Chain) -> Result<Entity, AllocError> {
+    let mut link = entity_of(alloc, &(EntityKind::Trait, (b"T", 0), &[], &[], &[]))?;
+    set_link(alloc, &mut link, number, chain)?;
+    Ok(link)
+}
+
+fn add_links(alloc: Global, entities: &mut List<Entity>, chain: Chain) -> Result<(), AllocError> {
+    for number in 0..chain.0 {
+        entities.push(link(alloc, number, chain)?)?;
+    }
+    Ok(())
+}
+
+/// `Main`, and a chain of traits.
+fn chain_file(alloc: Global, chain: Chain) -> Result<File, AllocError> {
+    let mut file = file(alloc, &[(MAIN, More::Nothing)])?;
+    add_links(alloc, &mut file.entities, chain)?;
+    Ok(file)
+}
+
+// What is told of the names of a chain.
+fn told_of_chain(alloc: Global, chain: Chain) -> Result<Option<NameFault>, AllocError> {
+    let file = chain_file(alloc, chain)?;
+    Ok(fault_in(alloc, &file))
 }
 
 fn above_count(names: &Names, entity: u32) -> Option<usize> {
@@ -129,138 +315,28 @@ fn is_whole_chain(names: &Names) -> bool {
         && names.text(b"create") == Some(2)
 }
 
-#[test]
-fn entities_at_their_limit(rt: HostRuntime) -> Result<(), Fail> {
-    let file = with_traits(rt.alloc(), 999, false)?;
-    match collect(rt.alloc(), &file) {
-        Ok(names) => assert!(rt; is_whole_chain(&names)),
-        Err(_) => assert!(rt; false),
+fn has_whole_chain(alloc: Global, file: &File) -> bool {
+    match collect(alloc, file) {
+        Ok(names) => is_whole_chain(&names),
+        Err(_) => false,
     }
-    let file = with_traits(rt.alloc(), 1_000, false)?;
-    assert!(rt;
-        collect(rt.alloc(), &file).err()
-            == Some(NameFault::TooMany(Which::Entities, numbered_span(999)))
-    );
-    let file = with_traits(rt.alloc(), 999, true)?;
-    assert!(rt; collect(rt.alloc(), &file).err() == Some(NameFault::Cycle(numbered_span(0))));
-    Ok(())
 }
 
-/// `Main` with one method; a trait with a thousand; one that takes them over; a class with an added constructor; and a
-/// primitive with so many.
-fn with_methods(alloc: Global, count: u32) -> Result<File, AllocError> {
-    let mut entities = List::new(alloc);
-    entities.push(entity_of(alloc, &MAIN)?)?;
-    let mut above = entity_of(alloc, &(EntityKind::Trait, (b"A", 6), &[], &[], &[]))?;
-    above.methods = numbered_methods(alloc, 1_000)?;
-    entities.push(above)?;
-    entities.push(entity_of(
-        alloc,
-        &(EntityKind::Trait, (b"B", 26), &[(b"A", 31)], &[], &[]),
-    )?)?;
-    entities.push(entity_of(
-        alloc,
-        &(EntityKind::Class, (b"C", 46), &[(b"A", 51)], &[], &[]),
-    )?)?;
-    let mut last = entity_of(alloc, &(EntityKind::Primitive, (b"D", 66), &[], &[], &[]))?;
-    last.methods = numbered_methods(alloc, count)?;
-    entities.push(last)?;
-    Ok(File { entities })
+fn is_whole(alloc: Global, chain: Chain) -> Result<bool, AllocError> {
+    let file = chain_file(alloc, chain)?;
+    Ok(has_whole_chain(alloc, &file))
 }
 
 #[test]
-fn methods_at_their_limit(rt: HostRuntime) -> Result<(), Fail> {
-    let file = with_methods(rt.alloc(), 7_998)?;
-    assert!(rt; collect(rt.alloc(), &file).is_ok());
-    let file = with_methods(rt.alloc(), 7_999)?;
-    assert!(rt;
-        collect(rt.alloc(), &file).err() == Some(NameFault::TooMany(Which::Methods, span(66, 67)))
-    );
-    Ok(())
-}
-
-/// `Main` with one method, a primitive with so many, a trait with a thousand bodies, and a class that takes them over, with an
-/// added constructor.
-fn with_bodies(alloc: Global, count: u32) -> Result<File, AllocError> {
-    let mut entities = List::new(alloc);
-    entities.push(entity_of(alloc, &MAIN)?)?;
-    let mut first = entity_of(alloc, &(EntityKind::Primitive, (b"D", 6), &[], &[], &[]))?;
-    first.methods = numbered_methods(alloc, count)?;
-    entities.push(first)?;
-    let mut above = entity_of(alloc, &(EntityKind::Trait, (b"A", 26), &[], &[], &[]))?;
-    above.methods = numbered_bodies(alloc, 1_000)?;
-    entities.push(above)?;
-    entities.push(entity_of(
-        alloc,
-        &(EntityKind::Class, (b"C", 46), &[(b"A", 51)], &[], &[]),
-    )?)?;
-    Ok(File { entities })
+fn entities_at_their_limit(rt: HostRuntime) {
+    let fault = NameFault::TooMany(Which::Entities, numbered_span(999));
+    let cycle = NameFault::Cycle(numbered_span(0));
+    assert!(rt; is_whole(rt.alloc(), (999, false, 0)) == Ok(true));
+    assert!(rt; told_of_chain(rt.alloc(), (1_000, false, 0)) == Ok(Some(fault)));
+    assert!(rt; told_of_chain(rt.alloc(), (999, true, 0)) == Ok(Some(cycle)));
 }
 
 #[test]
-fn methods_taken_over_at_their_limit(rt: HostRuntime) -> Result<(), Fail> {
-    let file = with_bodies(rt.alloc(), 7_998)?;
-    assert!(rt; collect(rt.alloc(), &file).is_ok());
-    let file = with_bodies(rt.alloc(), 7_999)?;
-    assert!(rt;
-        collect(rt.alloc(), &file).err() == Some(NameFault::TooMany(Which::Methods, span(46, 47)))
-    );
-    Ok(())
-}
-
-/// A name of so many bytes.
-fn long_name(alloc: Global, length: u32) -> Result<Name, AllocError> {
-    let mut text = List::new(alloc);
-    for _ in 0..length {
-        text.push(b'L')?;
-    }
-    Ok(Name {
-        text,
-        span: span(0, length),
-    })
-}
-
-fn with_long_names(alloc: Global, one: u32, other: u32) -> Result<File, AllocError> {
-    let mut entities = List::new(alloc);
-    let mut first = entity_of(alloc, &(EntityKind::Class, (b"C", 6), &[], &[], &[]))?;
-    first.name = long_name(alloc, one)?;
-    entities.push(first)?;
-    let mut second = entity_of(alloc, &(EntityKind::Class, (b"D", 26), &[], &[], &[]))?;
-    second.name = long_name(alloc, other)?;
-    entities.push(second)?;
-    entities.push(entity_of(alloc, &MAIN)?)?;
-    Ok(File { entities })
-}
-
-#[test]
-fn long_names(rt: HostRuntime) -> Result<(), Fail> {
-    let file = with_long_names(rt.alloc(), 200_000, 199_999)?;
-    assert!(rt; collect(rt.alloc(), &file).is_ok());
-    let file = with_long_names(rt.alloc(), 200_000, 200_000)?;
-    assert!(rt; collect(rt.alloc(), &file).err() == Some(NameFault::Double(span(0, 200_000))));
-    Ok(())
-}
-
-/// `Main`, and a chain of traits so long, each with the same ten methods.
-fn with_same_methods(alloc: Global, count: u32) -> Result<File, AllocError> {
-    let mut entities = List::new(alloc);
-    entities.push(entity_of(alloc, &MAIN)?)?;
-    for number in 0..count {
-        let mut link = entity_of(alloc, &(EntityKind::Trait, (b"T", 0), &[], &[], &[]))?;
-        link.name = numbered(alloc, b'T', number)?;
-        link.methods = numbered_methods(alloc, 10)?;
-        if number.saturating_add(1) < count {
-            link.provides
-                .push(numbered(alloc, b'T', number.saturating_add(1))?)?;
-        }
-        entities.push(link)?;
-    }
-    Ok(File { entities })
-}
-
-#[test]
-fn methods_along_a_chain(rt: HostRuntime) -> Result<(), Fail> {
-    let file = with_same_methods(rt.alloc(), 200)?;
-    assert!(rt; collect(rt.alloc(), &file).is_ok());
-    Ok(())
+fn methods_along_a_chain(rt: HostRuntime) {
+    assert!(rt; told_of_chain(rt.alloc(), (200, false, 10)) == Ok(None));
 }

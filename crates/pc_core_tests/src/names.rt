@@ -3,9 +3,8 @@ use crate::parts::span;
 use crate::rows_of_files::{CREATE, ENV, EntityRow, MAIN, MethodRow, Typed, file_of};
 use pc_caps::Cap;
 use pc_names::{NameFault, collect};
-use pc_tree::{EntityKind, MethodWord};
+use pc_tree::{EntityKind, File, MethodWord};
 use std::alloc::{AllocError, Global};
-use std::test::Fail;
 
 const F: Typed = ((b"f", 11), (b"U64", 14), None);
 
@@ -421,31 +420,35 @@ const MAINS: [Row; 9] = [
     ),
 ];
 
+fn fault_in(alloc: Global, file: &File) -> Option<NameFault> {
+    collect(alloc, file).err()
+}
+
 fn has_answer(alloc: Global, row: &Row) -> Result<bool, AllocError> {
     let file = file_of(alloc, row.0)?;
-    Ok(collect(alloc, &file).err() == fault_of(row.1))
+    Ok(fault_in(alloc, &file) == fault_of(row.1))
+}
+
+fn have_answers(alloc: Global, rows: &[Row]) -> Result<bool, AllocError> {
+    for row in rows {
+        if !has_answer(alloc, row)? {
+            return Ok(false);
+        }
+    }
+    Ok(true)
 }
 
 #[test]
-fn entities_and_chains(rt: HostRuntime) -> Result<(), Fail> {
-    for row in &ENTITIES {
-        assert!(rt; has_answer(rt.alloc(), row)?);
-    }
-    Ok(())
+fn entities_and_chains(rt: HostRuntime) {
+    assert!(rt; have_answers(rt.alloc(), &ENTITIES) == Ok(true));
 }
 
 #[test]
-fn declarations(rt: HostRuntime) -> Result<(), Fail> {
-    for row in &DECLARATIONS {
-        assert!(rt; has_answer(rt.alloc(), row)?);
-    }
-    Ok(())
+fn declarations(rt: HostRuntime) {
+    assert!(rt; have_answers(rt.alloc(), &DECLARATIONS) == Ok(true));
 }
 
 #[test]
-fn mains(rt: HostRuntime) -> Result<(), Fail> {
-    for row in &MAINS {
-        assert!(rt; has_answer(rt.alloc(), row)?);
-    }
-    Ok(())
+fn mains(rt: HostRuntime) {
+    assert!(rt; have_answers(rt.alloc(), &MAINS) == Ok(true));
 }

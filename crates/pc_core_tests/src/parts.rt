@@ -3,6 +3,7 @@ use pc_caps::{Cap, List, Span};
 use pc_tree::{Name, TypeRef};
 use std::alloc::{AllocError, Global};
 
+/// What stands from one byte to another.
 pub fn span(start: u32, end: u32) -> Span {
     Span { start, end }
 }

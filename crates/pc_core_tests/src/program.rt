@@ -1,9 +1,9 @@
 //! A program around a body.
+ghost use Rattle.std.specs.Prelude.{◌<◌, ◌^◌, length, IfOk};
+
 use crate::parts::{name_at, type_at};
 use crate::reading::{read_expr, read_seq};
 use pc_caps::{Cap, List, Span};
-use pc_core::Node;
-use pc_emit::{EmitStop, emit, emit_added};
 use pc_members::NameTable;
 use pc_resolve::{Constructor, Constructors, Context, Known, LocalSlots, Placed};
 use pc_tree::{EntityKind, FieldDef, MethodDef, MethodWord, ParamDef, TypeRef};
@@ -21,40 +21,58 @@ const FIELD: Span = Span {
     end: 201,
 };
 
-fn typed(alloc: Global, text: &[u8]) -> Result<TypeRef, AllocError> {
-    type_at(alloc, text, METHOD, None)
+/// A constructor: its name and its number.
+pub type ConstructorRow = (&'static [u8], u32);
+
+/// An entity: its name, its kind, and its constructors.
+pub type KnownRow = (&'static [u8], EntityKind, &'static [ConstructorRow]);
+
+fn constructor(alloc: Global, row: &ConstructorRow) -> Result<Constructor, AllocError> {
+    Ok(Constructor::new(List::from_slice(alloc, row.0)?, row.1))
 }
 
-fn constructors(alloc: Global, rows: &[(&'static [u8], u32)]) -> Result<Constructors, AllocError> {
-    let mut list = List::new(alloc);
-    for (name, method) in rows {
-        list.push(Constructor::new(List::from_slice(alloc, name)?, *method))?;
+fn add_constructors(
+    alloc: Global,
+    list: &mut List<Constructor>,
+    rows: &[ConstructorRow],
+) -> Result<(), AllocError> {
+    for row in rows {
+        list.push(constructor(alloc, row)?)?;
     }
+    Ok(())
+}
+
+fn constructors(alloc: Global, rows: &[ConstructorRow]) -> Result<Constructors, AllocError> {
+    let mut list = List::new(alloc);
+    add_constructors(alloc, &mut list, rows)?;
     Constructors::of(alloc, list)
 }
 
-/// An entity: its name, its kind, and its constructors with their numbers.
-type EntityRow = (&'static [u8], EntityKind, &'static [(&'static [u8], u32)]);
+fn known(alloc: Global, row: &KnownRow) -> Result<Known, AllocError> {
+    let name = List::from_slice(alloc, row.0)?;
+    let constructors = constructors(alloc, row.2)?;
+    Ok(Known::new(name, row.1, Cap::Ref, constructors))
+}
 
-// The entities of the language, and then `class C`, `actor A`, `primitive P` and `trait T`.
-const ENTITIES: [EntityRow; 10] = [
-    (b"None", EntityKind::Primitive, &[]),
-    (b"U64", EntityKind::Primitive, &[]),
-    (b"Bool", EntityKind::Primitive, &[]),
-    (b"String", EntityKind::Primitive, &[]),
-    (b"Env", EntityKind::Class, &[]),
-    (b"OutStream", EntityKind::Actor, &[]),
-    (b"C", EntityKind::Class, &[(b"create", 1), (b"make", 2)]),
-    (b"A", EntityKind::Actor, &[(b"create", 3)]),
-    (b"P", EntityKind::Primitive, &[]),
-    (b"T", EntityKind::Trait, &[]),
-];
+fn add_entities(
+    alloc: Global,
+    list: &mut List<Known>,
+    rows: &[KnownRow],
+) -> Result<(), AllocError> {
+    for row in rows {
+        list.push(known(alloc, row)?)?;
+    }
+    Ok(())
+}
 
-fn entities(alloc: Global) -> Result<List<Known>, AllocError> {
+// The entities of these rows, if they are at most a hundred.
+fn entities(alloc: Global, rows: &[KnownRow]) -> Result<List<Known>, AllocError>
+    ensures { IfOk result (λ list. length list < 2 ^ 32) }
+{
     let mut list = List::new(alloc);
-    for (name, kind, rows) in &ENTITIES {
-        let name = List::from_slice(alloc, name)?;
-        list.push(Known::new(name, *kind, Cap::Ref, constructors(alloc, rows)?))?;
+    add_entities(alloc, &mut list, rows)?;
+    if list.len() > 100 {
+        return Err(AllocError);
     }
     Ok(list)
 }
@@ -68,115 +86,153 @@ fn names(alloc: Global, texts: &[&'static [u8]]) -> Result<List<List<u8>>, Alloc
 }
 
 // The texts have the numbers 0 `f`, 1 `g`, 2 `m`, 3 `apply` and 4 `go`.
-fn texts(alloc: Global) -> Result<NameTable, AllocError> {
-    let mut table = NameTable::new(alloc);
+fn add_texts(table: &mut NameTable) -> Result<(), AllocError> {
     table.add(b"f")?;
     table.add(b"g")?;
     table.add(b"m")?;
     table.add(b"apply")?;
-    table.add(b"go")?;
+    table.add(b"go")
+}
+
+fn texts(alloc: Global) -> Result<NameTable, AllocError> {
+    let mut table = NameTable::new(alloc);
+    add_texts(&mut table)?;
     Ok(table)
 }
 
-// An entity with the field `f` and the methods `m` and `go`, and a method whose locals have these slots.
-fn context(alloc: Global, slots: &[(u32, u32)]) -> Result<Option<Context>, AllocError> {
+// A program of these entities, and an entity without members.
+fn bare_context(alloc: Global, rows: &[KnownRow]) -> Result<Context, AllocError> {
+    let texts = texts(alloc)?;
+    let entities = entities(alloc, rows)?;
+    Context::new(
+        alloc,
+        List::new(alloc),
+        List::new(alloc),
+        entities,
+        texts,
+        LocalSlots::new(alloc),
+    )
+}
+
+/// The slot of a local by the place of its name.
+pub type SlotRow = (u32, u32);
+
+fn slots_of(alloc: Global, rows: &[SlotRow]) -> Result<LocalSlots, AllocError> {
     let mut placed = List::new(alloc);
-    for (start, slot) in slots {
+    for (start, slot) in rows {
         placed.push(Placed::new(*start, *slot))?;
     }
-    let slots = LocalSlots::of(alloc, placed)?;
-    with_slots(alloc, slots)
+    LocalSlots::of(alloc, placed)
 }
 
-fn with_slots(alloc: Global, slots: LocalSlots) -> Result<Option<Context>, AllocError> {
+// The entity has the field `f` and the methods `m` and `go`.
+fn set_members(alloc: Global, context: &mut Context) -> Result<(), AllocError> {
     let fields = names(alloc, &[b"f"])?;
     let methods = names(alloc, &[b"m", b"go"])?;
-    let texts = texts(alloc)?;
-    let entities = entities(alloc)?;
-    if entities.len() > 100 {
-        return Ok(None);
-    }
-    Ok(Some(Context::new(alloc, fields, methods, entities, texts, slots)?))
+    context.set_members(alloc, fields, methods)
 }
 
-/// The field `f`, with an initial value where this text is not empty.
-fn fields(alloc: Global, value: &[u8]) -> Result<List<FieldDef>, AllocError> {
-    let mut list = List::new(alloc);
-    list.push(FieldDef {
+fn set_all(alloc: Global, context: &mut Context, slots: &[SlotRow]) -> Result<(), AllocError> {
+    set_members(alloc, context)?;
+    context.set_slots(slots_of(alloc, slots)?);
+    Ok(())
+}
+
+// A program of these entities, an entity of it, and a method whose locals have these slots.
+fn context(alloc: Global, rows: &[KnownRow], slots: &[SlotRow]) -> Result<Context, AllocError> {
+    let mut context = bare_context(alloc, rows)?;
+    match set_all(alloc, &mut context, slots) {
+        Ok(()) => Ok(context),
+        Err(fault) => {
+            drop(context);
+            Err(fault)
+        }
+    }
+}
+
+fn typed(alloc: Global) -> Result<TypeRef, AllocError> {
+    type_at(alloc, b"U64", METHOD, None)
+}
+
+// The field `f`, with an initial value where this text is not empty.
+fn field(alloc: Global, value: &[u8]) -> Result<FieldDef, AllocError> {
+    Ok(FieldDef {
         fixed: false,
         name: name_at(alloc, b"f", FIELD)?,
-        ty: typed(alloc, b"U64")?,
+        ty: typed(alloc)?,
         value: read_expr(alloc, value),
-    })?;
+    })
+}
+
+fn fields(alloc: Global, value: &[u8]) -> Result<List<FieldDef>, AllocError> {
+    let mut list = List::new(alloc);
+    list.push(field(alloc, value)?)?;
     Ok(list)
 }
 
-/// A method: its word, its number, its parameters, whether a result is written, its body, the slots of its locals by the
-/// places of their names, and the initial value of the field.
+/// A method: its word, its number, its parameters, whether a result is written, the slots of its locals by the places of
+/// their names, and the initial value of the field.
+#[derive(Clone, Copy)]
 pub struct Written {
     pub word: MethodWord,
     pub number: u32,
     pub params: &'static [&'static [u8]],
     pub gives: bool,
-    pub slots: &'static [(u32, u32)],
+    pub slots: &'static [SlotRow],
     pub initial: &'static [u8],
 }
 
-fn method(alloc: Global, of: &Written, body: &[u8]) -> Result<MethodDef, AllocError> {
-    let mut params = List::new(alloc);
-    for param in of.params {
-        params.push(ParamDef {
-            name: name_at(alloc, param, METHOD)?,
-            ty: typed(alloc, b"U64")?,
-        })?;
-    }
-    let result = if of.gives {
-        Some(typed(alloc, b"U64")?)
-    } else {
-        None
-    };
-    Ok(MethodDef {
-        word: of.word,
-        cap: None,
-        name: name_at(alloc, b"x", METHOD)?,
-        params,
-        result,
-        body: read_seq(alloc, body),
+fn param(alloc: Global, name: &[u8]) -> Result<ParamDef, AllocError> {
+    Ok(ParamDef {
+        name: name_at(alloc, name, METHOD)?,
+        ty: typed(alloc)?,
     })
 }
 
-/// The nodes of a body behind those that are there, and its number.
-pub fn nodes_of(
-    alloc: Global,
-    of: &Written,
-    body: &[u8],
-    nodes: &mut List<Node>,
-) -> Result<Option<u32>, EmitStop> {
-    let method = method(alloc, of, body)?;
-    let fields = fields(alloc, of.initial)?;
-    match context(alloc, of.slots)? {
-        Some(context) => emit(
-            alloc,
-            &context,
-            of.number,
-            nodes,
-            fields.as_slice(),
-            &method,
-        ),
-        None => Err(EmitStop::Memory),
+fn set_types(alloc: Global, method: &mut MethodDef, of: &Written) -> Result<(), AllocError> {
+    for name in of.params {
+        method.params.push(param(alloc, name)?)?;
     }
+    if of.gives {
+        method.result = Some(typed(alloc)?);
+    }
+    Ok(())
 }
 
-/// The nodes of an added `create` with this initial value, and the number of its body.
-pub fn added_nodes(
+fn method(alloc: Global, of: &Written, body: &[u8]) -> Result<MethodDef, AllocError> {
+    let mut method = MethodDef {
+        word: of.word,
+        cap: None,
+        name: name_at(alloc, b"x", METHOD)?,
+        params: List::new(alloc),
+        result: None,
+        body: read_seq(alloc, body),
+    };
+    set_types(alloc, &mut method, of)?;
+    Ok(method)
+}
+
+/// A method with its body, the fields of its entity, and what names mean in it.
+#[derive(Drop)]
+pub struct Program {
+    pub method: MethodDef,
+    pub fields: List<FieldDef>,
+    pub context: Context,
+}
+
+/// The program of these entities around a method, where its body is this text.
+pub fn program_of(
     alloc: Global,
-    number: u32,
-    initial: &[u8],
-    nodes: &mut List<Node>,
-) -> Result<u32, EmitStop> {
-    let fields = fields(alloc, initial)?;
-    match context(alloc, &[])? {
-        Some(context) => emit_added(alloc, &context, number, nodes, fields.as_slice(), METHOD),
-        None => Err(EmitStop::Memory),
-    }
+    rows: &[KnownRow],
+    of: &Written,
+    body: &[u8],
+) -> Result<Program, AllocError> {
+    let method = method(alloc, of, body)?;
+    let fields = fields(alloc, of.initial)?;
+    let context = context(alloc, rows, of.slots)?;
+    Ok(Program {
+        method,
+        fields,
+        context,
+    })
 }

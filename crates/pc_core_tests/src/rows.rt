@@ -4,11 +4,12 @@ use pc_core::{Node, NodeKind};
 /// A node: its kind, the number in it, its children, its depth, its first byte and the byte behind its last.
 pub type Row = (&'static str, u64, &'static [u32], u32, (u32, u32));
 
-fn shown(kind: &NodeKind) -> (&'static str, u64) {
+/// A kind by its name, and the number in it.
+pub fn shown(kind: &NodeKind) -> (&'static str, u64) {
     match kind {
         NodeKind::Number(value) => ("number", *value),
         NodeKind::Truth(value) => ("truth", u64::from(*value)),
-        NodeKind::Text(bytes) => ("text", bytes.len() as u64),
+        NodeKind::Text(bytes) => ("text", bytes.as_slice().len() as u64),
         NodeKind::Prim(entity) => ("prim", u64::from(*entity)),
         NodeKind::This => ("this", 0),
         NodeKind::Local(slot) => ("local", u64::from(*slot)),

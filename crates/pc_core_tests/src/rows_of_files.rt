@@ -37,12 +37,11 @@ fn typed(alloc: Global, word: &Word, cap: Option<Cap>) -> Result<TypeRef, AllocE
     type_at(alloc, word.0, span_of(word), cap)
 }
 
-fn provides_of(alloc: Global, words: &[Word]) -> Result<List<Name>, AllocError> {
-    let mut provides = List::new(alloc);
+fn add_provides(alloc: Global, list: &mut List<Name>, words: &[Word]) -> Result<(), AllocError> {
     for word in words {
-        provides.push(named(alloc, word)?)?;
+        list.push(named(alloc, word)?)?;
     }
-    Ok(provides)
+    Ok(())
 }
 
 fn field_of(alloc: Global, row: &Typed) -> Result<FieldDef, AllocError> {
@@ -54,66 +53,89 @@ fn field_of(alloc: Global, row: &Typed) -> Result<FieldDef, AllocError> {
     })
 }
 
-fn fields_of(alloc: Global, rows: &[Typed]) -> Result<List<FieldDef>, AllocError> {
-    let mut fields = List::new(alloc);
+fn add_fields(alloc: Global, list: &mut List<FieldDef>, rows: &[Typed]) -> Result<(), AllocError> {
     for row in rows {
-        fields.push(field_of(alloc, row)?)?;
+        list.push(field_of(alloc, row)?)?;
     }
-    Ok(fields)
+    Ok(())
 }
 
-fn params_of(alloc: Global, rows: &[Typed]) -> Result<List<ParamDef>, AllocError> {
-    let mut params = List::new(alloc);
-    for row in rows {
-        params.push(ParamDef {
-            name: named(alloc, &row.0)?,
-            ty: typed(alloc, &row.1, row.2)?,
-        })?;
-    }
-    Ok(params)
-}
-
-fn method_of(alloc: Global, row: &MethodRow) -> Result<MethodDef, AllocError> {
-    let result = match &row.3 {
-        Some(word) => Some(typed(alloc, word, None)?),
-        None => None,
-    };
-    Ok(MethodDef {
-        word: row.0,
-        cap: None,
-        name: named(alloc, &row.1)?,
-        params: params_of(alloc, row.2)?,
-        result,
-        body: None,
+fn param_of(alloc: Global, row: &Typed) -> Result<ParamDef, AllocError> {
+    Ok(ParamDef {
+        name: named(alloc, &row.0)?,
+        ty: typed(alloc, &row.1, row.2)?,
     })
 }
 
-fn methods_of(alloc: Global, rows: &[MethodRow]) -> Result<List<MethodDef>, AllocError> {
-    let mut methods = List::new(alloc);
-    for row in rows {
-        methods.push(method_of(alloc, row)?)?;
+fn set_types(alloc: Global, method: &mut MethodDef, row: &MethodRow) -> Result<(), AllocError> {
+    for param in row.2 {
+        method.params.push(param_of(alloc, param)?)?;
     }
-    Ok(methods)
+    if let Some(word) = &row.3 {
+        method.result = Some(typed(alloc, word, None)?);
+    }
+    Ok(())
+}
+
+fn method_of(alloc: Global, row: &MethodRow) -> Result<MethodDef, AllocError> {
+    let mut method = MethodDef {
+        word: row.0,
+        cap: None,
+        name: named(alloc, &row.1)?,
+        params: List::new(alloc),
+        result: None,
+        body: None,
+    };
+    set_types(alloc, &mut method, row)?;
+    Ok(method)
+}
+
+fn add_methods(
+    alloc: Global,
+    list: &mut List<MethodDef>,
+    rows: &[MethodRow],
+) -> Result<(), AllocError> {
+    for row in rows {
+        list.push(method_of(alloc, row)?)?;
+    }
+    Ok(())
+}
+
+fn set_members(alloc: Global, entity: &mut Entity, row: &EntityRow) -> Result<(), AllocError> {
+    add_provides(alloc, &mut entity.provides, row.2)?;
+    add_fields(alloc, &mut entity.fields, row.3)?;
+    add_methods(alloc, &mut entity.methods, row.4)
 }
 
 /// The entity of a row.
 pub fn entity_of(alloc: Global, row: &EntityRow) -> Result<Entity, AllocError> {
-    Ok(Entity {
+    let mut entity = Entity {
         kind: row.0,
         cap: None,
         name: named(alloc, &row.1)?,
-        provides: provides_of(alloc, row.2)?,
-        fields: fields_of(alloc, row.3)?,
-        methods: methods_of(alloc, row.4)?,
-    })
+        provides: List::new(alloc),
+        fields: List::new(alloc),
+        methods: List::new(alloc),
+    };
+    set_members(alloc, &mut entity, row)?;
+    Ok(entity)
+}
+
+fn add_entities(
+    alloc: Global,
+    list: &mut List<Entity>,
+    rows: &[EntityRow],
+) -> Result<(), AllocError> {
+    for row in rows {
+        list.push(entity_of(alloc, row)?)?;
+    }
+    Ok(())
 }
 
 /// The file of these rows.
 pub fn file_of(alloc: Global, rows: &[EntityRow]) -> Result<File, AllocError> {
     let mut entities = List::new(alloc);
-    for row in rows {
-        entities.push(entity_of(alloc, row)?)?;
-    }
+    add_entities(alloc, &mut entities, rows)?;
     Ok(File { entities })
 }
 

@@ -17,27 +17,32 @@ fn fill(arena: &mut Arena<u32>, count: u32) -> Option<u32>
     last
 }
 
-/// What the 300 first places of an arena answer at both sides of the edge of a chunk, after one of them was exchanged.
-fn three_hundred(alloc: Global) -> Result<bool, AllocError> {
+// Pushes 300 values and exchanges two of them; whether the places at both sides of the edge of a chunk hold what they are to.
+fn is_filled(arena: &mut Arena<u32>) -> bool
+    requires { 300 ≤ arena.old.spare }
+{
+    fill(arena, 300) == Some(299)
+        && arena.len() == 300
+        && arena.exchange(0, 9) == 0
+        && *arena.get(0) == 9
+        && *arena.get(1) == 1
+        && *arena.get(255) == 255
+        && *arena.get(256) == 256
+        && arena.exchange(256, 7) == 256
+        && *arena.get(299) == 299
+}
+
+fn is_filled_with_300(alloc: Global) -> bool {
     let mut arena = Arena::new(alloc);
-    arena.reserve(300)?;
-    let last = fill(&mut arena, 300);
-    Ok(
-        last == Some(299)
-            && arena.len() == 300
-            && arena.exchange(0, 9) == 0
-            && *arena.get(0) == 9
-            && *arena.get(1) == 1
-            && *arena.get(255) == 255
-            && *arena.get(256) == 256
-            && arena.exchange(256, 7) == 256
-            && *arena.get(299) == 299,
-    )
+    match arena.reserve(300) {
+        Ok(()) => is_filled(&mut arena),
+        Err(_) => false,
+    }
 }
 
 #[test]
 fn pushed_values_stay_at_their_places(rt: HostRuntime) {
-    assert!(rt; three_hundred(rt.alloc()).is_ok_and(|right| right));
+    assert!(rt; is_filled_with_300(rt.alloc()));
 }
 
 /// Pushes a value, as counted, so many times.
@@ -51,28 +56,39 @@ fn fill_with(arena: &mut Arena<Rc<u32>>, value: &Rc<u32>, count: u32) -> Result<
     Ok(())
 }
 
-/// Whether an arena that is dropped lets go of each of its 600 values once.
-fn six_hundred(alloc: Global) -> Result<bool, AllocError> {
-    let value = Rc::new(alloc, 7)?;
-    let mut arena = Arena::new(alloc);
-    arena.reserve(600)?;
-    fill_with(&mut arena, &value, 600)?;
-    let all = arena.len() == 600 && Rc::strong_count(&value) == 601;
+// Puts a value 600 times into an arena, and exchanges the last of them; whether it is counted so often.
+fn is_counted(arena: &mut Arena<Rc<u32>>, value: &Rc<u32>) -> Result<bool, AllocError>
+    requires { 600 ≤ arena.old.spare }
+{
+    fill_with(arena, value, 600)?;
+    let all = arena.len() == 600 && Rc::strong_count(value) == 601;
     if arena.len() > 599 {
         drop(arena.exchange(599, value.clone()?));
     }
-    let as_before = Rc::strong_count(&value) == 601;
-    drop(arena);
-    Ok(all && as_before && Rc::strong_count(&value) == 1)
+    Ok(all && Rc::strong_count(value) == 601)
+}
+
+// The same in an arena that is dropped then.
+fn is_counted_in_arena(alloc: Global, value: &Rc<u32>) -> Result<bool, AllocError> {
+    let mut arena = Arena::new(alloc);
+    arena.reserve(600)?;
+    is_counted(&mut arena, value)
+}
+
+// Whether a value is counted once more behind the arena that held it 600 times.
+fn is_dropped_600_times(alloc: Global) -> Result<bool, AllocError> {
+    let value = Rc::new(alloc, 7)?;
+    let is_right = is_counted_in_arena(alloc, &value)?;
+    Ok(is_right && Rc::strong_count(&value) == 1)
 }
 
 #[test]
 fn each_value_is_dropped_once(rt: HostRuntime) {
-    assert!(rt; six_hundred(rt.alloc()).is_ok_and(|right| right));
+    assert!(rt; is_dropped_600_times(rt.alloc()) == Ok(true));
 }
 
-/// An arena that has room and no values.
-fn unused(alloc: Global) -> Result<bool, AllocError> {
+// Whether an arena that has room and no values is empty.
+fn is_empty(alloc: Global) -> Result<bool, AllocError> {
     let mut arena: Arena<Rc<u32>> = Arena::new(alloc);
     arena.reserve(1000)?;
     Ok(arena.len() == 0)
@@ -80,5 +96,5 @@ fn unused(alloc: Global) -> Result<bool, AllocError> {
 
 #[test]
 fn room_is_no_value(rt: HostRuntime) {
-    assert!(rt; unused(rt.alloc()).is_ok_and(|right| right));
+    assert!(rt; is_empty(rt.alloc()) == Ok(true));
 }

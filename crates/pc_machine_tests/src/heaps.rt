@@ -1,127 +1,188 @@
 //! A few objects, made and written by hand.
+use crate::held::{Held, holds, written};
 use pc_heap::{Address, Heap, Value};
 use std::alloc::Global;
 
-/// An object in a heap that has room for it.
-fn made(heap: &mut Heap, maker: u32, entity: u32, fields: u32) -> Option<Address> {
+/// The address of an object that is made in a heap that has memory for it.
+pub fn made(heap: &mut Heap, maker: u32, entity: u32, fields: u32) -> Option<Address> {
     if heap.count() >= 4_194_304 || fields > 512 {
         return None;
     }
-    heap.reserve(maker, fields).ok()?;
-    Some(heap.make(maker, entity, fields))
-}
-
-fn at(maker: u32, serial: u32) -> Address {
-    Address { maker, serial }
-}
-
-/// The number in a field, if it holds one.
-fn number(heap: &Heap, address: Address, field: u32) -> Option<u64> {
-    match heap.get(address, field)? {
-        Value::Num(number) => Some(*number),
-        Value::Truth(_) | Value::Text(_) | Value::Prim(_) | Value::At(_) => None,
+    match heap.reserve(maker, fields) {
+        Ok(()) => Some(heap.make(maker, entity, fields)),
+        Err(_) => None,
     }
 }
 
-/// Whether a field took a number and held nothing before.
-fn first_set(heap: &mut Heap, address: Address, field: u32, number: u64) -> bool {
+// Where an object stands: its maker and its serial.
+type Place = (u32, u32);
+
+fn at(place: Place) -> Address {
+    Address {
+        maker: place.0,
+        serial: place.1,
+    }
+}
+
+// What is done with a heap, or looked at in it.
+#[derive(Clone, Copy)]
+enum Act {
+    // There are so many objects.
+    Counts(u32),
+    // Room is made for an object of a maker, with so many fields.
+    Reserves(u32, u32),
+    // A maker makes an object of an entity with so many fields, which has this serial.
+    Makes(u32, u32, u32, u32),
+    // This is the entity of an object, where there is one.
+    IsOf(Place, Option<u32>),
+    // This is the value in a field, where there is one.
+    Holds(Place, u32, Option<Held<'static>>),
+    // A field takes a number, and held this before.
+    Takes(Place, u32, u64, Option<Held<'static>>),
+    // There is no such field, so a value that it is to take comes back.
+    Refuses(Place, u32),
+}
+
+fn reserves(heap: &mut Heap, maker: u32, fields: u32) -> bool {
+    heap.count() < 4_194_304 && fields <= 512 && heap.reserve(maker, fields).is_ok()
+}
+
+fn takes(
+    heap: &mut Heap,
+    address: Address,
+    field: u32,
+    number: u64,
+    before: Option<Held<'_>>,
+) -> bool {
     match heap.set(address, field, Value::Num(number)) {
-        Ok(before) => before.is_none(),
+        Ok(held) => holds(held.as_ref(), before),
         Err(_) => false,
     }
 }
 
-/// The number that a field held before it took another.
-fn next_set(heap: &mut Heap, address: Address, field: u32, number: u64) -> Option<u64> {
-    match heap.set(address, field, Value::Num(number)).ok()?? {
-        Value::Num(before) => Some(before),
-        Value::Truth(_) | Value::Text(_) | Value::Prim(_) | Value::At(_) => None,
+fn comes_back(answer: Result<Option<Value>, Value>, sent: Held<'_>) -> bool {
+    match answer {
+        Ok(_) => false,
+        Err(back) => written(&back) == sent,
     }
 }
 
-/// The number that came back from a field that is not there.
-fn refused(heap: &mut Heap, address: Address, field: u32, number: u64) -> Option<u64> {
-    match heap.set(address, field, Value::Num(number)) {
-        Ok(_) => None,
-        Err(Value::Num(back)) => Some(back),
-        Err(Value::Truth(_) | Value::Text(_) | Value::Prim(_) | Value::At(_)) => None,
+fn refuses(heap: &mut Heap, address: Address, field: u32) -> bool {
+    comes_back(heap.set(address, field, Value::Num(9)), Held::Number(9))
+        && comes_back(
+            heap.set(address, field, Value::Truth(true)),
+            Held::Truth(true),
+        )
+        && comes_back(heap.set(address, field, Value::Prim(1)), Held::Prim(1))
+}
+
+// Whether an act goes as it says.
+fn goes(heap: &mut Heap, act: Act) -> bool {
+    match act {
+        Act::Counts(count) => heap.count() == count,
+        Act::Reserves(maker, fields) => reserves(heap, maker, fields),
+        Act::Makes(maker, entity, fields, serial) => {
+            made(heap, maker, entity, fields) == Some(at((maker, serial)))
+        }
+        Act::IsOf(place, entity) => heap.class_of(at(place)) == entity,
+        Act::Holds(place, field, held) => holds(heap.get(at(place), field), held),
+        Act::Takes(place, field, number, held) => takes(heap, at(place), field, number, held),
+        Act::Refuses(place, field) => refuses(heap, at(place), field),
     }
 }
 
-#[test]
-fn one_object(rt: HostRuntime) {
-    let mut heap = Heap::new(rt.alloc());
-    assert!(rt; heap.count() == 0);
-    assert!(rt; made(&mut heap, 4, 6, 1) == Some(at(4, 0)));
-    assert!(rt; heap.count() == 1);
-    assert!(rt; heap.class_of(at(4, 0)) == Some(6));
-    assert!(rt; heap.get(at(4, 0), 0).is_none());
-    assert!(rt; first_set(&mut heap, at(4, 0), 0, 7));
-    assert!(rt; number(&heap, at(4, 0), 0) == Some(7));
-    assert!(rt; next_set(&mut heap, at(4, 0), 0, 8) == Some(7));
-    assert!(rt; number(&heap, at(4, 0), 0) == Some(8));
-    assert!(rt; heap.set(at(4, 0), 1, Value::Truth(true)).is_err());
-    assert!(rt; heap.set(at(4, 1), 0, Value::Truth(true)).is_err());
-    assert!(rt; heap.class_of(at(4, 1)).is_none());
+fn all_go(heap: &mut Heap, acts: &[Act]) -> bool {
+    for act in acts {
+        if !goes(heap, *act) {
+            return false;
+        }
+    }
+    true
 }
 
-#[test]
-fn serials(rt: HostRuntime) {
-    let mut heap = Heap::new(rt.alloc());
-    assert!(rt; made(&mut heap, 1, 3, 0) == Some(at(1, 0)));
-    assert!(rt; made(&mut heap, 0, 2, 2) == Some(at(0, 0)));
-    assert!(rt; made(&mut heap, 1, 3, 1) == Some(at(1, 1)));
-    assert!(rt; made(&mut heap, 4294967295, 9, 0) == Some(at(4294967295, 0)));
-    assert!(rt; made(&mut heap, 0, 5, 512) == Some(at(0, 1)));
-    assert!(rt; heap.count() == 5);
-    assert!(rt; heap.class_of(at(0, 1)) == Some(5));
-    assert!(rt; first_set(&mut heap, at(0, 1), 511, 1));
-    assert!(rt; heap.get(at(0, 1), 510).is_none());
-}
-
-/// Whether room that was not used leaves no object.
-fn unused(alloc: Global) -> bool {
+// Whether these acts go as they say, one after the other, in a new heap.
+fn go(alloc: Global, acts: &[Act]) -> bool {
     let mut heap = Heap::new(alloc);
-    if heap.count() >= 4_194_304 {
-        return false;
-    }
-    if heap.reserve(2, 3).is_err() {
-        return false;
-    }
-    heap.class_of(at(2, 0)).is_none()
-        && heap.set(at(2, 0), 0, Value::Prim(1)).is_err()
-        && heap.count() == 0
-        && made(&mut heap, 5, 1, 0) == Some(at(5, 0))
-        && heap.class_of(at(2, 0)).is_none()
-        && made(&mut heap, 2, 1, 1) == Some(at(2, 0))
-        && heap.count() == 2
+    all_go(&mut heap, acts)
 }
 
+const ONE_OBJECT: [Act; 12] = [
+    Act::Counts(0),
+    Act::Makes(4, 6, 1, 0),
+    Act::Counts(1),
+    Act::IsOf((4, 0), Some(6)),
+    Act::Holds((4, 0), 0, None),
+    Act::Takes((4, 0), 0, 7, None),
+    Act::Holds((4, 0), 0, Some(Held::Number(7))),
+    Act::Takes((4, 0), 0, 8, Some(Held::Number(7))),
+    Act::Holds((4, 0), 0, Some(Held::Number(8))),
+    Act::Refuses((4, 0), 1),
+    Act::Refuses((4, 1), 0),
+    Act::IsOf((4, 1), None),
+];
+
 #[test]
-fn room(rt: HostRuntime) {
-    assert!(rt; unused(rt.alloc()));
+fn an_object_has_its_entity_and_its_fields(rt: HostRuntime) {
+    assert!(rt; go(rt.alloc(), &ONE_OBJECT));
 }
 
-/// The last field of many, and what lies beyond it.
+const SERIALS: [Act; 9] = [
+    Act::Makes(1, 3, 0, 0),
+    Act::Makes(0, 2, 2, 0),
+    Act::Makes(1, 3, 1, 1),
+    Act::Makes(4294967295, 9, 0, 0),
+    Act::Makes(0, 5, 512, 1),
+    Act::Counts(5),
+    Act::IsOf((0, 1), Some(5)),
+    Act::Takes((0, 1), 511, 1, None),
+    Act::Holds((0, 1), 510, None),
+];
+
 #[test]
-fn many_fields(rt: HostRuntime) {
-    let mut heap = Heap::new(rt.alloc());
-    assert!(rt; made(&mut heap, 4, 6, 300) == Some(at(4, 0)));
-    assert!(rt; first_set(&mut heap, at(4, 0), 299, 7));
-    assert!(rt; next_set(&mut heap, at(4, 0), 299, 8) == Some(7));
-    assert!(rt; refused(&mut heap, at(4, 0), 300, 9) == Some(9));
-    assert!(rt; heap.get(at(4, 0), 0).is_none());
+fn each_maker_counts_its_own_objects(rt: HostRuntime) {
+    assert!(rt; go(rt.alloc(), &SERIALS));
 }
 
-/// The fields of one object are no fields of another.
+const ROOM: [Act; 8] = [
+    Act::Reserves(2, 3),
+    Act::IsOf((2, 0), None),
+    Act::Refuses((2, 0), 0),
+    Act::Counts(0),
+    Act::Makes(5, 1, 0, 0),
+    Act::IsOf((2, 0), None),
+    Act::Makes(2, 1, 1, 0),
+    Act::Counts(2),
+];
+
 #[test]
-fn fields_apart(rt: HostRuntime) {
-    let mut heap = Heap::new(rt.alloc());
-    assert!(rt; made(&mut heap, 0, 6, 300) == Some(at(0, 0)));
-    assert!(rt; made(&mut heap, 1, 6, 300) == Some(at(1, 0)));
-    assert!(rt; first_set(&mut heap, at(0, 0), 299, 1));
-    assert!(rt; first_set(&mut heap, at(1, 0), 0, 2));
-    assert!(rt; number(&heap, at(0, 0), 299) == Some(1));
-    assert!(rt; number(&heap, at(1, 0), 0) == Some(2));
-    assert!(rt; heap.get(at(1, 0), 1).is_none());
+fn room_that_is_not_used_is_no_object(rt: HostRuntime) {
+    assert!(rt; go(rt.alloc(), &ROOM));
+}
+
+const MANY_FIELDS: [Act; 5] = [
+    Act::Makes(4, 6, 300, 0),
+    Act::Takes((4, 0), 299, 7, None),
+    Act::Takes((4, 0), 299, 8, Some(Held::Number(7))),
+    Act::Refuses((4, 0), 300),
+    Act::Holds((4, 0), 0, None),
+];
+
+#[test]
+fn behind_the_last_of_many_fields_there_is_none(rt: HostRuntime) {
+    assert!(rt; go(rt.alloc(), &MANY_FIELDS));
+}
+
+const FIELDS_APART: [Act; 7] = [
+    Act::Makes(0, 6, 300, 0),
+    Act::Makes(1, 6, 300, 0),
+    Act::Takes((0, 0), 299, 1, None),
+    Act::Takes((1, 0), 0, 2, None),
+    Act::Holds((0, 0), 299, Some(Held::Number(1))),
+    Act::Holds((1, 0), 0, Some(Held::Number(2))),
+    Act::Holds((1, 0), 1, None),
+];
+
+#[test]
+fn the_fields_of_one_object_are_no_fields_of_another(rt: HostRuntime) {
+    assert!(rt; go(rt.alloc(), &FIELDS_APART));
 }

@@ -6,6 +6,8 @@ mod arenas;
 #[cfg(test)]
 mod heaps;
 #[cfg(test)]
+mod held;
+#[cfg(test)]
 mod memory;
 #[cfg(test)]
 mod running;

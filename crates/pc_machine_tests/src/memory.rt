@@ -1,9 +1,9 @@
 //! Runs in which memory is refused once, at any request. What is refused is done once more, and then all goes on as if nothing
 //! had been refused. `bench/refuse-memory` refuses each request of these tests in turn.
+use crate::running::core_again;
 use crate::turns::{Counts, counts, has_printed, step};
 use pc_core::Core;
 use pc_machine::{Machine, Outcome, start};
-use pc_test_sources::core_of;
 use std::alloc::Global;
 
 /// An actor that is made and sent to twice, each time with more arguments than stand in a message itself.
@@ -49,13 +49,6 @@ actor Main
     Reader(env.out).read(consume list)
 ";
 
-fn read(alloc: Global, program: &[u8]) -> Option<Core> {
-    if let Some(core) = core_of(alloc, program) {
-        return Some(core);
-    }
-    core_of(alloc, program)
-}
-
 fn started(alloc: Global, core: &Core) -> Option<Machine<'_>> {
     if let Ok(machine) = start(alloc, core) {
         return Some(machine);
@@ -90,8 +83,11 @@ fn run(machine: &mut Machine<'_>, actor: u32, times: u32) -> bool {
     ends(machine, actor, Outcome::Skipped)
 }
 
-/// Whether the turns of these actors, each with so many steps, go like this, and so many things are there behind each.
-fn all_run(machine: &mut Machine<'_>, turns: &[(u32, u32, Counts)]) -> bool {
+// An actor, how many steps it takes, and how many things are there behind them.
+type Turn = (u32, u32, Counts);
+
+/// Whether these turns go like this, one after the other.
+fn all_run(machine: &mut Machine<'_>, turns: &[Turn]) -> bool {
     for (actor, steps, wanted) in turns {
         if !run(machine, *actor, *steps) || counts(machine) != *wanted {
             return false;
@@ -100,37 +96,38 @@ fn all_run(machine: &mut Machine<'_>, turns: &[(u32, u32, Counts)]) -> bool {
     true
 }
 
-fn ends_the_same(
-    alloc: Global,
-    program: &[u8],
-    turns: &[(u32, u32, Counts)],
-    printed: &[&[u8]],
-) -> bool {
-    let Some(core) = read(alloc, program) else {
-        return false;
-    };
-    match started(alloc, &core) {
+fn runs_the_same(alloc: Global, core: &Core, turns: &[Turn], printed: &[&[u8]]) -> bool {
+    match started(alloc, core) {
         Some(mut machine) => all_run(&mut machine, turns) && has_printed(&machine, printed),
         None => false,
     }
 }
 
+fn ends_the_same(alloc: Global, program: &[u8], turns: &[Turn], printed: &[&[u8]]) -> bool {
+    match core_again(alloc, program) {
+        Some(core) => runs_the_same(alloc, &core, turns, printed),
+        None => false,
+    }
+}
+
+const ARGUMENTS_TURNS: [Turn; 3] = [
+    (1, 29, (3, 4, 3, 0)),
+    (2, 85, (3, 6, 2, 0)),
+    (0, 2, (3, 6, 0, 2)),
+];
+
 #[test]
 fn many_arguments(rt: HostRuntime) {
-    let turns = [
-        (1, 29, (3, 4, 3, 0)),
-        (2, 85, (3, 6, 2, 0)),
-        (0, 2, (3, 6, 0, 2)),
-    ];
-    assert!(rt; ends_the_same(rt.alloc(), ARGUMENTS, &turns, &[b"x!4", b"y!5"]));
+    assert!(rt; ends_the_same(rt.alloc(), ARGUMENTS, &ARGUMENTS_TURNS, &[b"x!4", b"y!5"]));
 }
+
+const CHAIN_TURNS: [Turn; 3] = [
+    (1, 53, (3, 7, 2, 0)),
+    (2, 52, (3, 7, 1, 0)),
+    (0, 1, (3, 7, 0, 1)),
+];
 
 #[test]
 fn chain(rt: HostRuntime) {
-    let turns = [
-        (1, 53, (3, 7, 2, 0)),
-        (2, 52, (3, 7, 1, 0)),
-        (0, 1, (3, 7, 0, 1)),
-    ];
-    assert!(rt; ends_the_same(rt.alloc(), CHAIN, &turns, &[b"3"]));
+    assert!(rt; ends_the_same(rt.alloc(), CHAIN, &CHAIN_TURNS, &[b"3"]));
 }

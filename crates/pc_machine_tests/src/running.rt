@@ -1,175 +1,173 @@
-//! A constructor that is run to its end.
+//! A constructor that is run to its end. What is refused memory is done once more.
+use crate::heaps::made;
+use crate::held::{Held, holds};
 use pc_caps::List;
-use pc_core::Core;
-use pc_heap::{Heap, Value};
+use pc_core::{Core, Method};
+use pc_heap::{Address, Heap, Value};
 use pc_semantics::{Frame, Outcome, Stack, Task};
 use pc_tasks::{is_inside, run_inside};
 use pc_test_sources::core_of;
 use std::alloc::{AllocError, Global};
 
-/// The constructor of Main, which is the only entity of its text.
-#[derive(Drop)]
-pub struct Running {
-    core: Core,
-    heap: Heap,
-    frame: Frame,
-}
-
-/// How far it came.
-#[derive(Clone, Copy, Debug, PartialEq, Eq)]
+/// How a constructor came to its end.
+#[derive(Clone, Copy)]
 pub struct Ended {
     /// How the last step ended.
     pub last: Outcome,
-    /// How many steps were refused memory, and changed the counts of nothing.
-    pub refused: u32,
+    /// Whether it is at its Return, with one value on the stack, and the slots behind its parameter hold what they are to.
+    pub is_done: bool,
 }
 
-// What can be counted in a frame.
-#[derive(Clone, Copy, PartialEq, Eq)]
-struct Counts {
-    stack: usize,
-    tasks: usize,
-    first: Option<Task>,
-    held: usize,
-}
+// What can be counted in a frame: its values, its tasks with the first of them, and its slots that hold something.
+type Counts = (usize, usize, Option<Task>, usize);
 
 fn counts_of(frame: &Frame) -> Counts {
-    Counts {
-        stack: frame.stack.len(),
-        tasks: frame.tasks.len(),
-        first: frame.tasks.top().copied(),
-        held: frame
-            .slots
-            .as_slice()
-            .iter()
-            .filter(|slot| slot.is_some())
-            .count(),
+    let slots = frame.slots.as_slice();
+    let held = slots.iter().filter(|slot| slot.is_some()).count();
+    (
+        frame.stack.len(),
+        frame.tasks.len(),
+        frame.tasks.top().copied(),
+        held,
+    )
+}
+
+// How a step ends, tried once more where memory was refused. There is no answer where the refusal changed a count.
+fn step(alloc: Global, core: &Core, heap: &mut Heap, frame: &mut Frame) -> Option<Outcome> {
+    if !is_inside(frame) {
+        return None;
     }
+    let before = counts_of(frame);
+    if let Ok(outcome) = run_inside(alloc, core, heap, frame) {
+        return Some(outcome);
+    }
+    if counts_of(frame) == before {
+        run_inside(alloc, core, heap, frame).ok()
+    } else {
+        None
+    }
+}
+
+// How the last step ends of those up to the Return, or to the first that does not move.
+fn last_outcome(alloc: Global, core: &Core, heap: &mut Heap, frame: &mut Frame) -> Option<Outcome> {
+    let mut last = Outcome::Skipped;
+    for _ in 0..20_000 {
+        if !is_inside(frame) {
+            return Some(last);
+        }
+        last = step(alloc, core, heap, frame)?;
+        if last != Outcome::Moved {
+            return Some(last);
+        }
+    }
+    None
+}
+
+fn slot_holds(frame: &Frame, slot: usize, wanted: Held<'_>) -> bool {
+    match frame.slots.get(slot) {
+        Some(held) => holds(held.as_ref(), Some(wanted)),
+        None => false,
+    }
+}
+
+// Whether the slots behind the parameter of a constructor hold these values.
+fn slots_hold(frame: &Frame, wanted: &[Held<'_>]) -> bool {
+    for place in 0..wanted.len() {
+        if !slot_holds(frame, place + 2, wanted[place]) {
+            return false;
+        }
+    }
+    true
+}
+
+// Whether a frame is at its Return, with one value on the stack.
+fn is_at_return(frame: &Frame) -> bool {
+    frame.tasks.top().copied() == Some(Task::Return) && frame.stack.len() == 1
+}
+
+fn run(
+    alloc: Global,
+    core: &Core,
+    heap: &mut Heap,
+    frame: &mut Frame,
+    wanted: &[Held<'_>],
+) -> Option<Ended> {
+    let last = last_outcome(alloc, core, heap, frame)?;
+    let is_done = is_at_return(frame) && slots_hold(frame, wanted);
+    Some(Ended { last, is_done })
+}
+
+// So many slots, of which the first holds an object.
+fn slots_of(alloc: Global, this: Address, count: u32) -> Result<List<Option<Value>>, AllocError> {
+    let mut slots = List::new(alloc);
+    slots.push(Some(Value::At(this)))?;
+    for _ in 1..count {
+        slots.push(None)?;
+    }
+    Ok(slots)
+}
+
+// The frame of the constructor of an object, about to begin.
+fn frame_of(alloc: Global, this: Address, slots: u32, body: u32) -> Result<Frame, AllocError> {
+    let mut tasks = Stack::new(alloc);
+    tasks.push(Task::Eval(body))?;
+    Ok(Frame {
+        method: 1,
+        slots: slots_of(alloc, this, slots)?,
+        stack: Stack::new(alloc),
+        tasks,
+    })
+}
+
+fn begun(alloc: Global, this: Address, method: &Method) -> Option<Frame> {
+    let body = method.body?;
+    if let Ok(frame) = frame_of(alloc, this, method.slots, body) {
+        return Some(frame);
+    }
+    frame_of(alloc, this, method.slots, body).ok()
 }
 
 // The object of Main, with so many fields.
-fn main_object(heap: &mut Heap, fields: u32) -> Result<Value, AllocError> {
-    if heap.count() >= 4_194_304 || fields > 512 {
-        return Err(AllocError);
+fn main_object(heap: &mut Heap, fields: u32) -> Option<Address> {
+    match made(heap, 1, 6, fields) {
+        Some(this) => Some(this),
+        None => made(heap, 1, 6, fields),
     }
-    heap.reserve(1, fields)?;
-    Ok(Value::At(heap.make(1, 6, fields)))
 }
 
-fn started(alloc: Global, core: Core, fields: u32) -> Result<Option<Running>, AllocError> {
-    let Some(method) = core.method_at(1) else {
-        return Ok(None);
-    };
-    let Some(body) = method.body else {
-        return Ok(None);
-    };
+// How the constructor of a core's Main ends, over a heap without objects.
+fn run_main(
+    alloc: Global,
+    core: &Core,
+    heap: &mut Heap,
+    fields: u32,
+    wanted: &[Held<'_>],
+) -> Option<Ended> {
+    let this = main_object(heap, fields)?;
+    match begun(alloc, this, core.method_at(1)?) {
+        Some(mut frame) => run(alloc, core, heap, &mut frame, wanted),
+        None => None,
+    }
+}
+
+fn run_core(alloc: Global, core: &Core, fields: u32, wanted: &[Held<'_>]) -> Option<Ended> {
     let mut heap = Heap::new(alloc);
-    let this = main_object(&mut heap, fields)?;
-    let mut frame = Frame {
-        method: 1,
-        slots: List::new(alloc),
-        stack: Stack::new(alloc),
-        tasks: Stack::new(alloc),
-    };
-    frame.slots.push(Some(this))?;
-    for _ in 1..method.slots {
-        frame.slots.push(None)?;
-    }
-    frame.tasks.push(Task::Eval(body))?;
-    Ok(Some(Running { core, heap, frame }))
+    run_main(alloc, core, &mut heap, fields, wanted)
 }
 
-// The constructor of this text, about to begin.
-fn begin_once(alloc: Global, text: &[u8], fields: u32) -> Option<Running> {
-    let core = core_of(alloc, text)?;
-    match started(alloc, core, fields) {
-        Ok(running) => running,
-        Err(_) => None,
+/// The core of a program.
+pub fn core_again(alloc: Global, program: &[u8]) -> Option<Core> {
+    if let Some(core) = core_of(alloc, program) {
+        return Some(core);
     }
+    core_of(alloc, program)
 }
 
-/// The constructor of this text, about to begin, of a Main of so many fields. A refusal of memory is tried again.
-pub fn begin(alloc: Global, text: &[u8], fields: u32) -> Option<Running> {
-    match begin_once(alloc, text, fields) {
-        Some(running) => Some(running),
-        None => begin_once(alloc, text, fields),
-    }
-}
-
-/// Runs it to its Return, or to the first step that does not move. A step that is refused memory is done again; there is
-/// no answer where it changed a count.
-pub fn run(alloc: Global, running: &mut Running) -> Option<Ended> {
-    let mut ended = Ended {
-        last: Outcome::Skipped,
-        refused: 0,
-    };
-    for _ in 0..20_000 {
-        if !is_inside(&running.frame) {
-            break;
-        }
-        let before = counts_of(&running.frame);
-        match run_inside(alloc, &running.core, &mut running.heap, &mut running.frame) {
-            Ok(Outcome::Moved) => ended.last = Outcome::Moved,
-            Ok(outcome) => {
-                ended.last = outcome;
-                break;
-            }
-            Err(_) => {
-                ended.refused = ended.refused.saturating_add(1);
-                if counts_of(&running.frame) != before {
-                    return None;
-                }
-            }
-        }
-    }
-    Some(ended)
-}
-
-impl Running {
-    /// What a slot holds.
-    pub fn slot(&self, slot: usize) -> Option<&Value> {
-        self.frame.slots.get(slot)?.as_ref()
-    }
-
-    /// Whether a slot holds this number.
-    pub fn has_number(&self, slot: usize, number: u64) -> bool {
-        match self.slot(slot) {
-            Some(Value::Num(held)) => *held == number,
-            _ => false,
-        }
-    }
-
-    /// Whether a slot holds this truth value.
-    pub fn has_truth(&self, slot: usize, truth: bool) -> bool {
-        match self.slot(slot) {
-            Some(Value::Truth(held)) => *held == truth,
-            _ => false,
-        }
-    }
-
-    /// Whether a slot holds this text.
-    pub fn has_text(&self, slot: usize, text: &[u8]) -> bool {
-        match self.slot(slot) {
-            Some(Value::Text(held)) => held.as_slice() == text,
-            _ => false,
-        }
-    }
-
-    /// Whether a slot holds None.
-    pub fn has_none(&self, slot: usize) -> bool {
-        match self.slot(slot) {
-            Some(Value::Prim(entity)) => *entity == 0,
-            _ => false,
-        }
-    }
-
-    /// How many values are on the stack.
-    pub fn stack_len(&self) -> usize {
-        self.frame.stack.len()
-    }
-
-    /// What is to be done next.
-    pub fn next(&self) -> Option<Task> {
-        self.frame.tasks.top().copied()
+/// How the constructor ends of Main, which has so many fields and is the only entity of this text. Its slots behind its
+/// parameter are to hold these values then.
+pub fn end_of(alloc: Global, text: &[u8], fields: u32, wanted: &[Held<'_>]) -> Option<Ended> {
+    match core_again(alloc, text) {
+        Some(core) => run_core(alloc, &core, fields, wanted),
+        None => None,
     }
 }

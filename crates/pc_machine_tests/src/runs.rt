@@ -1,13 +1,22 @@
 //! Programs run step by step. The numbers of steps are counted by hand, from the tasks of each node.
-use crate::turns::{Counts, Turn, access_behind, outcome_behind, runs};
-use pc_machine::{Lack, Outcome};
+use crate::turns::{Turn, seen_behind};
+use pc_heap::Address;
+use pc_machine::{Access, Lack, Outcome};
+use std::alloc::Global;
 
-const fn turn(actor: u32, steps: u32, moved: u32, counts: Counts) -> Turn {
-    Turn {
-        actor,
-        steps,
-        moved,
-        counts,
+// Whether a program takes these turns and prints these texts.
+fn runs(alloc: Global, text: &[u8], turns: &[Turn], printed: &[&[u8]]) -> bool {
+    match seen_behind(alloc, text, turns, printed, 0) {
+        Some(seen) => seen.is_printed,
+        None => false,
+    }
+}
+
+// Whether the step of an actor ends so behind these turns of a program.
+fn ends(alloc: Global, text: &[u8], turns: &[Turn], actor: u32, outcome: Outcome) -> bool {
+    match seen_behind(alloc, text, turns, &[], actor) {
+        Some(seen) => seen.outcome == Some(outcome),
+        None => false,
     }
 }
 
@@ -16,20 +25,21 @@ const HELLO: &[u8] = b"actor Main
     env.out.print(\"hi\")
 ";
 
-/// The take, the body, the sequence, the call, the text, the field, the local, the read, the invocation and the return;
-/// and then the stream prints. There is no actor 7.
+// The take, the body, the sequence, the call, the text, the field, the local, the read, the invocation and the return;
+// and then the stream prints. There is no actor 7.
+const HELLO_TURNS: [Turn; 7] = [
+    (0, 5, 0, (2, 3, 1, 0)),
+    (1, 1, 1, (2, 3, 0, 0)),
+    (7, 5, 0, (2, 3, 0, 0)),
+    (1, 7, 7, (2, 3, 0, 0)),
+    (1, 1, 1, (2, 3, 1, 0)),
+    (1, 5, 1, (2, 3, 1, 0)),
+    (0, 5, 1, (2, 3, 0, 1)),
+];
+
 #[test]
-fn hello(rt: HostRuntime) {
-    let turns = [
-        turn(0, 5, 0, (2, 3, 1, 0)),
-        turn(1, 1, 1, (2, 3, 0, 0)),
-        turn(7, 5, 0, (2, 3, 0, 0)),
-        turn(1, 7, 7, (2, 3, 0, 0)),
-        turn(1, 1, 1, (2, 3, 1, 0)),
-        turn(1, 5, 1, (2, 3, 1, 0)),
-        turn(0, 5, 1, (2, 3, 0, 1)),
-    ];
-    assert!(rt; runs(rt.alloc(), HELLO, &turns, &[b"hi"]));
+fn a_text_is_printed(rt: HostRuntime) {
+    assert!(rt; runs(rt.alloc(), HELLO, &HELLO_TURNS, &[b"hi"]));
 }
 
 const SPAWN: &[u8] = b"actor A
@@ -40,17 +50,18 @@ actor Main
     A(5)
 ";
 
-/// The sixth step makes an actor with its object and its message, which it takes in its own turn.
+// The sixth step makes an actor with its object and its message, which it takes in its own turn.
+const SPAWN_TURNS: [Turn; 5] = [
+    (2, 5, 0, (2, 3, 1, 0)),
+    (1, 5, 5, (2, 3, 0, 0)),
+    (1, 1, 1, (3, 4, 1, 0)),
+    (1, 9, 1, (3, 4, 1, 0)),
+    (2, 9, 5, (3, 4, 0, 0)),
+];
+
 #[test]
-fn spawned(rt: HostRuntime) {
-    let turns = [
-        turn(2, 5, 0, (2, 3, 1, 0)),
-        turn(1, 5, 5, (2, 3, 0, 0)),
-        turn(1, 1, 1, (3, 4, 1, 0)),
-        turn(1, 9, 1, (3, 4, 1, 0)),
-        turn(2, 9, 5, (3, 4, 0, 0)),
-    ];
-    assert!(rt; runs(rt.alloc(), SPAWN, &turns, &[]));
+fn an_actor_is_made_and_takes_its_message(rt: HostRuntime) {
+    assert!(rt; runs(rt.alloc(), SPAWN, &SPAWN_TURNS, &[]));
 }
 
 const CALL: &[u8] = b"actor Main
@@ -60,11 +71,12 @@ const CALL: &[u8] = b"actor Main
     n + n
 ";
 
-/// Nine steps up to the invocation of the function, seven in it with its return, and six behind it.
+// Nine steps up to the invocation of the function, seven in it with its return, and six behind it.
+const CALL_TURNS: [Turn; 2] = [(1, 99, 22, (2, 3, 1, 0)), (0, 9, 1, (2, 3, 0, 1))];
+
 #[test]
-fn called(rt: HostRuntime) {
-    let turns = [turn(1, 99, 22, (2, 3, 1, 0)), turn(0, 9, 1, (2, 3, 0, 1))];
-    assert!(rt; runs(rt.alloc(), CALL, &turns, &[b"42"]));
+fn a_function_is_called(rt: HostRuntime) {
+    assert!(rt; runs(rt.alloc(), CALL, &CALL_TURNS, &[b"42"]));
 }
 
 const MAKE: &[u8] = b"class C
@@ -77,33 +89,64 @@ actor Main
     env.out.print(c.n.string())
 ";
 
-/// Seven steps make the object. The constructor's frame has a body, a sequence and a write, and gives the object.
+// Seven steps make the object. The constructor's frame has a body, a sequence and a write, and gives the object.
+const MAKE_TURNS: [Turn; 4] = [
+    (1, 6, 6, (2, 3, 0, 0)),
+    (1, 1, 1, (2, 4, 0, 0)),
+    (1, 99, 20, (2, 4, 1, 0)),
+    (0, 9, 1, (2, 4, 0, 1)),
+];
+
 #[test]
-fn made(rt: HostRuntime) {
-    let turns = [
-        turn(1, 6, 6, (2, 3, 0, 0)),
-        turn(1, 1, 1, (2, 4, 0, 0)),
-        turn(1, 99, 20, (2, 4, 1, 0)),
-        turn(0, 9, 1, (2, 4, 0, 1)),
-    ];
-    assert!(rt; runs(rt.alloc(), MAKE, &turns, &[b"7"]));
+fn an_object_is_made_and_its_field_is_read(rt: HostRuntime) {
+    assert!(rt; runs(rt.alloc(), MAKE, &MAKE_TURNS, &[b"7"]));
 }
 
-/// Before its writing and its reading an actor is about to touch the field of the object that it made.
+// The writing and the reading of the field of the object that Main makes.
+const WRITING: Access = Access {
+    address: Address {
+        maker: 1,
+        serial: 1,
+    },
+    field: 0,
+    write: true,
+};
+
+const READING: Access = Access {
+    address: Address {
+        maker: 1,
+        serial: 1,
+    },
+    field: 0,
+    write: false,
+};
+
+// Turns of the program above, and what Main is about to touch behind them.
+const TOUCHED: [(&[Turn], Option<Access>); 3] = [
+    (&[], None),
+    (&[(1, 12, 12, (2, 4, 0, 0))], Some(WRITING)),
+    (&[(1, 20, 20, (2, 4, 0, 0))], Some(READING)),
+];
+
+fn touches(alloc: Global, turns: &[Turn], access: Option<Access>) -> bool {
+    match seen_behind(alloc, MAKE, turns, &[], 1) {
+        Some(seen) => seen.access == access,
+        None => false,
+    }
+}
+
+fn touches_all(alloc: Global, rows: &[(&[Turn], Option<Access>)]) -> bool {
+    for (turns, access) in rows {
+        if !touches(alloc, turns, *access) {
+            return false;
+        }
+    }
+    true
+}
+
 #[test]
-fn touched(rt: HostRuntime) {
-    let before = [turn(1, 12, 12, (2, 4, 0, 0))];
-    let access = access_behind(rt.alloc(), MAKE, &before, 1);
-    assert!(rt;
-        access.is_some_and(|found| found.write
-            && found.field == 0
-            && found.address.maker == 1
-            && found.address.serial == 1)
-    );
-    let behind = [turn(1, 20, 20, (2, 4, 0, 0))];
-    let access = access_behind(rt.alloc(), MAKE, &behind, 1);
-    assert!(rt; access.is_some_and(|found| !found.write && found.address.serial == 1));
-    assert!(rt; access_behind(rt.alloc(), MAKE, &[], 1).is_none());
+fn before_its_writing_and_its_reading_an_actor_is_about_to_touch_a_field(rt: HostRuntime) {
+    assert!(rt; touches_all(rt.alloc(), &TOUCHED));
 }
 
 const LACK: &[u8] = b"actor Main
@@ -111,12 +154,20 @@ const LACK: &[u8] = b"actor Main
     1 + true
 ";
 
-/// A step that lacks something changes nothing, however often.
+// A step that lacks something changes nothing, however often.
+const LACK_TURNS: [Turn; 2] = [(1, 99, 6, (2, 3, 0, 0)), (1, 99, 0, (2, 3, 0, 0))];
+
 #[test]
-fn lacking(rt: HostRuntime) {
-    let turns = [turn(1, 99, 6, (2, 3, 0, 0)), turn(1, 99, 0, (2, 3, 0, 0))];
-    let outcome = outcome_behind(rt.alloc(), LACK, &turns, 1);
-    assert!(rt; outcome == Some(Outcome::Lacks(Lack::Value)));
+fn a_step_that_lacks_something_changes_nothing(rt: HostRuntime) {
+    assert!(rt;
+        ends(
+            rt.alloc(),
+            LACK,
+            &LACK_TURNS,
+            1,
+            Outcome::Lacks(Lack::Value)
+        )
+    );
 }
 
 const LONG: &[u8] = b"class C
@@ -134,13 +185,13 @@ actor Main
     n + 1
 ";
 
-/// A million steps: eight, 27,026 times round the loop with 37 each, and 30 of another time, behind the message.
+// A million steps: eight, 27,026 times round the loop with 37 each, and 30 of another time, behind the message.
+const LONG_TURNS: [Turn; 2] = [
+    (1, 1_000_000, 1_000_000, (2, 27_030, 27_027, 0)),
+    (0, 1_000_000, 27_027, (2, 27_030, 0, 27_027)),
+];
+
 #[test]
-fn a_million_steps(rt: HostRuntime) {
-    let turns = [
-        turn(1, 1_000_000, 1_000_000, (2, 27_030, 27_027, 0)),
-        turn(0, 1_000_000, 27_027, (2, 27_030, 0, 27_027)),
-    ];
-    let outcome = outcome_behind(rt.alloc(), LONG, &turns, 0);
-    assert!(rt; outcome == Some(Outcome::Skipped));
+fn a_million_steps_are_taken(rt: HostRuntime) {
+    assert!(rt; ends(rt.alloc(), LONG, &LONG_TURNS, 0, Outcome::Skipped));
 }

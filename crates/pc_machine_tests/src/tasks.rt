@@ -1,27 +1,19 @@
 //! The tasks that stay inside a frame: constructors of small texts, run to their ends.
-use crate::running::{Running, begin, run};
-use pc_semantics::{Lack, Outcome, Task};
+use crate::held::Held;
+use crate::running::end_of;
+use pc_semantics::{Lack, Outcome};
 use std::alloc::Global;
 
-// The constructor of a text, at its Return, with one value on the stack.
-fn done(alloc: Global, text: &[u8], fields: u32) -> Option<Running> {
-    let mut running = begin(alloc, text, fields)?;
-    let ended = run(alloc, &mut running)?;
-    if ended.last == Outcome::Moved
-        && running.next() == Some(Task::Return)
-        && running.stack_len() == 1
-    {
-        Some(running)
-    } else {
-        None
+// Whether the constructor of a text, of a Main of so many fields, comes to its Return with these values in its locals.
+fn leaves(alloc: Global, text: &[u8], fields: u32, locals: &[Held<'_>]) -> bool {
+    match end_of(alloc, text, fields, locals) {
+        Some(ended) => ended.last == Outcome::Moved && ended.is_done,
+        None => false,
     }
 }
 
-// How the last step of the constructor of a text ends.
-fn last(alloc: Global, text: &[u8], fields: u32) -> Option<Outcome> {
-    let mut running = begin(alloc, text, fields)?;
-    Some(run(alloc, &mut running)?.last)
-}
+// The value None.
+const NONE: Held<'static> = Held::Prim(0);
 
 const NUMBERS: &[u8] = b"actor Main
   new create(env: Env) =>
@@ -31,16 +23,17 @@ const NUMBERS: &[u8] = b"actor Main
     let d = (7 / 2) * (7 % 4)
     let e = (7 / 0) + (7 % 0)";
 
+const NUMBERS_LOCALS: [Held<'static>; 5] = [
+    Held::Number(2),
+    Held::Number(18446744073709551615),
+    Held::Number(4294967296),
+    Held::Number(9),
+    Held::Number(0),
+];
+
 #[test]
-fn arithmetic(rt: HostRuntime) {
-    let Some(main) = done(rt.alloc(), NUMBERS, 0) else {
-        panic!(rt; "not done")
-    };
-    assert!(rt; main.has_number(2, 2));
-    assert!(rt; main.has_number(3, 18446744073709551615));
-    assert!(rt; main.has_number(4, 4294967296));
-    assert!(rt; main.has_number(5, 9));
-    assert!(rt; main.has_number(6, 0));
+fn numbers_wrap_and_a_division_by_0_gives_0(rt: HostRuntime) {
+    assert!(rt; leaves(rt.alloc(), NUMBERS, 0, &NUMBERS_LOCALS));
 }
 
 const TRUTHS: &[u8] = b"actor Main
@@ -53,18 +46,19 @@ const TRUTHS: &[u8] = b"actor Main
     let f = None is None
     let g = this isnt this";
 
+const TRUTHS_LOCALS: [Held<'static>; 7] = [
+    Held::Truth(true),
+    Held::Truth(false),
+    Held::Truth(false),
+    Held::Truth(true),
+    Held::Truth(true),
+    Held::Truth(true),
+    Held::Truth(false),
+];
+
 #[test]
-fn comparisons(rt: HostRuntime) {
-    let Some(main) = done(rt.alloc(), TRUTHS, 0) else {
-        panic!(rt; "not done")
-    };
-    assert!(rt; main.has_truth(2, true));
-    assert!(rt; main.has_truth(3, false));
-    assert!(rt; main.has_truth(4, false));
-    assert!(rt; main.has_truth(5, true));
-    assert!(rt; main.has_truth(6, true));
-    assert!(rt; main.has_truth(7, true));
-    assert!(rt; main.has_truth(8, false));
+fn values_are_compared_by_what_they_are(rt: HostRuntime) {
+    assert!(rt; leaves(rt.alloc(), TRUTHS, 0, &TRUTHS_LOCALS));
 }
 
 const TURNS: &[u8] = b"actor Main
@@ -79,17 +73,18 @@ const TURNS: &[u8] = b"actor Main
     let u = consume t
     let old = (t = u + \"cd\")";
 
+const TURNS_LOCALS: [Held<'static>; 6] = [
+    Held::Number(5),
+    Held::Number(209),
+    NONE,
+    Held::Text(b"abcd"),
+    Held::Text(b"ab"),
+    NONE,
+];
+
 #[test]
-fn choices_and_slots(rt: HostRuntime) {
-    let Some(main) = done(rt.alloc(), TURNS, 0) else {
-        panic!(rt; "not done")
-    };
-    assert!(rt; main.has_number(2, 5));
-    assert!(rt; main.has_number(3, 209));
-    assert!(rt; main.has_none(4));
-    assert!(rt; main.has_text(5, b"abcd"));
-    assert!(rt; main.has_text(6, b"ab"));
-    assert!(rt; main.has_none(7));
+fn slots_are_written_round_a_loop_and_consumed(rt: HostRuntime) {
+    assert!(rt; leaves(rt.alloc(), TURNS, 0, &TURNS_LOCALS));
 }
 
 const FIELDS: &[u8] = b"actor Main
@@ -102,15 +97,16 @@ const FIELDS: &[u8] = b"actor Main
     let c = f
     let d = recover val g end";
 
+const FIELDS_LOCALS: [Held<'static>; 4] = [
+    NONE,
+    Held::Number(3),
+    Held::Number(7),
+    Held::Text(b"x"),
+];
+
 #[test]
-fn fields(rt: HostRuntime) {
-    let Some(main) = done(rt.alloc(), FIELDS, 2) else {
-        panic!(rt; "not done")
-    };
-    assert!(rt; main.has_none(2));
-    assert!(rt; main.has_number(3, 3));
-    assert!(rt; main.has_number(4, 7));
-    assert!(rt; main.has_text(5, b"x"));
+fn fields_are_written_and_read(rt: HostRuntime) {
+    assert!(rt; leaves(rt.alloc(), FIELDS, 2, &FIELDS_LOCALS));
 }
 
 // The text doubles until it has 4,096 bytes.
@@ -124,27 +120,54 @@ const DOUBLES: &[u8] = b"actor Main
     end
     let u = t + \"b\"";
 
-#[test]
-fn steps_that_do_not_move(rt: HostRuntime) {
-    assert!(rt; last(rt.alloc(), DOUBLES, 0) == Some(Outcome::TooLong));
-    let unset = b"actor Main
+const UNSET: &[u8] = b"actor Main
   var f: U64
   new create(env: Env) =>
     let a = f";
-    assert!(rt; last(rt.alloc(), unset, 1) == Some(Outcome::Lacks(Lack::Field)));
-    let gone = b"actor Main
+
+const GONE: &[u8] = b"actor Main
   new create(env: Env) =>
     let a = 1
     let b = consume a
     let c = a";
-    assert!(rt; last(rt.alloc(), gone, 0) == Some(Outcome::Lacks(Lack::Slot)));
-    let kinds = b"actor Main
+
+const KINDS: &[u8] = b"actor Main
   new create(env: Env) =>
     let a = 1 + true";
-    assert!(rt; last(rt.alloc(), kinds, 0) == Some(Outcome::Lacks(Lack::Value)));
-    let place = b"actor Main
+
+const PLACE: &[u8] = b"actor Main
   new create(env: Env) =>
     let a = 1
     a.f = 2";
-    assert!(rt; last(rt.alloc(), place, 0) == Some(Outcome::Lacks(Lack::Object)));
+
+// A text, how many fields its Main has, and how the last step of its constructor ends.
+type Ending = (&'static [u8], u32, Outcome);
+
+const ENDINGS: [Ending; 5] = [
+    (DOUBLES, 0, Outcome::TooLong),
+    (UNSET, 1, Outcome::Lacks(Lack::Field)),
+    (GONE, 0, Outcome::Lacks(Lack::Slot)),
+    (KINDS, 0, Outcome::Lacks(Lack::Value)),
+    (PLACE, 0, Outcome::Lacks(Lack::Object)),
+];
+
+fn ends(alloc: Global, text: &[u8], fields: u32, outcome: Outcome) -> bool {
+    match end_of(alloc, text, fields, &[]) {
+        Some(ended) => ended.last == outcome,
+        None => false,
+    }
+}
+
+fn all_end(alloc: Global, endings: &[Ending]) -> bool {
+    for (text, fields, outcome) in endings {
+        if !ends(alloc, text, *fields, *outcome) {
+            return false;
+        }
+    }
+    true
+}
+
+#[test]
+fn a_step_that_does_not_move_says_why(rt: HostRuntime) {
+    assert!(rt; all_end(rt.alloc(), &ENDINGS));
 }

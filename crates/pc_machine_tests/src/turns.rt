@@ -1,4 +1,5 @@
-//! Turns of a machine, and what is counted behind them.
+//! Turns of a machine, and what is seen behind them.
+use pc_core::Core;
 use pc_machine::{Access, Machine, Outcome, start};
 use pc_test_sources::core_of;
 use std::alloc::{AllocError, Global};
@@ -6,14 +7,19 @@ use std::alloc::{AllocError, Global};
 /// The actors, the objects, the waiting messages and the printed texts, counted.
 pub type Counts = (u32, u64, u64, usize);
 
-/// The turn of an actor: it is given so many steps, of which so many move before one does not, and then so many things are
-/// there.
-#[derive(Drop)]
-pub struct Turn {
-    pub actor: u32,
-    pub steps: u32,
-    pub moved: u32,
-    pub counts: Counts,
+/// The turn of an actor: the actor, how many steps it is given, how many of them move before one does not, and how many
+/// things are there then.
+pub type Turn = (u32, u32, u32, Counts);
+
+/// What is seen of a machine and of one of its actors.
+#[derive(Clone, Copy)]
+pub struct Seen {
+    /// Whether the texts that were printed are those that are wanted.
+    pub is_printed: bool,
+    /// What the actor is about to touch.
+    pub access: Option<Access>,
+    /// How its next step ends, where memory is not refused.
+    pub outcome: Option<Outcome>,
 }
 
 /// A step, where the machine is small enough for one.
@@ -35,25 +41,27 @@ pub fn counts(machine: &Machine<'_>) -> Counts {
     )
 }
 
+fn moves(machine: &mut Machine<'_>, actor: u32) -> bool {
+    match step(machine, actor) {
+        Ok(outcome) => outcome == Outcome::Moved,
+        Err(_) => false,
+    }
+}
+
 // How many of so many steps of an actor move before one does not.
 fn moved(machine: &mut Machine<'_>, actor: u32, steps: u32) -> u32 {
     for done in 0..steps {
-        match step(machine, actor) {
-            Ok(Outcome::Moved) => {}
-            _ => return done,
+        if !moves(machine, actor) {
+            return done;
         }
     }
     steps
 }
 
-/// Whether a turn goes as it says.
-pub fn goes(machine: &mut Machine<'_>, turn: &Turn) -> bool {
-    moved(machine, turn.actor, turn.steps) == turn.moved && counts(machine) == turn.counts
-}
-
+// Whether these turns go as they say, one after the other.
 fn all_go(machine: &mut Machine<'_>, turns: &[Turn]) -> bool {
-    for turn in turns {
-        if !goes(machine, turn) {
+    for (actor, steps, wanted, behind) in turns {
+        if moved(machine, *actor, *steps) != *wanted || counts(machine) != *behind {
             return false;
         }
     }
@@ -70,52 +78,48 @@ pub fn has_printed(machine: &Machine<'_>, texts: &[&[u8]]) -> bool {
             .all(|(one, other)| one.as_slice() == *other)
 }
 
-/// Whether the program of a text begins with two actors, three objects and a message that waits, takes these turns and
-/// prints these texts.
-pub fn runs(alloc: Global, text: &[u8], turns: &[Turn], printed: &[&[u8]]) -> bool {
-    let Some(core) = core_of(alloc, text) else {
-        return false;
-    };
-    match start(alloc, &core) {
-        Ok(mut machine) => {
-            counts(&machine) == (2, 3, 1, 0)
-                && all_go(&mut machine, turns)
-                && has_printed(&machine, printed)
-        }
-        Err(_) => false,
+// What is seen of a machine of two actors, three objects and a message that waits, and of an actor, behind these turns.
+fn seen_of(
+    machine: &mut Machine<'_>,
+    turns: &[Turn],
+    printed: &[&[u8]],
+    actor: u32,
+) -> Option<Seen> {
+    if counts(machine) != (2, 3, 1, 0) || !all_go(machine, turns) {
+        return None;
     }
+    Some(Seen {
+        is_printed: has_printed(machine, printed),
+        access: machine.access(actor),
+        outcome: step(machine, actor).ok(),
+    })
 }
 
-fn outcome_of(machine: &mut Machine<'_>, turns: &[Turn], actor: u32) -> Option<Outcome> {
-    if all_go(machine, turns) {
-        step(machine, actor).ok()
-    } else {
-        None
-    }
-}
-
-/// How the step of an actor ends behind these turns of a program.
-pub fn outcome_behind(alloc: Global, text: &[u8], turns: &[Turn], actor: u32) -> Option<Outcome> {
-    let core = core_of(alloc, text)?;
-    match start(alloc, &core) {
-        Ok(mut machine) => outcome_of(&mut machine, turns, actor),
+// The same of a core's machine.
+fn seen_in_core(
+    alloc: Global,
+    core: &Core,
+    turns: &[Turn],
+    printed: &[&[u8]],
+    actor: u32,
+) -> Option<Seen> {
+    match start(alloc, core) {
+        Ok(mut machine) => seen_of(&mut machine, turns, printed, actor),
         Err(_) => None,
     }
 }
 
-fn access_of(machine: &mut Machine<'_>, turns: &[Turn], actor: u32) -> Option<Access> {
-    if all_go(machine, turns) {
-        machine.access(actor)
-    } else {
-        None
-    }
-}
-
-/// What an actor is about to touch behind these turns of a program.
-pub fn access_behind(alloc: Global, text: &[u8], turns: &[Turn], actor: u32) -> Option<Access> {
-    let core = core_of(alloc, text)?;
-    match start(alloc, &core) {
-        Ok(mut machine) => access_of(&mut machine, turns, actor),
-        Err(_) => None,
+/// What is seen of the machine of a program and of an actor, behind these turns. There is no answer where a turn does not go
+/// as it says, and where the machine does not begin with two actors, three objects and a message that waits.
+pub fn seen_behind(
+    alloc: Global,
+    text: &[u8],
+    turns: &[Turn],
+    printed: &[&[u8]],
+    actor: u32,
+) -> Option<Seen> {
+    match core_of(alloc, text) {
+        Some(core) => seen_in_core(alloc, &core, turns, printed, actor),
+        None => None,
     }
 }

@@ -1,81 +1,128 @@
 //! Machines of accepted programs, behind the steps of lists of actors.
-use pc_check::check;
+ghost use Rattle.std.specs.Prelude.{◌≤◌, length};
+ghost use Rattle.pc_rules.specs.Valid.{Valid};
+ghost use Rattle.pc_steps.specs.Ends.{list_limit};
+
+use pc_check::{Ann, check};
+use pc_core::Core;
 use pc_machine::Machine;
 use pc_safe::{accepted_is_safe, accepted_runs};
 use pc_semantics::Access;
 use pc_test_sources::core_of;
-use std::alloc::Global;
+use std::alloc::{AllocError, Global};
 
-/// How many actors there are, how many texts were printed, and how many messages wait.
-#[derive(Clone, Copy, Debug, PartialEq, Eq)]
-pub struct Counts {
+/// What is seen of a machine.
+#[derive(Clone, Copy, PartialEq)]
+pub struct Seen {
+    /// How many actors there are.
     pub actors: u32,
+    /// How many texts were printed.
     pub printed: usize,
+    /// How many messages wait.
     pub waiting: u64,
+    /// What two actors are about to touch.
+    pub accesses: (Option<Access>, Option<Access>),
 }
 
-fn counts_of(machine: &Machine<'_>) -> Counts {
-    Counts {
+// What is seen of a machine, and of two of its actors.
+fn seen_of(machine: &Machine<'_>, two: (u32, u32)) -> Seen {
+    Seen {
         actors: machine.actors(),
         printed: machine.printed().len(),
         waiting: machine.waiting(),
+        accesses: (machine.access(two.0), machine.access(two.1)),
     }
 }
 
-/// The counts behind a list of actors, as `accepted_runs` and as `accepted_is_safe` answer them. There is no answer where the
-/// program is not accepted, where a text is too long, and at want of memory.
-pub fn counts_behind(alloc: Global, program: &[u8], actors: &[u32]) -> Option<(Counts, Counts)> {
-    if actors.len() > 4_000_000 {
-        return None;
-    }
-    let core = core_of(alloc, program)?;
-    let Ok(ann) = check(alloc, &core) else {
-        return None;
-    };
-    let _notes = &ann.notes;
-    let Ok(run) = accepted_runs(alloc, &core, &ann, actors) else {
-        return None;
-    };
-    let Ok(safe) = accepted_is_safe(alloc, &core, &ann, actors) else {
-        return None;
-    };
-    Some((counts_of(&run), counts_of(&safe)))
-}
-
-/// What two actors are about to touch behind a list of actors, as `accepted_is_safe` answers the machine.
-pub fn accesses_behind(
+// What is seen of the machine behind a list of actors, as `accepted_runs` answers it.
+fn seen_in_run(
     alloc: Global,
-    program: &[u8],
+    core: &Core,
+    ann: &Ann,
     actors: &[u32],
-    one: u32,
-    other: u32,
-) -> Option<(Option<Access>, Option<Access>)> {
-    if actors.len() > 4_000_000 {
-        return None;
-    }
-    let core = core_of(alloc, program)?;
-    let Ok(ann) = check(alloc, &core) else {
-        return None;
-    };
-    let _notes = &ann.notes;
-    match accepted_is_safe(alloc, &core, &ann, actors) {
-        Ok(machine) => Some((machine.access(one), machine.access(other))),
+    two: (u32, u32),
+) -> Option<Seen>
+    requires valid { Valid core.now ann.now }
+    requires few { length actors.now ≤ list_limit }
+{
+    match accepted_runs(alloc, core, ann, actors) {
+        Ok(machine) => Some(seen_of(&machine, two)),
         Err(_) => None,
     }
 }
 
-fn push_turn(list: &mut Vec<u32>, actor: u32, times: u32) -> Option<()> {
-    for _ in 0..times {
-        list.push(actor).ok()?;
+// The same as `accepted_is_safe` answers it.
+fn seen_in_safe_run(
+    alloc: Global,
+    core: &Core,
+    ann: &Ann,
+    actors: &[u32],
+    two: (u32, u32),
+) -> Option<Seen>
+    requires valid { Valid core.now ann.now }
+    requires few { length actors.now ≤ list_limit }
+{
+    match accepted_is_safe(alloc, core, ann, actors) {
+        Ok(machine) => Some(seen_of(&machine, two)),
+        Err(_) => None,
     }
-    Some(())
 }
 
-/// The list of actors that turns are, each an actor and how often.
-pub fn list_of(alloc: Global, turns: &[(u32, u32)]) -> Option<Vec<u32>> {
+// What is seen in both ways, where it is the same.
+fn seen_in_both(alloc: Global, core: &Core, actors: &[u32], two: (u32, u32)) -> Option<Seen>
+    requires { length actors.now ≤ list_limit }
+{
+    match check(alloc, core) {
+        Ok(ann) => {
+            let _notes = &ann.notes;
+            let run = seen_in_run(alloc, core, &ann, actors, two);
+            if seen_in_safe_run(alloc, core, &ann, actors, two) == run {
+                run
+            } else {
+                None
+            }
+        }
+        Err(_) => None,
+    }
+}
+
+// The same of a program.
+fn seen_in_program(alloc: Global, program: &[u8], actors: &[u32], two: (u32, u32)) -> Option<Seen> {
+    if actors.len() > 4_000_000 {
+        return None;
+    }
+    match core_of(alloc, program) {
+        Some(core) => seen_in_both(alloc, &core, actors, two),
+        None => None,
+    }
+}
+
+fn push_turn(list: &mut Vec<u32>, actor: u32, times: u32) -> Result<(), AllocError> {
+    for _ in 0..times {
+        list.push(actor)?;
+    }
+    Ok(())
+}
+
+// The list of actors that turns are, each an actor and how often.
+fn list_of(alloc: Global, turns: &[(u32, u32)]) -> Result<Vec<u32>, AllocError> {
     let mut list = Vec::new(alloc);
     for (actor, times) in turns {
         push_turn(&mut list, *actor, *times)?;
     }
-    Some(list)
+    Ok(list)
+}
+
+/// What is seen behind turns, of the machine and of two of its actors, where `accepted_runs` and `accepted_is_safe` answer
+/// the same. There is no answer where the program is not accepted, where a text is too long, and at want of memory.
+pub fn seen_behind(
+    alloc: Global,
+    program: &[u8],
+    turns: &[(u32, u32)],
+    two: (u32, u32),
+) -> Option<Seen> {
+    match list_of(alloc, turns) {
+        Ok(actors) => seen_in_program(alloc, program, &actors, two),
+        Err(_) => None,
+    }
 }

@@ -5,39 +5,70 @@ use pc_run::{Report, RunFault};
 use std::alloc::Global;
 
 /// What a run reports: steps that moved and were skipped, actors, objects, and messages that wait.
-pub(crate) fn report(moved: u64, skipped: u64, actors: u32, objects: u64, waiting: u64) -> Report {
-    Report {
-        moved,
-        skipped,
-        actors,
-        objects,
-        waiting,
+type Numbers = (u64, u64, u32, u64, u64);
+
+/// A run: its schedule, the calls of its sink that fail, each after so many bytes, and what it answers and writes.
+pub(crate) type Run = (
+    &'static [u8],
+    &'static [(u32, u32)],
+    Result<Numbers, RunFault>,
+    &'static [u8],
+);
+
+fn has_numbers(report: Report, numbers: Numbers) -> bool {
+    report.moved == numbers.0
+        && report.skipped == numbers.1
+        && report.actors == numbers.2
+        && report.objects == numbers.3
+        && report.waiting == numbers.4
+}
+
+fn is_answer(answer: Result<Report, RunFault>, wanted: Result<Numbers, RunFault>) -> bool {
+    match (answer, wanted) {
+        (Ok(report), Ok(numbers)) => has_numbers(report, numbers),
+        (Err(fault), Err(own)) => fault == own,
+        (Ok(_), Err(_)) | (Err(_), Ok(_)) => false,
     }
 }
 
-/// Whether a run answers this and writes this, to a sink of which these calls fail, each after so many bytes. Where memory
-/// was wanting, a prefix of it was written, and the next run answers and writes the same.
-pub(crate) fn runs(
-    alloc: Global,
-    program: &[u8],
-    schedule: &[u8],
-    failing: &[(u32, u32)],
-    answer: Result<Report, RunFault>,
-    text: &[u8],
-) -> bool {
-    for _ in 0..2 {
-        let Ok(mut sink) = MemSink::new(alloc, failing) else {
-            continue;
-        };
-        let answered = run_program(alloc, program, schedule, &mut sink);
-        if answered != Err(RunFault::Memory) {
-            return answered == answer && sink.bytes() == text;
-        }
-        if !text.starts_with(sink.bytes()) {
+// Whether a run to a sink answers and writes what it is to. There is no answer where memory was wanting and a prefix was
+// written.
+fn is_right(alloc: Global, program: &[u8], run: &Run, sink: &mut MemSink) -> Option<bool> {
+    let (schedule, _, wanted, text) = *run;
+    let answer = run_program(alloc, program, schedule, sink);
+    if !is_answer(answer, Err(RunFault::Memory)) {
+        Some(is_answer(answer, wanted) && sink.bytes() == text)
+    } else if text.starts_with(sink.bytes()) {
+        None
+    } else {
+        Some(false)
+    }
+}
+
+// The same to a sink of its own.
+fn is_right_once(alloc: Global, program: &[u8], run: &Run) -> Option<bool> {
+    match MemSink::new(alloc, run.1) {
+        Ok(mut sink) => is_right(alloc, program, run, &mut sink),
+        Err(_) => None,
+    }
+}
+
+// Whether a program runs so, at the second time where memory was wanting at the first.
+fn runs(alloc: Global, program: &[u8], run: &Run) -> bool {
+    match is_right_once(alloc, program, run) {
+        Some(right) => right,
+        None => is_right_once(alloc, program, run) == Some(true),
+    }
+}
+
+/// Whether a program has all these runs.
+pub(crate) fn all_run(alloc: Global, program: &[u8], all: &[Run]) -> bool {
+    for run in all {
+        if !runs(alloc, program, run) {
             return false;
         }
     }
-    false
+    true
 }
 
 const HELLO: &[u8] = b"actor Main
@@ -45,24 +76,30 @@ const HELLO: &[u8] = b"actor Main
     env.out.print(\"hi\")
 ";
 
+const HELLO_RUNS: [Run; 3] = [
+    (
+        b"1*10 0",
+        &[],
+        Ok((11, 0, 2, 3, 0)),
+        b"hi\nsteps 11 skipped 0 actors 2 objects 3 waiting 0\n",
+    ),
+    (
+        b"",
+        &[],
+        Ok((0, 0, 2, 3, 1)),
+        b"steps 0 skipped 0 actors 2 objects 3 waiting 1\n",
+    ),
+    (
+        b"7*5",
+        &[],
+        Ok((0, 5, 2, 3, 1)),
+        b"steps 0 skipped 5 actors 2 objects 3 waiting 1\n",
+    ),
+];
+
 #[test]
-fn hello(rt: HostRuntime) {
-    let alloc = rt.alloc();
-    let text = b"hi\nsteps 11 skipped 0 actors 2 objects 3 waiting 0\n";
-    assert!(rt;
-        runs(
-            alloc,
-            HELLO,
-            b"1*10 0",
-            &[],
-            Ok(report(11, 0, 2, 3, 0)),
-            text
-        )
-    );
-    let text = b"steps 0 skipped 0 actors 2 objects 3 waiting 1\n";
-    assert!(rt; runs(alloc, HELLO, b"", &[], Ok(report(0, 0, 2, 3, 1)), text));
-    let text = b"steps 0 skipped 5 actors 2 objects 3 waiting 1\n";
-    assert!(rt; runs(alloc, HELLO, b"7*5", &[], Ok(report(0, 5, 2, 3, 1)), text));
+fn a_run_writes_its_texts_and_then_its_numbers(rt: HostRuntime) {
+    assert!(rt; all_run(rt.alloc(), HELLO, &HELLO_RUNS));
 }
 
 // The first join is the constructor's 24th step, a turn of the loop takes 12 steps, and the 12th join is too long.
@@ -73,67 +110,32 @@ const DOUBLES: &[u8] = b"actor Main
     while true do s = s + s end
 ";
 
+const DOUBLES_RUNS: [Run; 3] = [
+    (b"1*9 0 1*1000", &[], Err(RunFault::TooLong(157)), b"go\n"),
+    (
+        b"7*3 1*9 0 1*1000",
+        &[],
+        Err(RunFault::TooLong(160)),
+        b"go\n",
+    ),
+    (b"1*9 0 1*1000", &[(1, 1)], Err(RunFault::Sink), b"g"),
+];
+
 #[test]
-fn too_long(rt: HostRuntime) {
-    let alloc = rt.alloc();
-    let schedule = b"1*9 0 1*1000";
-    assert!(rt;
-        runs(
-            alloc,
-            DOUBLES,
-            schedule,
-            &[],
-            Err(RunFault::TooLong(157)),
-            b"go\n"
-        )
-    );
-    assert!(rt;
-        runs(
-            alloc,
-            DOUBLES,
-            b"7*3 1*9 0 1*1000",
-            &[],
-            Err(RunFault::TooLong(160)),
-            b"go\n"
-        )
-    );
-    assert!(rt;
-        runs(
-            alloc,
-            DOUBLES,
-            schedule,
-            &[(1, 1)],
-            Err(RunFault::Sink),
-            b"g"
-        )
-    );
+fn a_text_that_is_too_long_ends_the_run_behind_what_was_printed(rt: HostRuntime) {
+    assert!(rt; all_run(rt.alloc(), DOUBLES, &DOUBLES_RUNS));
 }
 
-/// Each text is one call of `put`, and the numbers are one more. Behind a call that failed nothing is written.
+// Each text is one call of `put`, and the numbers are one more.
+const FAILING_RUNS: [Run; 3] = [
+    (b"1*10 0", &[(1, 0)], Err(RunFault::Sink), b""),
+    (b"1*10 0", &[(1, 2)], Err(RunFault::Sink), b"hi"),
+    (b"1*10 0", &[(2, 2)], Err(RunFault::Sink), b"hi\nst"),
+];
+
 #[test]
-fn sinks_that_fail(rt: HostRuntime) {
-    let alloc = rt.alloc();
-    assert!(rt; runs(alloc, HELLO, b"1*10 0", &[(1, 0)], Err(RunFault::Sink), b""));
-    assert!(rt;
-        runs(
-            alloc,
-            HELLO,
-            b"1*10 0",
-            &[(1, 2)],
-            Err(RunFault::Sink),
-            b"hi"
-        )
-    );
-    assert!(rt;
-        runs(
-            alloc,
-            HELLO,
-            b"1*10 0",
-            &[(2, 2)],
-            Err(RunFault::Sink),
-            b"hi\nst"
-        )
-    );
+fn behind_a_call_that_failed_nothing_is_written(rt: HostRuntime) {
+    assert!(rt; all_run(rt.alloc(), HELLO, &FAILING_RUNS));
 }
 
 const COUNTS: &[u8] = b"actor Main
@@ -141,13 +143,27 @@ const COUNTS: &[u8] = b"actor Main
     while true do env.out.print(\"\") end
 ";
 
-/// A million turns, in which tens of thousands of texts are printed.
+// Whether a million turns to a sink are taken, in which tens of thousands of texts are printed.
+fn takes_a_million_turns(alloc: Global, sink: &mut MemSink) -> bool {
+    match run_program(alloc, COUNTS, b"1*900000 0*100000", sink) {
+        Ok(report) => {
+            report.moved.checked_add(report.skipped) == Some(1_000_000)
+                && report.waiting == 0
+                && sink.bytes().len() > 50_000
+        }
+        Err(_) => false,
+    }
+}
+
+// The same to a sink of its own.
+fn are_a_million_turns_taken(alloc: Global) -> bool {
+    match MemSink::new(alloc, &[]) {
+        Ok(mut sink) => takes_a_million_turns(alloc, &mut sink),
+        Err(_) => false,
+    }
+}
+
 #[test]
-fn a_million_turns(rt: HostRuntime) {
-    let mut sink = MemSink::new(rt.alloc(), &[]).expect(&rt, "memory");
-    let answered = run_program(rt.alloc(), COUNTS, b"1*900000 0*100000", &mut sink);
-    let report = answered.expect(&rt, "a run");
-    assert_eq!(rt; report.moved.checked_add(report.skipped), Some(1_000_000));
-    assert_eq!(rt; report.waiting, 0);
-    assert!(rt; sink.bytes().len() > 50_000);
+fn a_million_turns_are_taken(rt: HostRuntime) {
+    assert!(rt; are_a_million_turns_taken(rt.alloc()));
 }

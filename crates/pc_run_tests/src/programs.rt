@@ -1,47 +1,83 @@
 //! Programs from their texts, accepted and run.
-ghost use Rattle.std.specs.Prelude.{IfOk};
+ghost use Rattle.std.specs.Prelude.{◌≤◌, IsTrue};
+ghost use Rattle.pc_sched.specs.Limits.{turn_limit};
+ghost use Rattle.pc_sched.specs.Schedules.{total};
 ghost use Rattle.pc_run.specs.Ends.{NeverLacks};
 
 use pc_check::check;
 use pc_core::Core;
-use pc_io::Sink;
+use pc_io::MemSink;
 use pc_machine::start;
 use pc_run::{Report, RunFault, run};
-use pc_sched::read;
+use pc_sched::{Turn, read};
 use pc_test_sources::core_of;
 use pc_types::accepted_never_lacks;
 use std::alloc::Global;
 
-// The core of a program that has a valid annotation, so that no step lacks anything.
-fn accepted(alloc: Global, text: &[u8]) -> Result<Core, RunFault>
-    ensures { IfOk result NeverLacks }
+// Whether a core has a valid annotation, so that no step lacks anything.
+fn is_accepted(alloc: Global, core: &Core) -> bool
+    ensures { IsTrue result → NeverLacks core.now }
 {
-    let Some(core) = core_of(alloc, text) else {
-        return Err(RunFault::Memory);
-    };
-    let Ok(ann) = check(alloc, &core) else {
-        return Err(RunFault::Memory);
-    };
-    let _notes = &ann.notes;
-    core.formed();
-    accepted_never_lacks();
-    Ok(core)
+    match check(alloc, core) {
+        Ok(ann) => {
+            let _notes = &ann.notes;
+            core.formed();
+            accepted_never_lacks();
+            true
+        }
+        Err(_) => false,
+    }
+}
+
+// Runs a core from its start on.
+fn run_core(
+    alloc: Global,
+    core: &Core,
+    turns: &[Turn],
+    out: &mut MemSink,
+) -> Result<Report, RunFault>
+    requires few { total turns.now ≤ turn_limit }
+    requires never_lacks { NeverLacks core.now }
+{
+    match start(alloc, core) {
+        Ok(mut machine) => run(alloc, &mut machine, turns, out),
+        Err(_) => Err(RunFault::Memory),
+    }
+}
+
+// The same of an accepted program.
+fn run_accepted(
+    alloc: Global,
+    program: &[u8],
+    turns: &[Turn],
+    out: &mut MemSink,
+) -> Result<Report, RunFault>
+    requires few { total turns.now ≤ turn_limit }
+{
+    match core_of(alloc, program) {
+        Some(core) => {
+            if is_accepted(alloc, &core) {
+                run_core(alloc, &core, turns, out)
+            } else {
+                Err(RunFault::Memory)
+            }
+        }
+        None => Err(RunFault::Memory),
+    }
 }
 
 /// Runs an accepted program over a schedule. What is no accepted program or no schedule is answered as want of memory.
-pub fn run_program<O: Sink>(
+pub fn run_program(
     alloc: Global,
     program: &[u8],
     schedule: &[u8],
-    out: &mut O,
+    out: &mut MemSink,
 ) -> Result<Report, RunFault> {
     if schedule.len() > 1_048_576 {
         return Err(RunFault::Memory);
     }
-    let Ok(turns) = read(alloc, schedule) else {
-        return Err(RunFault::Memory);
-    };
-    let core = accepted(alloc, program)?;
-    let mut machine = start(alloc, &core)?;
-    run(alloc, &mut machine, turns.as_slice(), out)
+    match read(alloc, schedule) {
+        Ok(turns) => run_accepted(alloc, program, turns.as_slice(), out),
+        Err(_) => Err(RunFault::Memory),
+    }
 }

@@ -1,33 +1,28 @@
 //! Machines of accepted programs: what they count, and what two actors are about to touch.
-use crate::behind::{Counts, accesses_behind, counts_behind, list_of};
+use crate::behind::{Seen, seen_behind};
+use std::alloc::Global;
 
 const HELLO: &[u8] = b"actor Main
   new create(env: Env) =>
     env.out.print(\"hi\")
 ";
 
-/// Behind Main's ten steps its text waits for the stream, and nothing is printed yet.
+// Whether so many texts were printed and so many messages wait behind these turns of the program.
+fn are_counted(alloc: Global, turns: &[(u32, u32)], printed: usize, waiting: u64) -> bool {
+    match seen_behind(alloc, HELLO, turns, (0, 1)) {
+        Some(seen) => seen.actors == 2 && seen.printed == printed && seen.waiting == waiting,
+        None => false,
+    }
+}
+
 #[test]
-fn behind_ten_steps(rt: HostRuntime) {
-    let waits = Counts {
-        actors: 2,
-        printed: 0,
-        waiting: 1,
-    };
-    assert_eq!(rt;
-        counts_behind(rt.alloc(), HELLO, &[1; 10]),
-        Some((waits, waits))
-    );
-    let printed = Counts {
-        actors: 2,
-        printed: 1,
-        waiting: 0,
-    };
-    let actors = [1, 1, 1, 1, 1, 1, 1, 1, 1, 1, 0];
-    assert_eq!(rt;
-        counts_behind(rt.alloc(), HELLO, &actors),
-        Some((printed, printed))
-    );
+fn behind_ten_steps_the_text_waits_for_the_stream(rt: HostRuntime) {
+    assert!(rt; are_counted(rt.alloc(), &[(1, 10)], 0, 1));
+}
+
+#[test]
+fn behind_the_stream_s_step_the_text_is_printed(rt: HostRuntime) {
+    assert!(rt; are_counted(rt.alloc(), &[(1, 10), (0, 1)], 1, 0));
 }
 
 const READERS: &[u8] = b"class C
@@ -48,16 +43,20 @@ actor Main
     b.read()
 ";
 
-/// Two actors are about to read the field of one object, and neither writes it.
+const READ: [(u32, u32); 5] = [(1, 43), (2, 13), (3, 13), (2, 9), (3, 9)];
+
+// Whether two actors are about to read the first field of one object.
+fn both_read(seen: Option<Seen>) -> bool {
+    match seen {
+        Some(seen) => match seen.accesses {
+            (Some(one), Some(other)) => one == other && one.field == 0 && !one.write,
+            (None, _) | (_, None) => false,
+        },
+        None => false,
+    }
+}
+
 #[test]
-fn two_readers_of_one_field(rt: HostRuntime) {
-    let turns = [(1, 43), (2, 13), (3, 13), (2, 9), (3, 9)];
-    let actors = list_of(rt.alloc(), &turns).expect(&rt, "memory");
-    let accesses = accesses_behind(rt.alloc(), READERS, actors.as_slice(), 2, 3);
-    let Some((Some(one), Some(other))) = accesses else {
-        panic!(rt; "both read a field");
-    };
-    assert_eq!(rt; one, other);
-    assert_eq!(rt; one.field, 0);
-    assert!(rt; !one.write);
+fn two_actors_are_about_to_read_the_field_of_one_object(rt: HostRuntime) {
+    assert!(rt; both_read(seen_behind(rt.alloc(), READERS, &READ, (2, 3))));
 }

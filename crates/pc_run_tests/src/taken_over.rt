@@ -1,5 +1,5 @@
 //! Runs of programs with bodies in traits and interfaces: what takes a body over runs it with its own names.
-use crate::cases::{report, runs};
+use crate::cases::{Run, all_run};
 
 // Main takes 75 steps: 3 before the items, 35 for each of the two calls, one between them, and the return. Of a call's 35 steps
 // 11 make the object and 17 are the body's.
@@ -17,19 +17,16 @@ actor Main
     env.out.print(B().word())
 ";
 
+const OWN_NAMES_RUN: Run = (
+    b"1*75 0*2",
+    &[],
+    Ok((77, 0, 2, 5, 0)),
+    b"a1\nb2\nsteps 77 skipped 0 actors 2 objects 5 waiting 0\n",
+);
+
 #[test]
 fn names_are_those_of_the_class(rt: HostRuntime) {
-    let text = b"a1\nb2\nsteps 77 skipped 0 actors 2 objects 5 waiting 0\n";
-    assert!(rt;
-        runs(
-            rt.alloc(),
-            OWN_NAMES,
-            b"1*75 0*2",
-            &[],
-            Ok(report(77, 0, 2, 5, 0)),
-            text
-        )
-    );
+    assert!(rt; all_run(rt.alloc(), OWN_NAMES, &[OWN_NAMES_RUN]));
 }
 
 // Main takes 23 steps, and each of the others 8 for its constructor and 16 for the behaviour.
@@ -50,19 +47,16 @@ actor Main
     b.tell()
 ";
 
+const TOLD_RUN: Run = (
+    b"1*23 2*24 3*24 0*2",
+    &[],
+    Ok((73, 0, 4, 5, 0)),
+    b"a\nb\nsteps 73 skipped 0 actors 4 objects 5 waiting 0\n",
+);
+
 #[test]
 fn each_actor_has_the_behaviour(rt: HostRuntime) {
-    let text = b"a\nb\nsteps 73 skipped 0 actors 4 objects 5 waiting 0\n";
-    assert!(rt;
-        runs(
-            rt.alloc(),
-            TOLD,
-            b"1*23 2*24 3*24 0*2",
-            &[],
-            Ok(report(73, 0, 4, 5, 0)),
-            text
-        )
-    );
+    assert!(rt; all_run(rt.alloc(), TOLD, &[TOLD_RUN]));
 }
 
 // Main takes 60 steps: 8 for each of the two locals, 12 for each of the three calls, one between two items, 3 before them, and
@@ -82,17 +76,14 @@ actor Main
     env.out.print(P.word())
 ";
 
+const OF_AN_INTERFACE_RUN: Run = (
+    b"1*60 0*3",
+    &[],
+    Ok((63, 0, 2, 5, 0)),
+    b"one\nother\none\nsteps 63 skipped 0 actors 2 objects 5 waiting 0\n",
+);
+
 #[test]
 fn an_own_method_comes_before_the_body_of_an_interface(rt: HostRuntime) {
-    let text = b"one\nother\none\nsteps 63 skipped 0 actors 2 objects 5 waiting 0\n";
-    assert!(rt;
-        runs(
-            rt.alloc(),
-            OF_AN_INTERFACE,
-            b"1*60 0*3",
-            &[],
-            Ok(report(63, 0, 2, 5, 0)),
-            text
-        )
-    );
+    assert!(rt; all_run(rt.alloc(), OF_AN_INTERFACE, &[OF_AN_INTERFACE_RUN]));
 }

@@ -1,4 +1,7 @@
 //! From the text of a program to the lines of its table.
+ghost use Rattle.pc_rules.specs.Valid.{Valid};
+
+use pc_ann::Ann;
 use pc_check::check;
 use pc_core::Core;
 use pc_noted::entities;
@@ -6,16 +9,23 @@ use pc_sends::{Row, Table, sends};
 use pc_test_sources::core_of;
 use std::alloc::Global;
 
-/// The table of a core, by the derivation that is found for it. There is none where there is no derivation, and at want of
-/// memory.
-fn table_of(alloc: Global, core: &Core) -> Option<Table> {
-    let Ok(ann) = check(alloc, core) else {
-        return None;
-    };
-    let Ok(noted) = entities(alloc, core, &ann) else {
+// The table of a core by its derivation.
+fn table_by(alloc: Global, core: &Core, ann: &Ann) -> Option<Table>
+    requires { Valid core.now ann.now }
+{
+    let Ok(noted) = entities(alloc, core, ann) else {
         return None;
     };
     sends(alloc, core, noted.as_slice()).ok()
+}
+
+/// The table of a core, by the derivation that is found for it. There is none where there is no derivation, and at want of
+/// memory.
+fn table_of(alloc: Global, core: &Core) -> Option<Table> {
+    match check(alloc, core) {
+        Ok(ann) => table_by(alloc, core, &ann),
+        Err(_) => None,
+    }
 }
 
 fn push_entity(text: &mut Vec<u8>, core: &Core, number: u32) -> Option<()> {
@@ -53,11 +63,21 @@ fn push_table(text: &mut Vec<u8>, core: &Core, table: &Table) -> Option<()> {
     Some(())
 }
 
+// The lines of a table.
+fn lines_by(alloc: Global, core: &Core, table: &Table) -> Option<Vec<u8>> {
+    let mut text = Vec::new(alloc);
+    push_table(&mut text, core, table)?;
+    Some(text)
+}
+
+// The lines of a core's table.
+fn core_lines(alloc: Global, core: &Core) -> Option<Vec<u8>> {
+    let table = table_of(alloc, core)?;
+    lines_by(alloc, core, &table)
+}
+
 /// A line for each row, and then one for each method that is never sent.
 pub fn lines_of(alloc: Global, program: &[u8]) -> Option<Vec<u8>> {
     let core = core_of(alloc, program)?;
-    let table = table_of(alloc, &core)?;
-    let mut text = Vec::new(alloc);
-    push_table(&mut text, &core, &table)?;
-    Some(text)
+    core_lines(alloc, &core)
 }

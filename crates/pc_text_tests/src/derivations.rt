@@ -2,7 +2,6 @@
 use pc_caps::{Cap, Form, List};
 use pc_deriv::{Ann, DerivFault, Mask, Note, Rule, read, write, write2};
 use std::alloc::{AllocError, Global};
-use std::test::Fail;
 
 /// The annotation of a class, and of an actor whose constructor defines a local of it.
 pub const EXAMPLE: [&[u8]; 12] = [
@@ -37,12 +36,12 @@ pub const EXAMPLE2: [&[u8]; 12] = [
 ];
 
 /// The lines with other bytes for one of them, counted from 1.
-fn variant_of(
+pub fn variant_of(
     alloc: Global,
     lines: &[&[u8]],
     number: usize,
     line: &[u8],
-) -> Result<List<u8>, AllocError> {
+) -> Result<Vec<u8>, AllocError> {
     let mut text: Vec<u8> = Vec::new(alloc);
     for at in 0..lines.len() {
         if at + 1 == number {
@@ -51,104 +50,135 @@ fn variant_of(
             text.extend_from_slice(lines[at])?;
         }
     }
-    Ok(List::from_vec(text))
+    Ok(text)
 }
 
-/// The example with other bytes for one line, counted from 1.
-pub fn variant(alloc: Global, number: usize, line: &[u8]) -> Result<List<u8>, AllocError> {
-    variant_of(alloc, &EXAMPLE, number, line)
-}
-
-/// The example in version 2 with other bytes for one line, counted from 1.
-pub fn variant2(alloc: Global, number: usize, line: &[u8]) -> Result<List<u8>, AllocError> {
-    variant_of(alloc, &EXAMPLE2, number, line)
-}
-
-/// Whether bytes are read, or have this fault.
-fn reads_as(alloc: Global, bytes: &[u8], wanted: Option<DerivFault>) -> bool {
-    match read(alloc, bytes) {
-        Ok(_) => wanted == None,
-        Err(fault) => wanted == Some(fault),
-    }
-}
+/// A node of the example: its rule, its type, and the live masks before and after it.
+pub type NodeRow = (Rule, Option<(u32, Form)>, u64, u64);
 
 /// A note that sets nothing.
-pub fn note(rule: Rule, ty: Option<(u32, Form)>, before: u64, after: u64) -> Note {
+pub fn note(row: NodeRow) -> Note {
     Note {
-        rule,
-        ty,
-        live_before: Mask(before),
+        rule: row.0,
+        ty: row.1,
+        live_before: Mask(row.2),
         set_before: Mask(0),
-        live_after: Mask(after),
+        live_after: Mask(row.3),
         set_after: Mask(0),
     }
 }
 
-#[test]
-fn the_example_is_read_and_written_in_both_versions(rt: HostRuntime) -> Result<(), Fail> {
-    let alloc = rt.alloc();
-    let text = variant(alloc, 0, b"")?;
-    let text2 = variant2(alloc, 0, b"")?;
-    let slots = [(6, Cap::Ref), (7, Cap::Ref), (4, Cap::Val), (6, Cap::Iso)];
-    let notes = [
-        note(Rule::Prim, Some((0, Form::Val)), 1, 1),
-        note(Rule::Seq, Some((0, Form::Val)), 1, 1),
-        note(Rule::Body, None, 1, 1),
-        note(Rule::New, Some((6, Form::IsoE)), 3, 3),
-        note(Rule::Define, None, 3, 7),
-        note(Rule::Seq, None, 3, 3),
-        note(Rule::Body, None, 3, 3),
-    ];
-    let wanted = Ann {
-        slots: List::from_slice(alloc, &slots)?,
-        notes: List::from_slice(alloc, &notes)?,
-    };
-    match read(alloc, text.as_slice()) {
-        Ok(ann) => assert!(rt; ann == wanted, "read"),
-        Err(fault) => assert!(rt; false, "refused"),
+/// The slots of the example.
+const SLOTS: [(u32, Cap); 4] = [(6, Cap::Ref), (7, Cap::Ref), (4, Cap::Val), (6, Cap::Iso)];
+
+/// Its nodes.
+pub const NODES: [NodeRow; 7] = [
+    (Rule::Prim, Some((0, Form::Val)), 1, 1),
+    (Rule::Seq, Some((0, Form::Val)), 1, 1),
+    (Rule::Body, None, 1, 1),
+    (Rule::New, Some((6, Form::IsoE)), 3, 3),
+    (Rule::Define, None, 3, 7),
+    (Rule::Seq, None, 3, 3),
+    (Rule::Body, None, 3, 3),
+];
+
+fn notes_of(alloc: Global, rows: &[NodeRow]) -> Result<List<Note>, AllocError> {
+    let mut notes: List<Note> = List::new(alloc);
+    for row in rows {
+        notes.push(note(*row))?;
     }
-    match read(alloc, text2.as_slice()) {
-        Ok(ann) => assert!(rt; ann == wanted, "read in version 2"),
-        Err(fault) => assert!(rt; false, "refused in version 2"),
-    }
-    assert_eq!(rt; write(alloc, &wanted)?.as_slice(), text.as_slice());
-    assert_eq!(rt; write2(alloc, &wanted)?.as_slice(), text2.as_slice());
-    Ok(())
+    Ok(notes)
 }
 
-#[test]
-fn the_lines_of_one_version_say_other_masks_in_the_other(rt: HostRuntime) -> Result<(), Fail> {
-    let alloc = rt.alloc();
-    // Masks after that are taken for the bits that differ, and bits that differ that are taken for the masks after.
-    let text = variant(alloc, 1, b"rcap-derivation 2 4 7\n")?;
-    let text2 = variant2(alloc, 1, b"rcap-derivation 1 4 7\n")?;
-    let slots = [(6, Cap::Ref), (7, Cap::Ref), (4, Cap::Val), (6, Cap::Iso)];
-    let notes = [
-        note(Rule::Prim, Some((0, Form::Val)), 1, 0),
-        note(Rule::Seq, Some((0, Form::Val)), 1, 0),
-        note(Rule::Body, None, 1, 0),
-        note(Rule::New, Some((6, Form::IsoE)), 3, 0),
-        note(Rule::Define, None, 3, 4),
-        note(Rule::Seq, None, 3, 0),
-        note(Rule::Body, None, 3, 0),
-    ];
-    let wanted = Ann {
-        slots: List::from_slice(alloc, &slots)?,
-        notes: List::from_slice(alloc, &notes)?,
-    };
-    match read(alloc, text.as_slice()) {
-        Ok(ann) => assert!(rt; ann == wanted, "read"),
-        Err(fault) => assert!(rt; false, "refused"),
-    }
-    match read(alloc, text2.as_slice()) {
-        Ok(ann) => assert!(rt; ann == wanted, "read in version 1"),
-        Err(fault) => assert!(rt; false, "refused in version 1"),
-    }
-    Ok(())
+// The annotation of the example's slots, with these nodes.
+fn ann_of(alloc: Global, rows: &[NodeRow]) -> Result<Ann, AllocError> {
+    Ok(Ann {
+        slots: List::from_slice(alloc, &SLOTS)?,
+        notes: notes_of(alloc, rows)?,
+    })
 }
+
+fn is_read_as(alloc: Global, text: &[u8], wanted: &Ann) -> bool {
+    match read(alloc, text) {
+        Ok(ann) => ann == *wanted,
+        Err(_) => false,
+    }
+}
+
+// The text of an annotation in version 2, or in version 1.
+fn text_of(alloc: Global, second: bool, ann: &Ann) -> Result<List<u8>, AllocError> {
+    if ann.slots.len() > 640_000 || ann.notes.len() > 200_000 {
+        return Err(AllocError);
+    }
+    if second {
+        write2(alloc, ann)
+    } else {
+        write(alloc, ann)
+    }
+}
+
+fn is_written_as(alloc: Global, second: bool, ann: &Ann, text: &[u8]) -> bool {
+    match text_of(alloc, second, ann) {
+        Ok(found) => found.as_slice() == text,
+        Err(AllocError) => false,
+    }
+}
+
+// Whether lines with another first line are read as the example's slots and these nodes.
+fn is_read(
+    alloc: Global,
+    lines: &[&[u8]],
+    first: &[u8],
+    rows: &[NodeRow],
+) -> Result<bool, AllocError> {
+    let text = variant_of(alloc, lines, 1, first)?;
+    let wanted = ann_of(alloc, rows)?;
+    Ok(is_read_as(alloc, &text, &wanted))
+}
+
+// Whether the lines are written of the example, in version 2 or in version 1.
+fn is_written(alloc: Global, second: bool, lines: &[&[u8]]) -> Result<bool, AllocError> {
+    let text = variant_of(alloc, lines, 0, b"")?;
+    let ann = ann_of(alloc, &NODES)?;
+    Ok(is_written_as(alloc, second, &ann, &text))
+}
+
+const HEAD: &[u8] = b"rcap-derivation 1 4 7\n";
+
+const HEAD2: &[u8] = b"rcap-derivation 2 4 7\n";
+
+#[test]
+fn the_example_is_read_and_written_in_both_versions(rt: HostRuntime) {
+    let alloc = rt.alloc();
+    assert!(rt; is_read(alloc, &EXAMPLE, HEAD, &NODES) == Ok(true));
+    assert!(rt; is_read(alloc, &EXAMPLE2, HEAD2, &NODES) == Ok(true));
+    assert!(rt; is_written(alloc, false, &EXAMPLE) == Ok(true));
+    assert!(rt; is_written(alloc, true, &EXAMPLE2) == Ok(true));
+}
+
+// Masks after that are taken for the bits that differ, and bits that differ that are taken for the masks after.
+const OTHER_NODES: [NodeRow; 7] = [
+    (Rule::Prim, Some((0, Form::Val)), 1, 0),
+    (Rule::Seq, Some((0, Form::Val)), 1, 0),
+    (Rule::Body, None, 1, 0),
+    (Rule::New, Some((6, Form::IsoE)), 3, 0),
+    (Rule::Define, None, 3, 4),
+    (Rule::Seq, None, 3, 0),
+    (Rule::Body, None, 3, 0),
+];
+
+#[test]
+fn the_lines_of_one_version_say_other_masks_in_the_other(rt: HostRuntime) {
+    let alloc = rt.alloc();
+    assert!(rt; is_read(alloc, &EXAMPLE, HEAD2, &OTHER_NODES) == Ok(true));
+    assert!(rt; is_read(alloc, &EXAMPLE2, HEAD, &OTHER_NODES) == Ok(true));
+}
+
+/// The number of a line, other bytes for it, and what is wrong then.
+pub type Variant = (usize, &'static [u8], Option<DerivFault>);
 
 /// A line of the example with other bytes, and what is wrong then.
-pub const VARIANTS: [(usize, &[u8], Option<DerivFault>); 38] = [
+pub const VARIANTS: [Variant; 38] = [
     (9, b"n new 6 ref 3 0 3 0\n", None),
     (5, b"s 6 val\n", None),
     (5, b"s 4294967295 iso\n", None),
@@ -198,7 +228,7 @@ pub const VARIANTS: [(usize, &[u8], Option<DerivFault>); 38] = [
 ];
 
 /// A line of the example in version 2 with other bytes, and what is wrong then.
-pub const VARIANTS2: [(usize, &[u8], Option<DerivFault>); 25] = [
+pub const VARIANTS2: [Variant; 25] = [
     (9, b"n new 6 ref 3 0 0 0\n", None),
     (8, b"n body - 1 0 ffffffffffffffff 1\n", None),
     (1, b"rcap-derivation 1 4 7\n", None),
@@ -230,54 +260,76 @@ pub const VARIANTS2: [(usize, &[u8], Option<DerivFault>); 25] = [
     (12, b"n body - 3 0 0 0\n\n", Some(DerivFault::BadLine(13))),
 ];
 
-#[test]
-fn variants_of_the_example_are_told_apart(rt: HostRuntime) -> Result<(), Fail> {
-    let alloc = rt.alloc();
-    for (number, line, wanted) in VARIANTS {
-        let text = variant(alloc, number, line)?;
-        assert!(rt; reads_as(alloc, text.as_slice(), wanted), "line {number}");
+// Whether bytes are read, or have this fault.
+fn reads_as(alloc: Global, bytes: &[u8], wanted: Option<DerivFault>) -> bool {
+    match read(alloc, bytes) {
+        Ok(_) => wanted == None,
+        Err(fault) => wanted == Some(fault),
     }
-    for (number, line, wanted) in VARIANTS2 {
-        let text = variant2(alloc, number, line)?;
-        assert!(rt;
-            reads_as(alloc, text.as_slice(), wanted),
-            "version 2, line {number}"
-        );
+}
+
+fn is_told(alloc: Global, lines: &[&[u8]], variant: Variant) -> bool {
+    let (number, line, wanted) = variant;
+    match variant_of(alloc, lines, number, line) {
+        Ok(text) => reads_as(alloc, &text, wanted),
+        Err(AllocError) => false,
     }
-    Ok(())
+}
+
+// The place of the first of these variants that is told otherwise.
+fn wrong_variant(alloc: Global, lines: &[&[u8]], variants: &[Variant]) -> Option<usize> {
+    for at in 0..variants.len() {
+        if !is_told(alloc, lines, variants[at]) {
+            return Some(at);
+        }
+    }
+    None
 }
 
 #[test]
-fn crafted_texts_are_told_apart(rt: HostRuntime) -> Result<(), Fail> {
-    let alloc = rt.alloc();
-    let rows: [(&[u8], Option<DerivFault>); 13] = [
-        (b"", Some(DerivFault::BadLine(1))),
-        (b"\n", Some(DerivFault::BadLine(1))),
-        (
-            b"rcap-derivation 1 0 4294967296\n",
-            Some(DerivFault::BadLine(1)),
-        ),
-        (
-            b"rcap-derivation 3 640001 0\n",
-            Some(DerivFault::BadLine(1)),
-        ),
-        (b"rcap-derivation 2 640001 0\n", Some(DerivFault::TooMany)),
-        (b"rcap-derivation 2 0 200001\n", Some(DerivFault::TooMany)),
-        (b"rcap-derivation 1 640001 0", Some(DerivFault::BadLine(1))),
-        (b"rcap-derivation 1 640001 0\n", Some(DerivFault::TooMany)),
-        (b"rcap-derivation 1 0 200001\n", Some(DerivFault::TooMany)),
-        (
-            b"rcap-derivation 1 640000 200000\n",
-            Some(DerivFault::BadLine(2)),
-        ),
-        (b"rcap-derivation 1 0 0\n", None),
-        (b"rcap-derivation 2 0 0\n", None),
-        (b"rcap-derivation 0 0 0\n", Some(DerivFault::BadLine(1))),
-    ];
-    for (text, wanted) in rows {
-        assert!(rt; reads_as(alloc, text, wanted));
+fn variants_of_the_example_are_told_apart(rt: HostRuntime) {
+    assert_eq!(rt; wrong_variant(rt.alloc(), &EXAMPLE, &VARIANTS), None);
+    assert_eq!(rt; wrong_variant(rt.alloc(), &EXAMPLE2, &VARIANTS2), None);
+}
+
+const CRAFTED: [(&[u8], Option<DerivFault>); 13] = [
+    (b"", Some(DerivFault::BadLine(1))),
+    (b"\n", Some(DerivFault::BadLine(1))),
+    (
+        b"rcap-derivation 1 0 4294967296\n",
+        Some(DerivFault::BadLine(1)),
+    ),
+    (
+        b"rcap-derivation 3 640001 0\n",
+        Some(DerivFault::BadLine(1)),
+    ),
+    (b"rcap-derivation 2 640001 0\n", Some(DerivFault::TooMany)),
+    (b"rcap-derivation 2 0 200001\n", Some(DerivFault::TooMany)),
+    (b"rcap-derivation 1 640001 0", Some(DerivFault::BadLine(1))),
+    (b"rcap-derivation 1 640001 0\n", Some(DerivFault::TooMany)),
+    (b"rcap-derivation 1 0 200001\n", Some(DerivFault::TooMany)),
+    (
+        b"rcap-derivation 1 640000 200000\n",
+        Some(DerivFault::BadLine(2)),
+    ),
+    (b"rcap-derivation 1 0 0\n", None),
+    (b"rcap-derivation 2 0 0\n", None),
+    (b"rcap-derivation 0 0 0\n", Some(DerivFault::BadLine(1))),
+];
+
+// The place of the first of these texts that is told otherwise.
+fn wrong_text(alloc: Global, rows: &[(&[u8], Option<DerivFault>)]) -> Option<usize> {
+    for at in 0..rows.len() {
+        if !reads_as(alloc, rows[at].0, rows[at].1) {
+            return Some(at);
+        }
     }
-    Ok(())
+    None
+}
+
+#[test]
+fn crafted_texts_are_told_apart(rt: HostRuntime) {
+    assert_eq!(rt; wrong_text(rt.alloc(), &CRAFTED), None);
 }
 
 const NAMES: [(Rule, &str); 31] = [
@@ -314,73 +366,111 @@ const NAMES: [(Rule, &str); 31] = [
     (Rule::Body, "body"),
 ];
 
-#[test]
-fn each_rule_has_its_name(rt: HostRuntime) -> Result<(), Fail> {
-    let alloc = rt.alloc();
-    for (rule, name) in NAMES {
-        let text = format!(in alloc; "rcap-derivation 1 0 1\nn {name} - 0 1f a 0\n")?;
-        let own = Note {
-            rule,
-            ty: None,
-            live_before: Mask(0),
-            set_before: Mask(31),
-            live_after: Mask(10),
-            set_after: Mask(0),
-        };
-        let wanted = Ann {
-            slots: List::new(alloc),
-            notes: List::from_slice(alloc, &[own])?,
-        };
-        assert_eq!(rt;
-            write(alloc, &wanted)?.as_slice(),
-            text.as_bytes(),
-            "{name}"
-        );
-        match read(alloc, text.as_bytes()) {
-            Ok(ann) => assert!(rt; ann == wanted, "{name}"),
-            Err(fault) => assert!(rt; false, "{name} is refused"),
+fn joined(alloc: Global, parts: &[&[u8]]) -> Result<Vec<u8>, AllocError> {
+    let mut text: Vec<u8> = Vec::new(alloc);
+    for part in parts {
+        text.extend_from_slice(part)?;
+    }
+    Ok(text)
+}
+
+// The annotation of this one note.
+fn alone(alloc: Global, own: Note) -> Result<Ann, AllocError> {
+    Ok(Ann {
+        slots: List::new(alloc),
+        notes: List::from_slice(alloc, &[own])?,
+    })
+}
+
+// Whether a text is read as this one note, and is what is written of it in version 2, or in version 1.
+fn is_of_note(alloc: Global, second: bool, text: &[u8], own: Note) -> Result<bool, AllocError> {
+    let ann = alone(alloc, own)?;
+    Ok(is_written_as(alloc, second, &ann, text) && is_read_as(alloc, text, &ann))
+}
+
+fn is_named(alloc: Global, rule: Rule, name: &str) -> Result<bool, AllocError> {
+    let parts: [&[u8]; 3] = [
+        b"rcap-derivation 1 0 1\nn ",
+        name.as_bytes(),
+        b" - 0 1f a 0\n",
+    ];
+    let text = joined(alloc, &parts)?;
+    let own = Note {
+        rule,
+        ty: None,
+        live_before: Mask(0),
+        set_before: Mask(31),
+        live_after: Mask(10),
+        set_after: Mask(0),
+    };
+    is_of_note(alloc, false, &text, own)
+}
+
+// The first name that is not that of its rule.
+fn wrong_name<'a>(alloc: Global, names: &[(Rule, &'a str)]) -> Option<&'a str> {
+    for (rule, name) in names {
+        if is_named(alloc, *rule, name) != Ok(true) {
+            return Some(*name);
         }
     }
-    Ok(())
+    None
 }
 
 #[test]
-fn version_2_has_the_bits_in_which_masks_differ(rt: HostRuntime) -> Result<(), Fail> {
-    let alloc = rt.alloc();
-    let rows: [(u64, u64, &str); 7] = [
-        (0, 0, "0"),
-        (3, 3, "0"),
-        (3, 7, "4"),
-        (7, 3, "4"),
-        (5, 10, "f"),
-        (u64::MAX, 1, "fffffffffffffffe"),
-        (0, u64::MAX, "ffffffffffffffff"),
+fn each_rule_has_its_name(rt: HostRuntime) {
+    assert_eq!(rt; wrong_name(rt.alloc(), &NAMES), None);
+}
+
+// Masks before and after a node, with their bits that differ, and the three as they are written.
+type MaskRow = (u64, u64, &'static [u8], &'static [u8], &'static [u8]);
+
+const MASKS: [MaskRow; 7] = [
+    (0, 0, b"0", b"0", b"0"),
+    (3, 3, b"3", b"3", b"0"),
+    (3, 7, b"3", b"7", b"4"),
+    (7, 3, b"7", b"3", b"4"),
+    (5, 10, b"5", b"a", b"f"),
+    (u64::MAX, 1, b"ffffffffffffffff", b"1", b"fffffffffffffffe"),
+    (0, u64::MAX, b"0", b"ffffffffffffffff", b"ffffffffffffffff"),
+];
+
+// Whether a node with these masks live, and set the other way round, is written so.
+fn has_masks(alloc: Global, row: MaskRow) -> Result<bool, AllocError> {
+    let (before, after, before_text, after_text, differing) = row;
+    let parts: [&[u8]; 9] = [
+        b"rcap-derivation 2 0 1\nn body - ",
+        before_text,
+        b" ",
+        after_text,
+        b" ",
+        differing,
+        b" ",
+        differing,
+        b"\n",
     ];
-    for (before, after, differing) in rows {
-        let text = format!(in alloc;
-            "rcap-derivation 2 0 1\nn body - {before:x} {after:x} {differing} {differing}\n"
-        )?;
-        let own = Note {
-            rule: Rule::Body,
-            ty: None,
-            live_before: Mask(before),
-            set_before: Mask(after),
-            live_after: Mask(after),
-            set_after: Mask(before),
-        };
-        let wanted = Ann {
-            slots: List::new(alloc),
-            notes: List::from_slice(alloc, &[own])?,
-        };
-        assert_eq!(rt;
-            write2(alloc, &wanted)?.as_slice(),
-            text.as_bytes(),
-            "{differing}"
-        );
-        match read(alloc, text.as_bytes()) {
-            Ok(ann) => assert!(rt; ann == wanted, "{differing}"),
-            Err(fault) => assert!(rt; false, "{differing} is refused"),
+    let text = joined(alloc, &parts)?;
+    let own = Note {
+        rule: Rule::Body,
+        ty: None,
+        live_before: Mask(before),
+        set_before: Mask(after),
+        live_after: Mask(after),
+        set_after: Mask(before),
+    };
+    is_of_note(alloc, true, &text, own)
+}
+
+// The place of the first row of masks that is written otherwise.
+fn wrong_masks(alloc: Global, rows: &[MaskRow]) -> Option<usize> {
+    for at in 0..rows.len() {
+        if has_masks(alloc, rows[at]) != Ok(true) {
+            return Some(at);
         }
     }
-    Ok(())
+    None
+}
+
+#[test]
+fn version_2_has_the_bits_in_which_masks_differ(rt: HostRuntime) {
+    assert_eq!(rt; wrong_masks(rt.alloc(), &MASKS), None);
 }

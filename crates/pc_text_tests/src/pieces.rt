@@ -1,9 +1,10 @@
 //! Derivations that come in pieces. The expected values are those of the whole texts.
-use crate::derivations::{VARIANTS, VARIANTS2, note, variant, variant2};
-use pc_caps::{Cap, Form};
-use pc_deriv::{DerivFault, Line, LineFault, Lines, Note, Rule};
+use crate::derivations::{
+    EXAMPLE, EXAMPLE2, NODES, VARIANTS, VARIANTS2, Variant, note, variant_of,
+};
+use pc_caps::Cap;
+use pc_deriv::{DerivFault, Line, LineFault, Lines};
 use std::alloc::{AllocError, Global};
-use std::test::Fail;
 
 /// The lines of the example's slots.
 const SLOT_LINES: [Line; 4] = [
@@ -13,80 +14,134 @@ const SLOT_LINES: [Line; 4] = [
     Line::Slot(6, Cap::Iso),
 ];
 
-fn notes() -> [Note; 7] {
-    [
-        note(Rule::Prim, Some((0, Form::Val)), 1, 1),
-        note(Rule::Seq, Some((0, Form::Val)), 1, 1),
-        note(Rule::Body, None, 1, 1),
-        note(Rule::New, Some((6, Form::IsoE)), 3, 3),
-        note(Rule::Define, None, 3, 7),
-        note(Rule::Seq, None, 3, 3),
-        note(Rule::Body, None, 3, 3),
-    ]
+// A line of the example in the version of this number.
+fn line_of(version: u32, at: usize) -> Option<Line> {
+    if at == 0 {
+        return Some(Line::Head {
+            version,
+            slots: 4,
+            nodes: 7,
+        });
+    }
+    if at < 5 {
+        return SLOT_LINES.get(at - 1).copied();
+    }
+    let row = NODES.get(at - 5)?;
+    Some(Line::Node(note(*row)))
+}
+
+/// How many lines ended, and whether each is that of the example in the version of this number.
+#[derive(Drop)]
+struct Ended {
+    version: u32,
+    count: usize,
+    are_right: bool,
+}
+
+impl Ended {
+    fn new(version: u32) -> Ended {
+        Ended {
+            version,
+            count: 0,
+            are_right: true,
+        }
+    }
+
+    fn add(&mut self, line: Line) {
+        self.are_right = self.are_right && line_of(self.version, self.count) == Some(line);
+        self.count = self.count.saturating_add(1);
+    }
+
+    fn is_example(&self) -> bool {
+        self.are_right && self.count == 12
+    }
 }
 
 // Puts the lines that end in a piece behind those before, up to a fault.
-fn feed(
-    lines: &mut Lines,
-    piece: &[u8],
-    ended: &mut Vec<Line>,
-) -> Result<Result<(), LineFault>, AllocError> {
+fn feed(lines: &mut Lines, piece: &[u8], ended: &mut Ended) -> Result<(), LineFault> {
     let mut at = 0;
     for _ in 0..piece.len() {
         match lines.next(piece, piece.len().min(at)) {
             Ok((stop, Some(line))) => {
-                ended.push(line)?;
+                ended.add(line);
                 at = stop;
             }
-            Ok((_, None)) => return Ok(Ok(())),
-            Err(fault) => return Ok(Err(fault)),
+            Ok((_, None)) => return Ok(()),
+            Err(fault) => return Err(fault),
         }
     }
-    Ok(Ok(()))
+    Ok(())
 }
 
-// The lines of two pieces, and what is wrong with both.
-fn taken(
-    alloc: Global,
-    first: &[u8],
-    second: &[u8],
-) -> Result<(Vec<Line>, Result<(), LineFault>), AllocError> {
+// Puts the lines of two pieces behind those before. The answer is what is wrong with both.
+fn taken(first: &[u8], second: &[u8], ended: &mut Ended) -> Result<(), LineFault> {
     let mut lines = Lines::new();
-    let mut ended = Vec::new(alloc);
-    if let Err(fault) = feed(&mut lines, first, &mut ended)? {
-        return Ok((ended, Err(fault)));
-    }
-    if let Err(fault) = feed(&mut lines, second, &mut ended)? {
-        return Ok((ended, Err(fault)));
-    }
-    Ok((ended, lines.finish()))
+    feed(&mut lines, first, ended)?;
+    feed(&mut lines, second, ended)?;
+    lines.finish()
 }
 
-// Whether these are all lines of the example in the version of this number.
-fn is_example(version: u32, ended: &[Line]) -> bool {
-    if ended.len() != 12 {
-        return false;
+// Whether a text that is cut there has the lines of the example.
+fn is_example_cut(version: u32, bytes: &[u8], cut: usize) -> bool {
+    let cut = bytes.len().min(cut);
+    let mut ended = Ended::new(version);
+    taken(&bytes[..cut], &bytes[cut..], &mut ended).is_ok() && ended.is_example()
+}
+
+// Where a text is cut so that its lines are not those of the example, if anywhere.
+fn wrong_cut(version: u32, bytes: &[u8]) -> Option<usize> {
+    for cut in 0..bytes.len() {
+        if !is_example_cut(version, bytes, cut) {
+            return Some(cut);
+        }
     }
-    let head = Line::Head {
-        version,
-        slots: 4,
-        nodes: 7,
-    };
-    if ended[0] != head {
-        return false;
-    }
-    for at in 0..4 {
-        if ended[at + 1] != SLOT_LINES[at] {
+    None
+}
+
+// Whether a text whose bytes come one by one has the lines of the example.
+fn is_taken_by_bytes(version: u32, bytes: &[u8]) -> bool {
+    let mut lines = Lines::new();
+    let mut ended = Ended::new(version);
+    for at in 0..bytes.len() {
+        if feed(&mut lines, &bytes[at..at + 1], &mut ended).is_err() {
             return false;
         }
     }
-    let notes = notes();
-    for at in 0..7 {
-        if ended[at + 5] != Line::Node(notes[at]) {
-            return false;
-        }
-    }
-    true
+    lines.finish().is_ok() && ended.is_example()
+}
+
+// Where the example is cut so that its lines are others, if anywhere.
+fn wrong_example(
+    alloc: Global,
+    version: u32,
+    lines: &[&[u8]],
+) -> Result<Option<usize>, AllocError> {
+    let text = variant_of(alloc, lines, 0, b"")?;
+    Ok(wrong_cut(version, &text))
+}
+
+// Whether the example has its lines where its bytes come one by one.
+fn is_taken(alloc: Global, version: u32, lines: &[&[u8]]) -> Result<bool, AllocError> {
+    let text = variant_of(alloc, lines, 0, b"")?;
+    Ok(is_taken_by_bytes(version, &text))
+}
+
+#[test]
+fn wherever_the_example_is_cut_its_lines_are_the_same(rt: HostRuntime) {
+    assert_eq!(rt; wrong_example(rt.alloc(), 1, &EXAMPLE), Ok(None));
+    assert!(rt; is_taken(rt.alloc(), 1, &EXAMPLE) == Ok(true));
+}
+
+#[test]
+fn wherever_version_2_is_cut_its_lines_are_the_same(rt: HostRuntime) {
+    assert_eq!(rt; wrong_example(rt.alloc(), 2, &EXAMPLE2), Ok(None));
+    assert!(rt; is_taken(rt.alloc(), 2, &EXAMPLE2) == Ok(true));
+}
+
+// What is wrong with two pieces.
+fn answer(first: &[u8], second: &[u8]) -> Result<(), LineFault> {
+    let mut ended = Ended::new(1);
+    taken(first, second, &mut ended)
 }
 
 // Whether the answer is what a whole text is read as.
@@ -98,141 +153,151 @@ fn is_same(answer: Result<(), LineFault>, wanted: Option<DerivFault>) -> bool {
     }
 }
 
-// Where a text is cut so that its lines are not those of the example, if anywhere.
-fn wrong_cut(alloc: Global, version: u32, bytes: &[u8]) -> Result<Option<usize>, AllocError> {
-    for cut in 0..bytes.len() {
-        let (ended, answer) = taken(alloc, &bytes[..cut], &bytes[cut..])?;
-        if !is_example(version, &ended) || answer.is_err() {
-            return Ok(Some(cut));
+// Where a text is cut so that it is told otherwise, if at any 23rd byte.
+fn other_cut(bytes: &[u8], wanted: Option<DerivFault>) -> Option<usize> {
+    for nth in 0..bytes.len() / 23 {
+        let cut = 23 * nth;
+        if !is_same(answer(&bytes[..cut], &bytes[cut..]), wanted) {
+            return Some(cut);
         }
     }
-    Ok(None)
+    None
 }
 
-// Whether a text whose bytes come one by one has the lines of the example.
-fn is_taken_by_bytes(alloc: Global, version: u32, bytes: &[u8]) -> Result<bool, AllocError> {
+// Whether a variant is told so wherever it is cut.
+fn is_told(alloc: Global, lines: &[&[u8]], variant: Variant) -> bool {
+    let (number, line, wanted) = variant;
+    match variant_of(alloc, lines, number, line) {
+        Ok(text) => other_cut(&text, wanted).is_none(),
+        Err(AllocError) => false,
+    }
+}
+
+// The place of the first of these variants that is told otherwise in pieces.
+fn wrong_variant(alloc: Global, lines: &[&[u8]], variants: &[Variant]) -> Option<usize> {
+    for at in 0..variants.len() {
+        if !is_told(alloc, lines, variants[at]) {
+            return Some(at);
+        }
+    }
+    None
+}
+
+#[test]
+fn wherever_a_variant_is_cut_its_fault_is_the_same(rt: HostRuntime) {
+    assert_eq!(rt; wrong_variant(rt.alloc(), &EXAMPLE, &VARIANTS), None);
+}
+
+#[test]
+fn wherever_a_variant_of_version_2_is_cut_its_fault_is_the_same(rt: HostRuntime) {
+    assert_eq!(rt; wrong_variant(rt.alloc(), &EXAMPLE2, &VARIANTS2), None);
+}
+
+// Two pieces, and what is wrong with both.
+type Cut = (&'static [u8], &'static [u8], Result<(), LineFault>);
+
+const COUNTS: [Cut; 8] = [
+    (
+        b"rcap-derivation 1 64",
+        b"0001 0\n",
+        Err(LineFault::TooMany),
+    ),
+    (
+        b"rcap-derivation 1 64",
+        b"0001 0",
+        Err(LineFault::BadLine(1)),
+    ),
+    (
+        b"rcap-derivation 1 0 ",
+        b"200001\n",
+        Err(LineFault::TooMany),
+    ),
+    (
+        b"rcap-derivation 2 0 ",
+        b"200001\n",
+        Err(LineFault::TooMany),
+    ),
+    (
+        b"rcap-derivation 3 0 ",
+        b"200001\n",
+        Err(LineFault::BadLine(1)),
+    ),
+    (b"rcap-derivation 1 0 0\n", b"", Ok(())),
+    (b"rcap-derivation ", b"2 0 0\n", Ok(())),
+    (b"", b"", Err(LineFault::BadLine(1))),
+];
+
+fn is_answer(cut: Cut) -> bool {
+    let (first, second, wanted) = cut;
+    answer(first, second) == wanted
+}
+
+// The place of the first cut with another answer.
+fn wrong_answer(cuts: &[Cut]) -> Option<usize> {
+    for at in 0..cuts.len() {
+        if !is_answer(cuts[at]) {
+            return Some(at);
+        }
+    }
+    None
+}
+
+#[test]
+fn counts_past_a_limit_are_found_in_pieces(rt: HostRuntime) {
+    assert_eq!(rt; wrong_answer(&COUNTS), None);
+}
+
+/// A call, and what it answers.
+#[derive(Clone, Copy)]
+enum Call {
+    Next(&'static [u8], usize, Result<(usize, Option<Line>), LineFault>),
+    Finish(Result<(), LineFault>),
+}
+
+fn is_answered(lines: &mut Lines, call: Call) -> bool {
+    match call {
+        Call::Next(piece, at, wanted) => lines.next(piece, piece.len().min(at)) == wanted,
+        Call::Finish(wanted) => lines.finish() == wanted,
+    }
+}
+
+// The place of the first call that is answered otherwise, from no byte on.
+fn wrong_call(calls: &[Call]) -> Option<usize> {
     let mut lines = Lines::new();
-    let mut ended = Vec::new(alloc);
-    for at in 0..bytes.len() {
-        if feed(&mut lines, &bytes[at..at + 1], &mut ended)?.is_err() {
-            return Ok(false);
+    for at in 0..calls.len() {
+        if !is_answered(&mut lines, calls[at]) {
+            return Some(at);
         }
     }
-    Ok(is_example(version, &ended) && lines.finish().is_ok())
+    None
 }
 
-#[test]
-fn wherever_the_example_is_cut_its_lines_are_the_same(rt: HostRuntime) -> Result<(), Fail> {
-    let alloc = rt.alloc();
-    let text = variant(alloc, 0, b"")?;
-    assert!(rt; wrong_cut(alloc, 1, text.as_slice())?.is_none());
-    assert!(rt; is_taken_by_bytes(alloc, 1, text.as_slice())?);
-    Ok(())
-}
+// The fault is answered again, whatever comes.
+const PAST_127: [Call; 5] = [
+    Call::Next(&[b'x'; 127], 0, Ok((127, None))),
+    Call::Finish(Err(LineFault::BadLine(1))),
+    Call::Next(b"x", 0, Err(LineFault::BadLine(1))),
+    Call::Next(b"rcap-derivation 1 0 0\n", 0, Err(LineFault::BadLine(1))),
+    Call::Finish(Err(LineFault::BadLine(1))),
+];
+
+const EMPTY: Line = Line::Head {
+    version: 1,
+    slots: 0,
+    nodes: 0,
+};
+
+const WHOLE: [Call; 6] = [
+    Call::Next(b"\nrcap-derivation 1 0 0\n", 1, Ok((23, Some(EMPTY)))),
+    Call::Next(b"", 0, Ok((0, None))),
+    Call::Finish(Ok(())),
+    Call::Next(b"x", 0, Ok((1, None))),
+    Call::Finish(Err(LineFault::BadLine(2))),
+    Call::Next(b"\n", 0, Err(LineFault::BadLine(2))),
+];
 
 #[test]
-fn wherever_version_2_is_cut_its_lines_are_the_same(rt: HostRuntime) -> Result<(), Fail> {
-    let alloc = rt.alloc();
-    let text = variant2(alloc, 0, b"")?;
-    assert!(rt; wrong_cut(alloc, 2, text.as_slice())?.is_none());
-    assert!(rt; is_taken_by_bytes(alloc, 2, text.as_slice())?);
-    Ok(())
-}
-
-#[test]
-fn wherever_a_variant_is_cut_its_fault_is_the_same(rt: HostRuntime) -> Result<(), Fail> {
-    let alloc = rt.alloc();
-    for (number, line, wanted) in VARIANTS {
-        let text = variant(alloc, number, line)?;
-        let bytes = text.as_slice();
-        for nth in 0..bytes.len() / 23 {
-            let cut = 23 * nth;
-            let (_, answer) = taken(alloc, &bytes[..cut], &bytes[cut..])?;
-            assert!(rt; is_same(answer, wanted), "line {number} cut at {cut}");
-        }
-    }
-    Ok(())
-}
-
-#[test]
-fn wherever_a_variant_of_version_2_is_cut_its_fault_is_the_same(
-    rt: HostRuntime,
-) -> Result<(), Fail> {
-    let alloc = rt.alloc();
-    for (number, line, wanted) in VARIANTS2 {
-        let text = variant2(alloc, number, line)?;
-        let bytes = text.as_slice();
-        for nth in 0..bytes.len() / 23 {
-            let cut = 23 * nth;
-            let (_, answer) = taken(alloc, &bytes[..cut], &bytes[cut..])?;
-            assert!(rt; is_same(answer, wanted), "line {number} cut at {cut}");
-        }
-    }
-    Ok(())
-}
-
-#[test]
-fn counts_past_a_limit_are_found_in_pieces(rt: HostRuntime) -> Result<(), Fail> {
-    let alloc = rt.alloc();
-    let rows: [(&[u8], &[u8], Result<(), LineFault>); 8] = [
-        (
-            b"rcap-derivation 1 64",
-            b"0001 0\n",
-            Err(LineFault::TooMany),
-        ),
-        (
-            b"rcap-derivation 1 64",
-            b"0001 0",
-            Err(LineFault::BadLine(1)),
-        ),
-        (
-            b"rcap-derivation 1 0 ",
-            b"200001\n",
-            Err(LineFault::TooMany),
-        ),
-        (
-            b"rcap-derivation 2 0 ",
-            b"200001\n",
-            Err(LineFault::TooMany),
-        ),
-        (
-            b"rcap-derivation 3 0 ",
-            b"200001\n",
-            Err(LineFault::BadLine(1)),
-        ),
-        (b"rcap-derivation 1 0 0\n", b"", Ok(())),
-        (b"rcap-derivation ", b"2 0 0\n", Ok(())),
-        (b"", b"", Err(LineFault::BadLine(1))),
-    ];
-    for (first, second, wanted) in rows {
-        let (_, answer) = taken(alloc, first, second)?;
-        assert!(rt; answer == wanted);
-    }
-    Ok(())
-}
-
-#[test]
-fn a_line_ends_at_its_line_end_or_at_its_128th_byte(rt: HostRuntime) -> Result<(), Fail> {
-    let bytes = [b'x'; 127];
-    let mut lines = Lines::new();
-    assert!(rt; lines.next(&bytes, 0) == Ok((127, None)));
-    assert!(rt; lines.finish() == Err(LineFault::BadLine(1)));
-    assert!(rt; lines.next(b"x", 0) == Err(LineFault::BadLine(1)));
-    // The fault is answered again, whatever comes.
-    assert!(rt; lines.next(b"rcap-derivation 1 0 0\n", 0) == Err(LineFault::BadLine(1)));
-    assert!(rt; lines.finish() == Err(LineFault::BadLine(1)));
-
-    let mut whole = Lines::new();
-    let head = Line::Head {
-        version: 1,
-        slots: 0,
-        nodes: 0,
-    };
-    assert!(rt; whole.next(b"\nrcap-derivation 1 0 0\n", 1) == Ok((23, Some(head))));
-    assert!(rt; whole.next(b"", 0) == Ok((0, None)));
-    assert!(rt; whole.finish() == Ok(()));
-    assert!(rt; whole.next(b"x", 0) == Ok((1, None)));
-    assert!(rt; whole.finish() == Err(LineFault::BadLine(2)));
-    assert!(rt; whole.next(b"\n", 0) == Err(LineFault::BadLine(2)));
-    Ok(())
+fn a_line_ends_at_its_line_end_or_at_its_128th_byte(rt: HostRuntime) {
+    assert_eq!(rt; wrong_call(&PAST_127), None);
+    assert_eq!(rt; wrong_call(&WHOLE), None);
 }

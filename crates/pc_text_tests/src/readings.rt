@@ -1,118 +1,193 @@
 //! Files that are read: in memory, on the host, and slow ones that fail.
 use crate::slow::SlowFiles;
 use pc_io::{Bytes, FileFault, Files, HostFiles, MemFiles, NeverFiles};
-use std::alloc::Global;
+use std::alloc::{AllocError, Global};
 use std::fs;
 use std::test::Fail;
 
+/// What a reading gives, or the cause for which it is refused.
+type Wanted = Result<&'static [u8], FileFault>;
+
 // Whether a reading gave this text, or was refused with this cause.
-fn is_answer(answer: Result<Bytes, FileFault>, wanted: Result<&str, FileFault>) -> bool {
-    match (answer, wanted) {
-        (Ok(bytes), Ok(text)) => bytes.as_slice() == text.as_bytes(),
-        (Err(fault), Err(cause)) => fault == cause,
-        _ => false,
+fn is_answer(answer: Result<Bytes, FileFault>, wanted: Wanted) -> bool {
+    match answer {
+        Ok(bytes) => wanted == Ok(bytes.as_slice()),
+        Err(fault) => wanted == Err(fault),
     }
+}
+
+/// A name, the limit of bytes, and what its reading gives.
+type Reading = (&'static str, u32, Wanted);
+
+fn is_read<F: Files>(alloc: Global, files: &mut F, reading: Reading) -> bool {
+    let (name, limit, wanted) = reading;
+    is_answer(files.read(alloc, name, limit), wanted)
+}
+
+// The place of the first of these readings that is answered otherwise.
+fn wrong_reading<F: Files>(alloc: Global, files: &mut F, readings: &[Reading]) -> Option<usize> {
+    for at in 0..readings.len() {
+        if !is_read(alloc, files, readings[at]) {
+            return Some(at);
+        }
+    }
+    None
+}
+
+const IN_MEMORY: [Reading; 6] = [
+    ("a", 3, Ok(b"xyz")),
+    ("a", 2, Err(FileFault::TooLong)),
+    ("a", 3, Err(FileFault::Failed)),
+    ("b", 0, Ok(b"")),
+    ("c", 9, Err(FileFault::Failed)),
+    ("a", 4, Ok(b"xyz")),
+];
+
+const NEVER_FAILING: [Reading; 6] = [
+    ("a", 3, Ok(b"xyz")),
+    ("a", 2, Err(FileFault::TooLong)),
+    ("a", 3, Ok(b"xyz")),
+    ("b", 0, Ok(b"")),
+    ("c", 9, Ok(b"")),
+    ("a", 4, Ok(b"xyz")),
+];
+
+// Adds three files, of which the last one takes the place of the first.
+fn add_three(files: &mut MemFiles) -> Result<(), AllocError> {
+    files.add("a", b"abcd")?;
+    files.add("b", b"")?;
+    files.add("a", b"xyz")
+}
+
+fn add_three_never_failing(files: &mut NeverFiles) -> Result<(), AllocError> {
+    files.add("a", b"abcd")?;
+    files.add("b", b"")?;
+    files.add("a", b"xyz")
+}
+
+// The third reading is told to fail.
+fn wrong_in_memory(alloc: Global) -> Result<Option<usize>, AllocError> {
+    let mut files = MemFiles::new(alloc, &[3])?;
+    add_three(&mut files)?;
+    Ok(wrong_reading(alloc, &mut files, &IN_MEMORY))
+}
+
+fn wrong_never_failing(alloc: Global) -> Result<Option<usize>, AllocError> {
+    let mut files = NeverFiles::new(alloc);
+    add_three_never_failing(&mut files)?;
+    Ok(wrong_reading(alloc, &mut files, &NEVER_FAILING))
 }
 
 #[test]
-fn files_in_memory_fail_as_they_are_told(rt: HostRuntime) -> Result<(), Fail> {
-    let alloc = rt.alloc();
-    let mut files = MemFiles::new(alloc, &[3])?;
-    let mut never = NeverFiles::new(alloc);
-    for (name, text) in [("a", "abcd"), ("b", ""), ("a", "xyz")] {
-        files.add(name, text.as_bytes())?;
-        never.add(name, text.as_bytes())?;
-    }
-    let rows = [
-        ("a", 3, Ok("xyz"), Ok("xyz")),
-        ("a", 2, Err(FileFault::TooLong), Err(FileFault::TooLong)),
-        ("a", 3, Err(FileFault::Failed), Ok("xyz")),
-        ("b", 0, Ok(""), Ok("")),
-        ("c", 9, Err(FileFault::Failed), Ok("")),
-        ("a", 4, Ok("xyz"), Ok("xyz")),
-    ];
-    for (name, limit, wanted, never_wanted) in rows {
-        assert!(rt;
-            is_answer(files.read(alloc, name, limit), wanted),
-            "{name} at {limit}"
-        );
-        assert!(rt;
-            is_answer(never.read(alloc, name, limit), never_wanted),
-            "{name} at {limit}"
-        );
-    }
-    Ok(())
+fn files_in_memory_fail_as_they_are_told(rt: HostRuntime) {
+    assert_eq!(rt; wrong_in_memory(rt.alloc()), Ok(None));
+    assert_eq!(rt; wrong_never_failing(rt.alloc()), Ok(None));
 }
 
-// What a slow file that has so many bytes before it fails is answered as.
-fn slow_answer(alloc: Global, room: usize, limit: u32) -> Result<Bytes, FileFault> {
+const ON_THE_HOST: [Reading; 5] = [
+    ("four", 4, Ok(b"abcd")),
+    ("four", 3, Err(FileFault::TooLong)),
+    ("none", 0, Ok(b"")),
+    ("gone", 9, Err(FileFault::Failed)),
+    // A folder is opened, but cannot be read.
+    (".", 9, Err(FileFault::Failed)),
+];
+
+fn wrong_on_the_host(rt: &HostRuntime) -> Option<usize> {
+    let mut files = HostFiles::new(rt.alloc(), rt);
+    wrong_reading(rt.alloc(), &mut files, &ON_THE_HOST)
+}
+
+// Whether a slow file that has so many bytes before it fails is answered so, within nine bytes.
+fn is_slow_answer(alloc: Global, room: usize, wanted: Wanted) -> bool {
     let runtime = SlowFiles { room };
     let mut files = HostFiles::new(alloc, &runtime);
-    files.read(alloc, "a", limit)
+    is_answer(files.read(alloc, "a", 9), wanted)
 }
 
 #[test]
 fn a_file_is_given_whole_or_refused_with_its_cause(rt: HostRuntime) -> Result<(), Fail> {
-    let alloc = rt.alloc();
     fs::write(&rt, "four", "abcd")?;
     fs::write(&rt, "none", "")?;
-    let mut files = HostFiles::new(alloc, &rt);
-    let rows = [
-        ("four", 4, Ok("abcd")),
-        ("four", 3, Err(FileFault::TooLong)),
-        ("none", 0, Ok("")),
-        ("gone", 9, Err(FileFault::Failed)),
-        // A folder is opened, but cannot be read.
-        (".", 9, Err(FileFault::Failed)),
-    ];
-    for (name, limit, wanted) in rows {
-        assert!(rt;
-            is_answer(files.read(alloc, name, limit), wanted),
-            "{name} at {limit}"
-        );
-    }
+    assert_eq!(rt; wrong_on_the_host(&rt), None);
     fs::remove_file(&rt, "four")?;
     fs::remove_file(&rt, "none")?;
 
     // A file that fails in mid-stream, and one that has more than the limit before.
-    let failed = slow_answer(alloc, 5, 9);
-    assert!(rt; is_answer(failed, Err(FileFault::Failed)));
-    let too_long = slow_answer(alloc, 50, 9);
-    assert!(rt; is_answer(too_long, Err(FileFault::TooLong)));
+    assert!(rt; is_slow_answer(rt.alloc(), 5, Err(FileFault::Failed)));
+    assert!(rt; is_slow_answer(rt.alloc(), 50, Err(FileFault::TooLong)));
     Ok(())
+}
+
+/// A name, the place and the limit of a part, and what its reading gives. A limit of 0 is no part.
+type Part = (&'static str, u32, u32, Wanted);
+
+fn is_part<F: Files>(alloc: Global, files: &mut F, part: Part) -> bool {
+    let (name, from, limit, wanted) = part;
+    limit > 0 && is_answer(files.part(alloc, name, from, limit), wanted)
+}
+
+// The place of the first of these parts that is answered otherwise.
+fn wrong_part<F: Files>(alloc: Global, files: &mut F, parts: &[Part]) -> Option<usize> {
+    for at in 0..parts.len() {
+        if !is_part(alloc, files, parts[at]) {
+            return Some(at);
+        }
+    }
+    None
+}
+
+const PARTS: [Part; 6] = [
+    ("six", 0, 6, Ok(b"abcdef")),
+    ("six", 0, 4, Ok(b"abcd")),
+    ("six", 4, 4, Ok(b"ef")),
+    ("six", 5, 1, Ok(b"f")),
+    ("six", 6, 1, Ok(b"")),
+    ("six", 4000000000, 1, Ok(b"")),
+];
+
+// The seventh call of all is told to fail, and a missing name fails where it is not an empty file.
+const PARTS_IN_MEMORY: [Part; 3] = [
+    ("six", 0, 1, Err(FileFault::Failed)),
+    ("six", 0, 1, Ok(b"a")),
+    ("gone", 0, 1, Err(FileFault::Failed)),
+];
+
+const GONE_NEVER_FAILING: [Part; 1] = [("gone", 0, 1, Ok(b""))];
+
+const GONE_ON_THE_HOST: [Part; 1] = [("gone", 0, 1, Err(FileFault::Failed))];
+
+// The place of the first part that is answered otherwise, of those of the text and then of some more.
+fn wrong_of<F: Files>(alloc: Global, files: &mut F, more: &[Part]) -> Option<usize> {
+    match wrong_part(alloc, files, &PARTS) {
+        Some(at) => Some(at),
+        None => wrong_part(alloc, files, more),
+    }
+}
+
+fn wrong_part_in_memory(alloc: Global) -> Result<Option<usize>, AllocError> {
+    let mut files = MemFiles::new(alloc, &[7])?;
+    files.add("six", b"abcdef")?;
+    Ok(wrong_of(alloc, &mut files, &PARTS_IN_MEMORY))
+}
+
+fn wrong_part_never_failing(alloc: Global) -> Result<Option<usize>, AllocError> {
+    let mut files = NeverFiles::new(alloc);
+    files.add("six", b"abcdef")?;
+    Ok(wrong_of(alloc, &mut files, &GONE_NEVER_FAILING))
+}
+
+fn wrong_part_on_the_host(rt: &HostRuntime) -> Option<usize> {
+    let mut files = HostFiles::new(rt.alloc(), rt);
+    wrong_of(rt.alloc(), &mut files, &GONE_ON_THE_HOST)
 }
 
 #[test]
 fn a_part_is_given_from_its_place_up_to_the_limit(rt: HostRuntime) -> Result<(), Fail> {
-    let alloc = rt.alloc();
+    assert_eq!(rt; wrong_part_in_memory(rt.alloc()), Ok(None));
+    assert_eq!(rt; wrong_part_never_failing(rt.alloc()), Ok(None));
     fs::write(&rt, "six", "abcdef")?;
-    let mut real = HostFiles::new(alloc, &rt);
-    let mut files = MemFiles::new(alloc, &[7])?;
-    let mut never = NeverFiles::new(alloc);
-    files.add("six", b"abcdef")?;
-    never.add("six", b"abcdef")?;
-    let rows = [
-        (0, 6, "abcdef"),
-        (0, 4, "abcd"),
-        (4, 4, "ef"),
-        (5, 1, "f"),
-        (6, 1, ""),
-        (4000000000, 1, ""),
-    ];
-    for (from, limit, wanted) in rows {
-        let real_part = real.part(alloc, "six", from, limit);
-        assert!(rt; is_answer(real_part, Ok(wanted)), "file, {from}");
-        let part = files.part(alloc, "six", from, limit);
-        assert!(rt; is_answer(part, Ok(wanted)), "memory, {from}");
-        let never_part = never.part(alloc, "six", from, limit);
-        assert!(rt; is_answer(never_part, Ok(wanted)), "never, {from}");
-    }
-    // The seventh call of all is told to fail, and a missing name fails where it is not an empty file.
-    assert!(rt; is_answer(files.part(alloc, "six", 0, 1), Err(FileFault::Failed)));
-    assert!(rt; is_answer(files.part(alloc, "six", 0, 1), Ok("a")));
-    assert!(rt; is_answer(files.part(alloc, "gone", 0, 1), Err(FileFault::Failed)));
-    assert!(rt; is_answer(never.part(alloc, "gone", 0, 1), Ok("")));
-    assert!(rt; is_answer(real.part(alloc, "gone", 0, 1), Err(FileFault::Failed)));
+    assert_eq!(rt; wrong_part_on_the_host(&rt), None);
     fs::remove_file(&rt, "six")?;
     Ok(())
 }

@@ -11,22 +11,27 @@ fn answer(alloc: Global, text: &[u8]) -> Result<List<Turn>, SchedFault> {
     read(alloc, text)
 }
 
-fn are_turns(turns: &[Turn], wanted: &[(u32, u32)]) -> bool {
-    turns.len() == wanted.len()
-        && turns
-            .iter()
-            .zip(wanted.iter())
-            .all(|(turn, row)| turn.actor == row.0 && turn.times == row.1)
+/// An actor, and how many turns it takes.
+type Row = (u32, u32);
+
+fn are_turns(turns: &[Turn], rows: &[Row]) -> bool {
+    for at in 0..rows.len() {
+        let (actor, times) = rows[at];
+        if turns.get(at) != Some(&Turn { actor, times }) {
+            return false;
+        }
+    }
+    turns.len() == rows.len()
 }
 
-fn spells(alloc: Global, text: &[u8], wanted: &[(u32, u32)]) -> bool {
+fn spells(alloc: Global, text: &[u8], rows: &[Row]) -> bool {
     match answer(alloc, text) {
-        Ok(turns) => are_turns(turns.as_slice(), wanted),
+        Ok(turns) => are_turns(turns.as_slice(), rows),
         Err(_) => false,
     }
 }
 
-const SCHEDULES: [(&[u8], &[(u32, u32)]); 8] = [
+const SCHEDULES: [(&[u8], &[Row]); 8] = [
     (b"", &[]),
     (b" \t\r\n", &[]),
     (b"1*10 0", &[(1, 10), (0, 1)]),
@@ -40,19 +45,19 @@ const SCHEDULES: [(&[u8], &[(u32, u32)]); 8] = [
     (b"1*999999 2*0 1", &[(1, 999_999), (2, 0), (1, 1)]),
 ];
 
-#[test]
-fn schedules(rt: HostRuntime) {
-    for (text, turns) in &SCHEDULES {
-        assert!(rt; spells(rt.alloc(), text, turns), "{text:?}");
+// The place of the first of these texts that does not spell its turns.
+fn wrong_schedule(alloc: Global, schedules: &[(&[u8], &[Row])]) -> Option<usize> {
+    for at in 0..schedules.len() {
+        if !spells(alloc, schedules[at].0, schedules[at].1) {
+            return Some(at);
+        }
     }
+    None
 }
 
-/// The fault of a text, if it has one.
-fn fault(alloc: Global, text: &[u8]) -> Option<SchedFault> {
-    match answer(alloc, text) {
-        Ok(_) => None,
-        Err(fault) => Some(fault),
-    }
+#[test]
+fn schedules(rt: HostRuntime) {
+    assert_eq!(rt; wrong_schedule(rt.alloc(), &SCHEDULES), None);
 }
 
 const FAULTS: [(&[u8], SchedFault); 18] = [
@@ -76,11 +81,26 @@ const FAULTS: [(&[u8], SchedFault); 18] = [
     (b"1*1000000\n2*4294967295", SchedFault::TooMany(10)),
 ];
 
+fn has_fault(alloc: Global, text: &[u8], wanted: SchedFault) -> bool {
+    match answer(alloc, text) {
+        Ok(_) => false,
+        Err(fault) => fault == wanted,
+    }
+}
+
+// The place of the first of these texts that has not its fault.
+fn wrong_fault(alloc: Global, faults: &[(&[u8], SchedFault)]) -> Option<usize> {
+    for at in 0..faults.len() {
+        if !has_fault(alloc, faults[at].0, faults[at].1) {
+            return Some(at);
+        }
+    }
+    None
+}
+
 #[test]
 fn faults(rt: HostRuntime) {
-    for (text, want) in &FAULTS {
-        assert!(rt; fault(rt.alloc(), text) == Some(*want), "{text:?}");
-    }
+    assert_eq!(rt; wrong_fault(rt.alloc(), &FAULTS), None);
 }
 
 /// So many times one word and a blank.

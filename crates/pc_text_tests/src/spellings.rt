@@ -3,14 +3,32 @@ use crate::tokens::answer;
 use pc_lex::{Sign, TokenKind, Word};
 use std::alloc::Global;
 
+fn is_word(kind: &TokenKind, word: Word) -> bool {
+    let TokenKind::Word(found) = kind else {
+        return false;
+    };
+    *found == word
+}
+
+fn is_sign(kind: &TokenKind, sign: Sign) -> bool {
+    let TokenKind::Sign(found) = kind else {
+        return false;
+    };
+    *found == sign
+}
+
+fn is_end(kind: &TokenKind) -> bool {
+    let TokenKind::End = kind else {
+        return false;
+    };
+    true
+}
+
 /// Whether a text is this word and nothing else.
 fn is_only_word(alloc: Global, text: &[u8], word: Word) -> bool {
     match answer(alloc, text) {
         Ok(tokens) => match tokens.as_slice() {
-            [token, end] => match (&token.kind, &end.kind) {
-                (TokenKind::Word(found), TokenKind::End) => *found == word,
-                _ => false,
-            },
+            [token, end] => is_word(&token.kind, word) && is_end(&end.kind),
             _ => false,
         },
         Err(_) => false,
@@ -21,10 +39,7 @@ fn is_only_word(alloc: Global, text: &[u8], word: Word) -> bool {
 fn is_only_sign(alloc: Global, text: &[u8], sign: Sign) -> bool {
     match answer(alloc, text) {
         Ok(tokens) => match tokens.as_slice() {
-            [token, end] => match (&token.kind, &end.kind) {
-                (TokenKind::Sign(found), TokenKind::End) => *found == sign,
-                _ => false,
-            },
+            [token, end] => is_sign(&token.kind, sign) && is_end(&end.kind),
             _ => false,
         },
         Err(_) => false,
@@ -117,16 +132,32 @@ const SPELLED_SIGNS: [(&[u8], Sign); 21] = [
     (b">=", Sign::GreaterEqual),
 ];
 
+// The first word that is spelled otherwise.
+fn wrong_word(alloc: Global, spelled: &[(&[u8], Word)]) -> Option<Word> {
+    for (text, word) in spelled {
+        if !is_only_word(alloc, text, *word) {
+            return Some(*word);
+        }
+    }
+    None
+}
+
 #[test]
 fn every_word(rt: HostRuntime) {
-    for (text, word) in &SPELLED_WORDS {
-        assert!(rt; is_only_word(rt.alloc(), text, *word), "{word:?}");
+    assert_eq!(rt; wrong_word(rt.alloc(), &SPELLED_WORDS), None);
+}
+
+// The first sign that is spelled otherwise.
+fn wrong_sign(alloc: Global, spelled: &[(&[u8], Sign)]) -> Option<Sign> {
+    for (text, sign) in spelled {
+        if !is_only_sign(alloc, text, *sign) {
+            return Some(*sign);
+        }
     }
+    None
 }
 
 #[test]
 fn every_sign(rt: HostRuntime) {
-    for (text, sign) in &SPELLED_SIGNS {
-        assert!(rt; is_only_sign(rt.alloc(), text, *sign), "{sign:?}");
-    }
+    assert_eq!(rt; wrong_sign(rt.alloc(), &SPELLED_SIGNS), None);
 }

@@ -36,11 +36,13 @@ fn is_row(token: &Token, row: &Row) -> bool {
 }
 
 fn are_rows(tokens: &[Token], rows: &[Row]) -> bool {
+    for at in 0..rows.len() {
+        match tokens.get(at) {
+            Some(token) if is_row(token, &rows[at]) => {}
+            _ => return false,
+        }
+    }
     tokens.len() == rows.len()
-        && tokens
-            .iter()
-            .zip(rows.iter())
-            .all(|(token, row)| is_row(token, row))
 }
 
 fn has_rows(alloc: Global, text: &[u8], rows: &[Row]) -> bool {
@@ -143,19 +145,36 @@ const TEXTS: [(&[u8], &[Row]); 11] = [
     ),
 ];
 
-#[test]
-fn tokens(rt: HostRuntime) {
-    for (text, rows) in &TEXTS {
-        assert!(rt; has_rows(rt.alloc(), text, rows), "{text:?}");
+// The place of the first of these texts that has other tokens.
+fn wrong_tokens(alloc: Global, texts: &[(&[u8], &[Row])]) -> Option<usize> {
+    for at in 0..texts.len() {
+        if !has_rows(alloc, texts[at].0, texts[at].1) {
+            return Some(at);
+        }
     }
+    None
 }
 
-/// The number that is the first token of a text.
-fn number(alloc: Global, text: &[u8]) -> Option<u64> {
-    let tokens = answer(alloc, text).ok()?;
-    match &tokens.get(0)?.kind {
-        TokenKind::Number(value) => Some(*value),
-        _ => None,
+#[test]
+fn tokens(rt: HostRuntime) {
+    assert_eq!(rt; wrong_tokens(rt.alloc(), &TEXTS), None);
+}
+
+fn is_number(token: &Token, value: u64) -> bool {
+    let TokenKind::Number(found) = &token.kind else {
+        return false;
+    };
+    *found == value
+}
+
+/// Whether the first token of a text is this number.
+fn has_number(alloc: Global, text: &[u8], value: u64) -> bool {
+    match answer(alloc, text) {
+        Ok(tokens) => match tokens.get(0) {
+            Some(token) => is_number(token, value),
+            None => false,
+        },
+        Err(_) => false,
     }
 }
 
@@ -170,24 +189,34 @@ const NUMBERS: [(&[u8], u64); 8] = [
     (b"9/1", 9),
 ];
 
+// The place of the first of these texts that begins with another number.
+fn wrong_number(alloc: Global, numbers: &[(&[u8], u64)]) -> Option<usize> {
+    for at in 0..numbers.len() {
+        if !has_number(alloc, numbers[at].0, numbers[at].1) {
+            return Some(at);
+        }
+    }
+    None
+}
+
 #[test]
 fn numbers(rt: HostRuntime) {
-    for (text, value) in &NUMBERS {
-        assert!(rt; number(rt.alloc(), text) == Some(*value), "{text:?}");
-    }
+    assert_eq!(rt; wrong_number(rt.alloc(), &NUMBERS), None);
+}
+
+fn is_text(token: &Token, value: &[u8]) -> bool {
+    let TokenKind::Text(found) = &token.kind else {
+        return false;
+    };
+    found.as_slice() == value
 }
 
 /// Whether the first token of a text is a text with this value.
 fn has_value(alloc: Global, text: &[u8], value: &[u8]) -> bool {
     match answer(alloc, text) {
         Ok(tokens) => match tokens.get(0) {
-            Some(
-                Token {
-                    kind: TokenKind::Text(found),
-                    ..
-                },
-            ) => found.as_slice() == value,
-            _ => false,
+            Some(token) => is_text(token, value),
+            None => false,
         },
         Err(_) => false,
     }
@@ -204,11 +233,19 @@ const VALUES: [(&[u8], &[u8]); 5] = [
     (b"\"\\\\\"", b"\\"),
 ];
 
+// The place of the first of these texts that begins with another text.
+fn wrong_value(alloc: Global, values: &[(&[u8], &[u8])]) -> Option<usize> {
+    for at in 0..values.len() {
+        if !has_value(alloc, values[at].0, values[at].1) {
+            return Some(at);
+        }
+    }
+    None
+}
+
 #[test]
 fn values(rt: HostRuntime) {
-    for (text, value) in &VALUES {
-        assert!(rt; has_value(rt.alloc(), text, value), "{text:?}");
-    }
+    assert_eq!(rt; wrong_value(rt.alloc(), &VALUES), None);
 }
 
 /// The fault of a text, if it has one.
@@ -254,11 +291,23 @@ const FAULTS: [(&[u8], LexFault); 32] = [
     (b"1 \"\\q\" $ /*", LexFault::BadEscape(3)),
 ];
 
+fn has_fault(alloc: Global, text: &[u8], wanted: LexFault) -> bool {
+    fault(alloc, text) == Some(wanted)
+}
+
+// The place of the first of these texts that has not its fault.
+fn wrong_fault(alloc: Global, faults: &[(&[u8], LexFault)]) -> Option<usize> {
+    for at in 0..faults.len() {
+        if !has_fault(alloc, faults[at].0, faults[at].1) {
+            return Some(at);
+        }
+    }
+    None
+}
+
 #[test]
 fn faults(rt: HostRuntime) {
-    for (text, want) in &FAULTS {
-        assert!(rt; fault(rt.alloc(), text) == Some(*want), "{text:?}");
-    }
+    assert_eq!(rt; wrong_fault(rt.alloc(), &FAULTS), None);
 }
 
 /// So many dots, and a byte behind them.

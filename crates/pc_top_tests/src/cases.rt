@@ -1,372 +1,203 @@
 //! The commands on whole texts, with files and sinks that fail.
 
-use pc_io::{MemFiles, MemSink};
-use pc_referee::Rules;
-use pc_top::rcap;
-use std::alloc::{AllocError, Global};
-use std::process::Abort;
-use std::test::Fail;
+use crate::programs::{FIRST, SOURCE};
+use crate::rows::{
+    CHECK, Ending, Failure, JUDGE, NONE, Refused, Spoken, USAGE, all_end, all_end_within, all_fail,
+    all_refused, all_words_end, made_ends, tells,
+};
+use crate::texts::repeated;
+use std::alloc::Global;
 
-/// The words, the source `a.pony`, what stands in `a.der` and in `a.sched`, and where the files, out and err fail, as the
-/// objects in memory take it.
-#[derive(Clone, Copy)]
-pub(crate) struct Given<'a> {
-    pub words: &'a [&'a str],
-    pub source: &'a [u8],
-    pub other: &'a [u8],
-    pub files: &'a [u32],
-    pub out: &'a [(u32, u32)],
-    pub err: &'a [(u32, u32)],
+const MAIN: &[u8] = b"class C\nactor Main\n  new create(env: Env) =>\n";
+
+const BODIES: &[Ending<'_>] = &[
+    (b"    let a: C iso = C\n", 0, b""),
+    (
+        b"    let a: C iso = C\n    let b: C iso = a\n",
+        1,
+        b"a.pony:5:5: no rule\n",
+    ),
+    (
+        b"    let a: C iso = C\n    let b: C iso = consume a\n    let d: C tag = a\n",
+        1,
+        b"a.pony:6:20: no rule\n",
+    ),
+    (
+        b"    let a: C iso = C\n    let b: C iso = consume a\n    let d: C tag = b\n",
+        0,
+        b"",
+    ),
+    (
+        b"    let a: C iso = C // one\n    /* two */ let b: C tag = a",
+        0,
+        b"",
+    ),
+    (
+        b"    let a: C iso = C let b: C tag = a\n",
+        3,
+        b"a.pony:4:22: unexpected\n",
+    ),
+    (b"    let a: C iso = C; let b: C tag = a\n", 0, b""),
+    (b"    \"\"\"Makes one.\"\"\"\n    C\n", 0, b""),
+    (b"    (let a: C iso = C; consume a)\n", 0, b""),
+    (b"    None\n", 0, b""),
+    (b"    let a: C iso = (C; C)\n    env", 0, b""),
+    (b"    env.out\n", 0, b""),
+    (b"    let a: U64 = 1\n", 0, b""),
+    (b"    let a: D iso = C\n", 4, b"a.pony:4:12: name unknown\n"),
+    (b"    let a: C iso = b\n", 4, b"a.pony:4:20: name unknown\n"),
+    (
+        b"    let a: C iso = C\n    let a: C iso = C\n",
+        4,
+        b"a.pony:5:9: name twice\n",
+    ),
+    (
+        b"    let a: U64 = 18446744073709551616\n",
+        3,
+        b"a.pony:4:18: bad number\n",
+    ),
+];
+
+#[test]
+fn bodies_are_accepted_or_refused(rt: HostRuntime) {
+    all_end_within(&rt, rt.alloc(), (MAIN, b""), BODIES);
 }
 
-/// The status, and what stands on out and err.
-#[derive(Clone, Copy)]
-pub(crate) struct Wanted<'a> {
-    pub status: u8,
-    pub out: &'a str,
-    pub err: &'a str,
-}
+/// `FIRST` with another type of the new object.
+const WRONG_NODE: &[u8] = b"rcap-derivation 1 4 7\ns 6 ref\ns 7 ref\ns 4 val\ns 6 iso\n\
+n prim 0 val 1 0 1 0\nn seq 0 val 1 0 1 0\nn body - 1 0 1 0\nn new 6 ref 3 0 3 0\nn define - 3 0 7 0\n\
+n seq - 3 0 3 0\nn body - 3 0 3 0\n";
 
-pub(crate) const CHECK: &[&str] = &["check", "a.pony"];
+/// `FIRST` with another type of the local.
+const WRONG_SLOT: &[u8] = b"rcap-derivation 1 4 7\ns 6 ref\ns 7 ref\ns 4 val\ns 6 val\n\
+n prim 0 val 1 0 1 0\nn seq 0 val 1 0 1 0\nn body - 1 0 1 0\nn new 6 iso^ 3 0 3 0\nn define - 3 0 7 0\n\
+n seq - 3 0 3 0\nn body - 3 0 3 0\n";
 
-pub(crate) const JUDGE: &[&str] = &["judge", "a.pony", "a.der"];
+/// `FIRST` without its last line end.
+const UNENDED: &[u8] = b"rcap-derivation 1 4 7\ns 6 ref\ns 7 ref\ns 4 val\ns 6 iso\n\
+n prim 0 val 1 0 1 0\nn seq 0 val 1 0 1 0\nn body - 1 0 1 0\nn new 6 iso^ 3 0 3 0\nn define - 3 0 7 0\n\
+n seq - 3 0 3 0\nn body - 3 0 3 0";
 
-pub(crate) const SOURCE: &str =
-    "class C\nactor Main\n  new create(env: Env) =>\n    let a: C iso = C\n";
+/// `FIRST` with one line end more.
+const LONGER: &[u8] = b"rcap-derivation 1 4 7\ns 6 ref\ns 7 ref\ns 4 val\ns 6 iso\n\
+n prim 0 val 1 0 1 0\nn seq 0 val 1 0 1 0\nn body - 1 0 1 0\nn new 6 iso^ 3 0 3 0\nn define - 3 0 7 0\n\
+n seq - 3 0 3 0\nn body - 3 0 3 0\n\n";
 
-const SLOTS: &str = "rcap-derivation 1 4 7\ns 6 ref\ns 7 ref\ns 4 val\n";
+/// The lines of `FIRST` up to the first node, with a number that begins with 0.
+const ZEROS: &[u8] =
+    b"rcap-derivation 1 4 7\ns 6 ref\ns 7 ref\ns 4 val\ns 6 iso\nn prim 00 val 1 0 1 0\n";
 
-const LOCAL: &str = "s 6 iso\n";
+const DERIVATIONS: &[Refused<'_>] = &[
+    (SOURCE, WRONG_NODE, 6, b"a.der: node 3\n"),
+    (SOURCE, WRONG_SLOT, 6, b"a.der: slot 3\n"),
+    (SOURCE, b"rcap-derivation 1 0 0\n", 6, b"a.der: shape\n"),
+    (SOURCE, UNENDED, 5, b"a.der:12: bad line\n"),
+    (SOURCE, ZEROS, 5, b"a.der:6: bad line\n"),
+    (SOURCE, LONGER, 5, b"a.der:13: bad line\n"),
+];
 
-const CLASS: &str = "n prim 0 val 1 0 1 0\nn seq 0 val 1 0 1 0\nn body - 1 0 1 0\n";
-
-const NEW: &str = "n new 6 iso^ 3 0 3 0\n";
-
-const REST: &str = "n define - 3 0 7 0\nn seq - 3 0 3 0\nn body - 3 0 3 0";
-
-// A command on files that do not fail.
-pub(crate) fn whole<'a>(words: &'a [&'a str], source: &'a [u8], other: &'a [u8]) -> Given<'a> {
-    Given {
-        words,
-        source,
-        other,
-        files: &[],
-        out: &[],
-        err: &[],
-    }
-}
-
-// Runs a command, and compares the answer.
-pub(crate) fn answers(
-    rt: &impl Abort,
-    alloc: Global,
-    given: Given<'_>,
-    wanted: Wanted<'_>,
-) -> Result<(), AllocError> {
-    let mut files = MemFiles::new(alloc, given.files)?;
-    files.add("a.pony", given.source)?;
-    files.add("a.der", given.other)?;
-    files.add("a.sched", given.other)?;
-    let mut out = MemSink::new(alloc, given.out)?;
-    let mut err = MemSink::new(alloc, given.err)?;
-    let status = rcap(
-        alloc,
-        given.words,
-        &mut files,
-        &mut out,
-        &mut err,
-        &mut Rules,
-    );
-    assert_eq!(rt; status, wanted.status);
-    assert_eq!(rt; out.bytes(), wanted.out.as_bytes());
-    assert_eq!(rt; err.bytes(), wanted.err.as_bytes());
-    Ok(())
-}
-
-/// The derivation that `check` writes for a source that is accepted.
-pub(crate) fn derive(rt: &impl Abort, alloc: Global, source: &[u8]) -> Result<Vec<u8>, AllocError> {
-    let mut files = MemFiles::new(alloc, &[])?;
-    files.add("a.pony", source)?;
-    let mut out = MemSink::new(alloc, &[])?;
-    let mut err = MemSink::new(alloc, &[])?;
-    assert_eq!(rt;
-        rcap(alloc, CHECK, &mut files, &mut out, &mut err, &mut Rules),
-        0
-    );
-    assert!(rt; err.bytes().is_empty());
-    out.bytes().to_vec(alloc)
-}
-
-/// Checks a source, and judges what is written if it is accepted, with status 0; else compares the status and line with
-/// which it is refused.
-pub(crate) fn ends(
-    rt: &impl Abort,
-    alloc: Global,
-    source: &[u8],
-    status: u8,
-    err: &str,
-) -> Result<(), AllocError> {
-    if status == 0 {
-        let derivation = derive(rt, alloc, source)?;
-        let out = "accepted\n";
-        let wanted = Wanted { status, out, err };
-        return answers(rt, alloc, whole(JUDGE, source, &derivation), wanted);
-    }
-    let out = "";
-    let wanted = Wanted { status, out, err };
-    answers(rt, alloc, whole(CHECK, source, b""), wanted)
+#[test]
+fn derivations_are_judged(rt: HostRuntime) {
+    let alloc = rt.alloc();
+    assert!(rt; tells(alloc, JUDGE, SOURCE, FIRST, b"accepted\n"));
+    all_refused(&rt, alloc, JUDGE, DERIVATIONS);
 }
 
 #[test]
-fn bodies_are_accepted_or_refused(rt: HostRuntime) -> Result<(), Fail> {
+fn a_derivation_is_written(rt: HostRuntime) {
+    assert!(rt; tells(rt.alloc(), CHECK, SOURCE, b"", FIRST));
+}
+
+const CHECKS: &[Failure<'_>] = &[
+    (1, NONE, NONE, 9, b"", b"a.pony: cannot be read\n"),
+    (1, NONE, (1, 3), 10, b"", b"a.p"),
+    (0, (1, 0), NONE, 10, b"", b""),
+    (0, (1, 4), NONE, 10, b"rcap", b""),
+];
+
+const CHECKS_OF_NOTHING: &[Failure<'_>] = &[
+    (0, NONE, NONE, 3, b"", b"a.pony:1:1: unexpected\n"),
+    (0, NONE, (1, 3), 10, b"", b"a.p"),
+];
+
+const JUDGES: &[Failure<'_>] = &[
+    (1, NONE, NONE, 9, b"", b"a.pony: cannot be read\n"),
+    (2, NONE, NONE, 9, b"", b"a.der: cannot be read\n"),
+];
+
+// Where the source is refused, the derivation is not read.
+const JUDGES_OF_NOTHING: &[Failure<'_>] = &[(2, NONE, NONE, 3, b"", b"a.pony:1:1: unexpected\n")];
+
+#[test]
+fn faults_have_their_status_and_line(rt: HostRuntime) {
     let alloc = rt.alloc();
-    let rows = [
-        ("    let a: C iso = C\n", 0, ""),
-        (
-            "    let a: C iso = C\n    let b: C iso = a\n",
-            1,
-            "a.pony:5:5: no rule\n",
-        ),
-        (
-            "    let a: C iso = C\n    let b: C iso = consume a\n    let d: C tag = a\n",
-            1,
-            "a.pony:6:20: no rule\n",
-        ),
-        (
-            "    let a: C iso = C\n    let b: C iso = consume a\n    let d: C tag = b\n",
-            0,
-            "",
-        ),
-        (
-            "    let a: C iso = C // one\n    /* two */ let b: C tag = a",
-            0,
-            "",
-        ),
-        (
-            "    let a: C iso = C let b: C tag = a\n",
-            3,
-            "a.pony:4:22: unexpected\n",
-        ),
-        ("    let a: C iso = C; let b: C tag = a\n", 0, ""),
-        ("    \"\"\"Makes one.\"\"\"\n    C\n", 0, ""),
-        ("    (let a: C iso = C; consume a)\n", 0, ""),
-        ("    None\n", 0, ""),
-        ("    let a: C iso = (C; C)\n    env", 0, ""),
-        ("    env.out\n", 0, ""),
-        ("    let a: U64 = 1\n", 0, ""),
-        ("    let a: D iso = C\n", 4, "a.pony:4:12: name unknown\n"),
-        ("    let a: C iso = b\n", 4, "a.pony:4:20: name unknown\n"),
-        (
-            "    let a: C iso = C\n    let a: C iso = C\n",
-            4,
-            "a.pony:5:9: name twice\n",
-        ),
-        (
-            "    let a: U64 = 18446744073709551616\n",
-            3,
-            "a.pony:4:18: bad number\n",
-        ),
-    ];
-    for (lines, status, err) in rows {
-        let source = format!(in alloc; "class C\nactor Main\n  new create(env: Env) =>\n{lines}")?;
-        ends(&rt, alloc, source.as_bytes(), status, err)?;
-    }
-    Ok(())
+    all_fail(&rt, alloc, CHECK, (SOURCE, b""), CHECKS);
+    all_fail(&rt, alloc, CHECK, (b"", b""), CHECKS_OF_NOTHING);
+    all_fail(&rt, alloc, JUDGE, (SOURCE, b""), JUDGES);
+    all_fail(&rt, alloc, JUDGE, (b"", b""), JUDGES_OF_NOTHING);
+}
+
+// Whether a source of the same byte so many times ends so.
+fn bytes_end(alloc: Global, byte: &[u8], times: usize, status: u8, err: &[u8]) -> bool {
+    made_ends(alloc, repeated(alloc, b"", byte, times, b""), status, err)
 }
 
 #[test]
-fn derivations_are_judged(rt: HostRuntime) -> Result<(), Fail> {
+fn files_may_have_so_many_bytes_and_tokens(rt: HostRuntime) {
     let alloc = rt.alloc();
-    let accepted = "accepted\n";
-    let rows = [
-        ([SLOTS, LOCAL, CLASS, NEW, REST, "\n"], 0, accepted, ""),
-        (
-            [SLOTS, LOCAL, CLASS, "n new 6 ref 3 0 3 0\n", REST, "\n"],
-            6,
-            "",
-            "a.der: node 3\n",
-        ),
-        (
-            [SLOTS, "s 6 val\n", CLASS, NEW, REST, "\n"],
-            6,
-            "",
-            "a.der: slot 3\n",
-        ),
-        (
-            ["rcap-derivation 1 0 0\n", "", "", "", "", ""],
-            6,
-            "",
-            "a.der: shape\n",
-        ),
-        (
-            [SLOTS, LOCAL, CLASS, NEW, REST, ""],
-            5,
-            "",
-            "a.der:12: bad line\n",
-        ),
-        (
-            [SLOTS, LOCAL, "n prim 00 val 1 0 1 0\n", "", "", ""],
-            5,
-            "",
-            "a.der:6: bad line\n",
-        ),
-        (
-            [SLOTS, LOCAL, CLASS, NEW, REST, "\n\n"],
-            5,
-            "",
-            "a.der:13: bad line\n",
-        ),
-    ];
-    for ([slots, local, class, new, rest, end], status, out, err) in rows {
-        let text = format!(in alloc; "{slots}{local}{class}{new}{rest}{end}")?;
-        let given = whole(JUDGE, SOURCE.as_bytes(), text.as_bytes());
-        answers(&rt, alloc, given, Wanted { status, out, err })?;
-    }
-    Ok(())
+    let long = b"a.pony: longer than 1048576 bytes\n";
+    let many = b"a.pony:1:200001: too many tokens\n";
+    assert!(rt; bytes_end(alloc, b" ", 1_048_576, 3, b"a.pony:1:1048577: unexpected\n"));
+    assert!(rt; bytes_end(alloc, b" ", 1_048_577, 8, long));
+    assert!(rt; bytes_end(alloc, b".", 200_000, 3, b"a.pony:1:1: unexpected\n"));
+    assert!(rt; bytes_end(alloc, b".", 200_001, 8, many));
 }
 
-#[test]
-fn a_derivation_is_written(rt: HostRuntime) -> Result<(), Fail> {
-    let alloc = rt.alloc();
-    let text = format!(in alloc; "{SLOTS}{LOCAL}{CLASS}{NEW}{REST}\n")?;
-    let wanted = Wanted {
-        status: 0,
-        out: text.as_str(),
-        err: "",
-    };
-    answers(&rt, alloc, whole(CHECK, SOURCE.as_bytes(), b""), wanted)?;
-    Ok(())
-}
+const TOKENLESS: &[Ending<'_>] = &[
+    (b"class C /* a /* b */", 3, b"a.pony:1:9: not closed\n"),
+    (b"class C \"\\q", 3, b"a.pony:1:9: not closed\n"),
+    (b"class C \"\\q\"", 3, b"a.pony:1:10: bad escape\n"),
+    (b"\xff", 3, b"a.pony:1:1: bad byte\n"),
+    (b"0b2", 3, b"a.pony:1:1: bad number\n"),
+    (b"1__2", 3, b"a.pony:1:1: bad number\n"),
+    (b"class C\n\n  $", 3, b"a.pony:3:3: bad byte\n"),
+];
 
 #[test]
-fn faults_have_their_status_and_line(rt: HostRuntime) -> Result<(), Fail> {
-    let alloc = rt.alloc();
-    let source = SOURCE.as_bytes();
-    let unread = "a.pony: cannot be read\n";
-    let unexpected = "a.pony:1:1: unexpected\n";
-    let rows: [(
-        &[&str],
-        &[u8],
-        &[u32],
-        &[(u32, u32)],
-        &[(u32, u32)],
-        u8,
-        &str,
-        &str,
-    ); 9] = [
-        (CHECK, source, &[1], &[], &[], 9, "", unread),
-        (CHECK, source, &[1], &[], &[(1, 3)], 10, "", "a.p"),
-        (CHECK, source, &[], &[(1, 0)], &[], 10, "", ""),
-        (CHECK, source, &[], &[(1, 4)], &[], 10, "rcap", ""),
-        (CHECK, b"", &[], &[], &[], 3, "", unexpected),
-        (CHECK, b"", &[], &[], &[(1, 3)], 10, "", "a.p"),
-        (JUDGE, source, &[1], &[], &[], 9, "", unread),
-        (
-            JUDGE,
-            source,
-            &[2],
-            &[],
-            &[],
-            9,
-            "",
-            "a.der: cannot be read\n",
-        ),
-        // Where the source is refused, the derivation is not read.
-        (JUDGE, b"", &[2], &[], &[], 3, "", unexpected),
-    ];
-    for (words, source, files, out, err, status, text, line) in rows {
-        let given = Given {
-            words,
-            source,
-            other: b"",
-            files,
-            out,
-            err,
-        };
-        let wanted = Wanted {
-            status,
-            out: text,
-            err: line,
-        };
-        answers(&rt, alloc, given, wanted)?;
-    }
-    Ok(())
+fn a_source_without_tokens_has_its_fault_named(rt: HostRuntime) {
+    all_end(&rt, rt.alloc(), TOKENLESS);
 }
 
-#[test]
-fn files_may_have_so_many_bytes_and_tokens(rt: HostRuntime) -> Result<(), Fail> {
-    let alloc = rt.alloc();
-    let rows = [
-        (b' ', 1_048_576, 3, "a.pony:1:1048577: unexpected\n"),
-        (b' ', 1_048_577, 8, "a.pony: longer than 1048576 bytes\n"),
-        (b'.', 200_000, 3, "a.pony:1:1: unexpected\n"),
-        (b'.', 200_001, 8, "a.pony:1:200001: too many tokens\n"),
-    ];
-    for (byte, size, status, err) in rows {
-        let source = vec![in alloc; byte; size]?;
-        ends(&rt, alloc, &source, status, err)?;
-    }
-    Ok(())
-}
+const WORDS: &[Spoken<'_>] = &[
+    (&[], 2, USAGE),
+    (&["help"], 2, USAGE),
+    (&["--help"], 2, USAGE),
+    (&["check"], 2, USAGE),
+    (&["check", "a.pony", "b"], 2, USAGE),
+    (&["judge", "a.pony"], 2, USAGE),
+    (&["judge", "a.pony", "a.der", "b"], 2, USAGE),
+    // A word that begins with `-` is an option, unless it stands behind `--`.
+    (&["check", "-x"], 2, USAGE),
+    (&["check", "--help"], 2, USAGE),
+    (&["check", "--", "-x"], 9, b"-x: cannot be read\n"),
+    (&["check", ""], 9, b": cannot be read\n"),
+    (&["check", "gone.pony"], 9, b"gone.pony: cannot be read\n"),
+    (
+        &["judge", "a.pony", "gone.der"],
+        9,
+        b"gone.der: cannot be read\n",
+    ),
+    (&["run"], 2, USAGE),
+    (&["run", "a.pony"], 2, USAGE),
+    (&["run", "a.pony", "a.sched", "b"], 2, USAGE),
+    (
+        &["run", "a.pony", "gone.sched"],
+        9,
+        b"gone.sched: cannot be read\n",
+    ),
+];
 
 #[test]
-fn a_source_without_tokens_has_its_fault_named(rt: HostRuntime) -> Result<(), Fail> {
-    let alloc = rt.alloc();
-    let rows: [(&[u8], u8, &str); 7] = [
-        (b"class C /* a /* b */", 3, "a.pony:1:9: not closed\n"),
-        (b"class C \"\\q", 3, "a.pony:1:9: not closed\n"),
-        (b"class C \"\\q\"", 3, "a.pony:1:10: bad escape\n"),
-        (b"\xff", 3, "a.pony:1:1: bad byte\n"),
-        (b"0b2", 3, "a.pony:1:1: bad number\n"),
-        (b"1__2", 3, "a.pony:1:1: bad number\n"),
-        (b"class C\n\n  $", 3, "a.pony:3:3: bad byte\n"),
-    ];
-    for (source, status, err) in rows {
-        ends(&rt, alloc, source, status, err)?;
-    }
-    Ok(())
-}
-
-#[test]
-fn words_are_taken_or_refused(rt: HostRuntime) -> Result<(), Fail> {
-    let alloc = rt.alloc();
-    let usage = "usage: rcap COMMAND ARGUMENT ...\n";
-    let rows: [(&[&str], u8, &str); 17] = [
-        (&[], 2, usage),
-        (&["help"], 2, usage),
-        (&["--help"], 2, usage),
-        (&["check"], 2, usage),
-        (&["check", "a.pony", "b"], 2, usage),
-        (&["judge", "a.pony"], 2, usage),
-        (&["judge", "a.pony", "a.der", "b"], 2, usage),
-        // A word that begins with `-` is an option, unless it stands behind `--`.
-        (&["check", "-x"], 2, usage),
-        (&["check", "--help"], 2, usage),
-        (&["check", "--", "-x"], 9, "-x: cannot be read\n"),
-        (&["check", ""], 9, ": cannot be read\n"),
-        (&["check", "gone.pony"], 9, "gone.pony: cannot be read\n"),
-        (
-            &["judge", "a.pony", "gone.der"],
-            9,
-            "gone.der: cannot be read\n",
-        ),
-        (&["run"], 2, usage),
-        (&["run", "a.pony"], 2, usage),
-        (&["run", "a.pony", "a.sched", "b"], 2, usage),
-        (
-            &["run", "a.pony", "gone.sched"],
-            9,
-            "gone.sched: cannot be read\n",
-        ),
-    ];
-    for (words, status, err) in rows {
-        let out = "";
-        answers(
-            &rt,
-            alloc,
-            whole(words, SOURCE.as_bytes(), b""),
-            Wanted { status, out, err },
-        )?;
-    }
-    Ok(())
+fn words_are_taken_or_refused(rt: HostRuntime) {
+    all_words_end(&rt, rt.alloc(), SOURCE, WORDS);
 }

@@ -1,76 +1,98 @@
 //! `check` and `judge` on the flow of a body: which locals hold something, in branches, loops and `recover`.
 
-use crate::cases::{JUDGE, Wanted, answers, derive, ends, whole};
-use std::test::Fail;
+use crate::rows::{CHECK, Ending, JUDGE, all_end_within, ends, refuses_made};
+use crate::running::{Done, is_done, run};
+use crate::texts::joined;
+use std::alloc::{AllocError, Global};
 
-const MAIN: &str = "class C\nactor Main\n  new create(env: Env) =>\n";
+const MAIN: &[u8] = b"class C\nactor Main\n  new create(env: Env) =>\n";
 
-const REFILLED: &str =
-    "    var a: C iso = C\n    let b: C iso = consume a\n    a = C\n    let d: C iso = consume a\n";
+/// A local that was consumed takes a new value.
+const REFILLED: &[u8] = b"\
+class C
+actor Main
+  new create(env: Env) =>
+    var a: C iso = C
+    let b: C iso = consume a
+    a = C
+    let d: C iso = consume a
+";
+
+const FLOWS: &[Ending<'_>] = &[
+    // What one branch consumes is gone behind both.
+    (
+        b"    let a: C iso = C\n    if true then let b: C iso = consume a end\n",
+        0,
+        b"",
+    ),
+    (
+        b"    let a: C iso = C\n    if true then let b: C iso = consume a end\n    let d: C tag = a\n",
+        1,
+        b"a.pony:6:20: no rule\n",
+    ),
+    // A turn of a loop leaves what the next one needs.
+    (
+        b"    var a: C iso = C\n    while true do let b: C iso = consume a end\n",
+        1,
+        b"a.pony:5:5: no rule\n",
+    ),
+    (
+        b"    var a: C iso = C\n    while true do let b: C iso = consume a; a = C end\n",
+        0,
+        b"",
+    ),
+    // A `recover` reaches only what may be sent, and of `this` its `tag`.
+    (
+        b"    let a: C ref = C\n    let b: C iso = recover let d: C ref = a; d end\n",
+        1,
+        b"a.pony:5:43: no rule\n",
+    ),
+    (
+        b"    let a: C ref = C\n    let b: Main tag = recover this end\n",
+        0,
+        b"",
+    ),
+];
 
 #[test]
-fn flow_is_accepted_or_refused(rt: HostRuntime) -> Result<(), Fail> {
+fn flow_is_accepted_or_refused(rt: HostRuntime) {
     let alloc = rt.alloc();
-    let first = "    let a: C iso = C\n    if true then let b: C iso = consume a end\n";
-    let rows = [
-        // A local that was consumed takes a new value.
-        (REFILLED, "", 0, ""),
-        // What one branch consumes is gone behind both.
-        (first, "", 0, ""),
-        (first, "    let d: C tag = a\n", 1, "a.pony:6:20: no rule\n"),
-        // A turn of a loop leaves what the next one needs.
-        (
-            "    var a: C iso = C\n",
-            "    while true do let b: C iso = consume a end\n",
-            1,
-            "a.pony:5:5: no rule\n",
-        ),
-        (
-            "    var a: C iso = C\n",
-            "    while true do let b: C iso = consume a; a = C end\n",
-            0,
-            "",
-        ),
-        // A `recover` reaches only what may be sent, and of `this` its `tag`.
-        (
-            "    let a: C ref = C\n",
-            "    let b: C iso = recover let d: C ref = a; d end\n",
-            1,
-            "a.pony:5:43: no rule\n",
-        ),
-        (
-            "    let a: C ref = C\n",
-            "    let b: Main tag = recover this end\n",
-            0,
-            "",
-        ),
-    ];
-    for (lines, more, status, err) in rows {
-        let source = format!(in alloc; "{MAIN}{lines}{more}")?;
-        ends(&rt, alloc, source.as_bytes(), status, err)?;
+    assert!(rt; ends(alloc, REFILLED, 0, b""));
+    all_end_within(&rt, alloc, (MAIN, b""), FLOWS);
+}
+
+// A derivation with a definition in place of its first assignment; of one without an assignment, nothing.
+fn with_definition(alloc: Global, derivation: &[u8]) -> Result<Vec<u8>, AllocError> {
+    match std::str::from_utf8(derivation)
+        .unwrap_or("")
+        .split_once("assign")
+    {
+        Some((before, behind)) => {
+            joined(alloc, &[before.as_bytes(), b"define", behind.as_bytes()])
+        }
+        None => Ok(Vec::new(alloc)),
     }
-    Ok(())
+}
+
+// Whether a source was checked, and its derivation with a definition in place of its first assignment is refused so.
+fn definition_is_refused(
+    alloc: Global,
+    source: &[u8],
+    checked: Result<Done, AllocError>,
+    err: &[u8],
+) -> bool {
+    match checked {
+        Ok(done) => {
+            let other = with_definition(alloc, done.out.bytes());
+            is_done(&done) && refuses_made(alloc, JUDGE, source, other, (6, err))
+        }
+        Err(_) => false,
+    }
 }
 
 #[test]
-fn another_rule_in_a_derivation_is_named(rt: HostRuntime) -> Result<(), Fail> {
-    let alloc = rt.alloc();
-    let source = format!(in alloc; "{MAIN}{REFILLED}")?;
-    let written = derive(&rt, alloc, source.as_bytes())?;
-    let parts = std::str::from_utf8(&written)
-        .unwrap_or("")
-        .split_once("assign");
-    assert!(rt; parts.is_some());
-    if let Some((before, behind)) = parts {
-        let other = format!(in alloc; "{before}define{behind}")?;
-        // Three nodes of the class's constructor and five of Main's stand before the assignment.
-        let wanted = Wanted {
-            status: 6,
-            out: "",
-            err: "a.der: node 8\n",
-        };
-        let given = whole(JUDGE, source.as_bytes(), other.as_bytes());
-        answers(&rt, alloc, given, wanted)?;
-    }
-    Ok(())
+fn another_rule_in_a_derivation_is_named(rt: HostRuntime) {
+    // Three nodes of the class's constructor and five of Main's stand before the assignment.
+    let checked = run(rt.alloc(), CHECK, REFILLED, b"");
+    assert!(rt; definition_is_refused(rt.alloc(), REFILLED, checked, b"a.der: node 8\n"));
 }

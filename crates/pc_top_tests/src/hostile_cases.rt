@@ -1,110 +1,114 @@
-//! Input that is cut short, deep, huge or crafted: one table of the status and the line of each.
+//! Input that is cut short, deep, huge or crafted: the status and the line of each.
 
-use crate::cases::{CHECK, JUDGE, SOURCE, Wanted, answers, derive, whole};
-use crate::programs::GREETING;
+use crate::programs::{GREETING, SOURCE};
+use crate::rows::{
+    CHECK, Ending, JUDGE, RUN, Refused, all_end, all_refused, made_ends, refuses, refuses_made,
+};
+use crate::running::{Done, is_done, run};
+use crate::texts::{joined, repeated};
 use std::alloc::{AllocError, Global};
-use std::process::Abort;
-use std::test::Fail;
 
-// A command on a source and another file is refused with this status and line, and writes nothing.
-fn refuses(
-    rt: &impl Abort,
+const SOURCES: &[Ending<'_>] = &[
+    (b"class", 3, b"a.pony:1:6: unexpected\n"),
+    (b"class C /* a /* b */", 3, b"a.pony:1:9: not closed\n"),
+    (b"class C \"\\q", 3, b"a.pony:1:9: not closed\n"),
+    (b"class C \"\\q\"", 3, b"a.pony:1:10: bad escape\n"),
+    (b"\xff", 3, b"a.pony:1:1: bad byte\n"),
+    (b"0b2", 3, b"a.pony:1:1: bad number\n"),
+    (b"1__2", 3, b"a.pony:1:1: bad number\n"),
+];
+
+// Whether a text with the same one so many times behind it is refused so.
+fn huge_is_refused(
     alloc: Global,
-    words: &[&str],
-    source: &[u8],
-    other: &[u8],
-    refusal: (u8, &str),
-) -> Result<(), AllocError> {
-    let (status, err) = refusal;
-    let out = "";
-    let wanted = Wanted { status, out, err };
-    answers(rt, alloc, whole(words, source, other), wanted)
+    before: &[u8],
+    part: &[u8],
+    times: usize,
+    refusal: (u8, &[u8]),
+) -> bool {
+    let source = repeated(alloc, before, part, times, b"");
+    made_ends(alloc, source, refusal.0, refusal.1)
 }
 
-fn sources_are_refused(rt: &impl Abort, alloc: Global) -> Result<(), AllocError> {
-    let rows: [(&[u8], (u8, &str)); 7] = [
-        (b"class", (3, "a.pony:1:6: unexpected\n")),
-        (b"class C /* a /* b */", (3, "a.pony:1:9: not closed\n")),
-        (b"class C \"\\q", (3, "a.pony:1:9: not closed\n")),
-        (b"class C \"\\q\"", (3, "a.pony:1:10: bad escape\n")),
-        (b"\xff", (3, "a.pony:1:1: bad byte\n")),
-        (b"0b2", (3, "a.pony:1:1: bad number\n")),
-        (b"1__2", (3, "a.pony:1:1: bad number\n")),
-    ];
-    for (source, refusal) in rows {
-        refuses(rt, alloc, CHECK, source, b"", refusal)?;
-    }
-    let huge = [
-        ("", b'.', 200_000, (3, "a.pony:1:1: unexpected\n")),
-        ("", b'.', 200_001, (8, "a.pony:1:200001: too many tokens\n")),
-        (
-            "actor Main new create(env: Env) => ",
-            b'(',
-            100_000,
-            (8, "a.pony:1:235: nested too deep\n"),
-        ),
-    ];
-    for (before, byte, size, refusal) in huge {
-        let mut source = before.as_bytes().to_vec(alloc)?;
-        let bytes = vec![in alloc; byte; size]?;
-        source.extend_from_slice(&bytes)?;
-        refuses(rt, alloc, CHECK, &source, b"", refusal)?;
-    }
-    Ok(())
+const OPENS: &[u8] = b"actor Main new create(env: Env) => ";
+
+#[test]
+fn hostile_sources_are_refused_at_their_first_fault(rt: HostRuntime) {
+    let alloc = rt.alloc();
+    all_end(&rt, alloc, SOURCES);
+    let unexpected = b"a.pony:1:1: unexpected\n";
+    assert!(rt; huge_is_refused(alloc, b"", b".", 200_000, (3, unexpected)));
+    let many = b"a.pony:1:200001: too many tokens\n";
+    assert!(rt; huge_is_refused(alloc, b"", b".", 200_001, (8, many)));
+    let deep = b"a.pony:1:235: nested too deep\n";
+    assert!(rt; huge_is_refused(alloc, OPENS, b"(", 100_000, (8, deep)));
 }
 
-fn derivations_are_refused(rt: &impl Abort, alloc: Global) -> Result<(), AllocError> {
-    let source = SOURCE.as_bytes();
-    let rows: [(&[u8], (u8, &str)); 4] = [
-        (b"", (5, "a.der:1: bad line\n")),
-        (
-            b"rcap-derivation 1 0 4294967296\n",
-            (5, "a.der:1: bad line\n"),
-        ),
-        (
-            b"rcap-derivation 1 640001 0\n",
-            (8, "a.der: too many lines\n"),
-        ),
-        (b"rcap-derivation 1 0 0\n", (6, "a.der: shape\n")),
-    ];
-    for (derivation, refusal) in rows {
-        refuses(rt, alloc, JUDGE, source, derivation, refusal)?;
-    }
-    let mut written = derive(rt, alloc, source)?;
-    written.push(b'\n')?;
-    refuses(
-        rt,
-        alloc,
-        JUDGE,
-        source,
-        &written,
-        (5, "a.der:13: bad line\n"),
-    )?;
-    let cut = &written[..written.len().saturating_sub(2)];
-    refuses(rt, alloc, JUDGE, source, cut, (5, "a.der:12: bad line\n"))
+const DERIVATIONS: &[Refused<'_>] = &[
+    (SOURCE, b"", 5, b"a.der:1: bad line\n"),
+    (
+        SOURCE,
+        b"rcap-derivation 1 0 4294967296\n",
+        5,
+        b"a.der:1: bad line\n",
+    ),
+    (
+        SOURCE,
+        b"rcap-derivation 1 640001 0\n",
+        8,
+        b"a.der: too many lines\n",
+    ),
+    (SOURCE, b"rcap-derivation 1 0 0\n", 6, b"a.der: shape\n"),
+];
+
+// Whether a derivation is refused so without its last two bytes.
+fn shorter_is_refused(alloc: Global, derivation: &[u8], err: &[u8]) -> bool {
+    let shorter = &derivation[..derivation.len().saturating_sub(2)];
+    refuses(alloc, JUDGE, SOURCE, shorter, (5, err))
 }
 
-fn schedules_are_refused(rt: &impl Abort, alloc: Global) -> Result<(), AllocError> {
-    let words = &["run", "a.pony", "a.sched"];
-    let rows: [(&[u8], (u8, &str)); 6] = [
-        (b"4294967296", (7, "a.sched:1:1: bad word\n")),
-        (b"00000000001", (7, "a.sched:1:1: bad word\n")),
-        (b"1**2", (7, "a.sched:1:1: bad word\n")),
-        (b"0*1000001", (8, "a.sched:1:1: too many steps\n")),
-        (b"1*1000000 1", (8, "a.sched:1:11: too many steps\n")),
-        (b"1*1000001 x", (8, "a.sched:1:1: too many steps\n")),
-    ];
-    for (schedule, refusal) in rows {
-        refuses(rt, alloc, words, GREETING, schedule, refusal)?;
+// Whether a derivation is refused with a line more, and without its last two bytes.
+fn others_are_refused(alloc: Global, derivation: &[u8]) -> bool {
+    let longer = joined(alloc, &[derivation, b"\n"]);
+    refuses_made(alloc, JUDGE, SOURCE, longer, (5, b"a.der:13: bad line\n"))
+        && shorter_is_refused(alloc, derivation, b"a.der:12: bad line\n")
+}
+
+// Whether `SOURCE` was checked, and what was written is refused so.
+fn derived_is_refused(alloc: Global, checked: Result<Done, AllocError>) -> bool {
+    match checked {
+        Ok(done) => is_done(&done) && others_are_refused(alloc, done.out.bytes()),
+        Err(_) => false,
     }
-    Ok(())
 }
 
 #[test]
-fn hostile_input_is_refused_at_its_first_fault(rt: HostRuntime) -> Result<(), Fail> {
+fn hostile_derivations_are_refused_at_their_first_fault(rt: HostRuntime) {
     let alloc = rt.alloc();
-    sources_are_refused(&rt, alloc)?;
-    derivations_are_refused(&rt, alloc)?;
-    schedules_are_refused(&rt, alloc)?;
-    Ok(())
+    all_refused(&rt, alloc, JUDGE, DERIVATIONS);
+    assert!(rt; derived_is_refused(alloc, run(alloc, CHECK, SOURCE, b"")));
+}
+
+const SCHEDULES: &[Refused<'_>] = &[
+    (GREETING, b"4294967296", 7, b"a.sched:1:1: bad word\n"),
+    (GREETING, b"00000000001", 7, b"a.sched:1:1: bad word\n"),
+    (GREETING, b"1**2", 7, b"a.sched:1:1: bad word\n"),
+    (GREETING, b"0*1000001", 8, b"a.sched:1:1: too many steps\n"),
+    (
+        GREETING,
+        b"1*1000000 1",
+        8,
+        b"a.sched:1:11: too many steps\n",
+    ),
+    (
+        GREETING,
+        b"1*1000001 x",
+        8,
+        b"a.sched:1:1: too many steps\n",
+    ),
+];
+
+#[test]
+fn hostile_schedules_are_refused_at_their_first_fault(rt: HostRuntime) {
+    all_refused(&rt, rt.alloc(), RUN, SCHEDULES);
 }

@@ -33,13 +33,19 @@ mod put_cases;
 #[cfg(test)]
 mod referee_cases;
 #[cfg(test)]
+mod rows;
+#[cfg(test)]
 mod run_cases;
+#[cfg(test)]
+mod running;
 #[cfg(test)]
 mod sends_cases;
 #[cfg(test)]
 mod show_cases;
 #[cfg(test)]
 mod swap_cases;
+#[cfg(test)]
+mod texts;
 #[cfg(test)]
 mod trace_cases;
 #[cfg(test)]

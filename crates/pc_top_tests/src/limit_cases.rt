@@ -1,237 +1,220 @@
 //! Limits: the largest input that is taken, and the smallest that is not, each at its number and one past it.
 
-use crate::cases::{JUDGE, SOURCE, Wanted, answers, ends, whole};
-use crate::programs::GREETING;
+use crate::programs::{GREETING, SOURCE};
+use crate::rows::{JUDGE, RUN, Refused, all_refused, made_ends, refuses, refuses_made, tells};
+use crate::texts::{add_numbered, add_repeated, repeated, spaces};
 use std::alloc::{AllocError, Global};
-use std::test::Fail;
 
-const MAIN: &str = "actor Main\n  new create(env: Env) => None\n";
+const MAIN: &[u8] = b"actor Main\n  new create(env: Env) => None\n";
 
-const RUN: &[&str] = &["run", "a.pony", "a.sched"];
+fn add_classes(alloc: Global, source: &mut Vec<u8>, count: usize) -> Result<(), AllocError> {
+    add_numbered(alloc, source, b"class C", count, b"\n")?;
+    source.extend_from_slice(MAIN)
+}
 
 // So many classes, and a Main behind them.
 fn with_classes(alloc: Global, count: usize) -> Result<Vec<u8>, AllocError> {
-    let mut source = Vec::new(alloc);
-    for number in 0..count {
-        let line = format!(in alloc; "class C{number}\n")?;
-        source.extend_from_slice(line.as_bytes())?;
-    }
-    source.extend_from_slice(MAIN.as_bytes())?;
+    let mut source: Vec<u8> = Vec::new(alloc);
+    add_classes(alloc, &mut source, count)?;
     Ok(source)
 }
 
 #[test]
-fn a_file_may_have_so_many_entities(rt: HostRuntime) -> Result<(), Fail> {
+fn a_file_may_have_so_many_entities(rt: HostRuntime) {
     let alloc = rt.alloc();
-    let most = with_classes(alloc, 999)?;
-    ends(&rt, alloc, &most, 0, "")?;
-    let more = with_classes(alloc, 1_000)?;
-    ends(&rt, alloc, &more, 8, "a.pony:1001:7: too many entities\n")?;
-    Ok(())
+    assert!(rt; made_ends(alloc, with_classes(alloc, 999), 0, b""));
+    let more = b"a.pony:1001:7: too many entities\n";
+    assert!(rt; made_ends(alloc, with_classes(alloc, 1_000), 8, more));
 }
 
-// The methods of an entity, each with this behind its name.
-fn add_methods(
+// Adds an entity with so many methods.
+fn add_entity(
     alloc: Global,
     source: &mut Vec<u8>,
-    count: usize,
-    behind: &str,
+    head: &[u8],
+    methods: usize,
+    behind: &[u8],
 ) -> Result<(), AllocError> {
-    for number in 0..count {
-        let line = format!(in alloc; "  fun m{number}(){behind}\n")?;
-        source.extend_from_slice(line.as_bytes())?;
+    source.extend_from_slice(head)?;
+    add_numbered(alloc, source, b"  fun m", methods, behind)
+}
+
+// Adds a class of 99 methods and the constructor that is added.
+fn add_class(alloc: Global, source: &mut Vec<u8>, number: usize) -> Result<(), AllocError> {
+    let head = format!(in alloc; "class C{number}\n")?;
+    add_entity(alloc, source, head.as_bytes(), 99, b"() => None\n")
+}
+
+// Adds 97 such classes.
+fn add_97_classes(alloc: Global, source: &mut Vec<u8>) -> Result<(), AllocError> {
+    for number in 0..97usize {
+        add_class(alloc, source, number)?;
     }
     Ok(())
 }
 
-// A trait of a hundred methods and one that takes them over, 97 classes of 99 methods and the constructor that is added, a
-// class with so many, and a Main: 9,902 methods and those of the last class.
-fn with_methods(alloc: Global, last: usize) -> Result<Vec<u8>, AllocError> {
-    let mut source = b"trait T\n".to_vec(alloc)?;
-    add_methods(alloc, &mut source, 100, "")?;
+// Adds a trait of a hundred methods and one that takes them over, the classes, a class with so many methods, and a Main:
+// 9,902 methods and those of the last class.
+fn add_methods(alloc: Global, source: &mut Vec<u8>, last: usize) -> Result<(), AllocError> {
+    add_entity(alloc, source, b"trait T\n", 100, b"()\n")?;
     source.extend_from_slice(b"trait U is T\n")?;
-    for number in 0..97usize {
-        let line = format!(in alloc; "class C{number}\n")?;
-        source.extend_from_slice(line.as_bytes())?;
-        add_methods(alloc, &mut source, 99, " => None")?;
-    }
-    source.extend_from_slice(b"class Last\n")?;
-    add_methods(alloc, &mut source, last, " => None")?;
-    source.extend_from_slice(MAIN.as_bytes())?;
+    add_97_classes(alloc, source)?;
+    add_entity(alloc, source, b"class Last\n", last, b"() => None\n")?;
+    source.extend_from_slice(MAIN)
+}
+
+// A source of so many methods.
+fn with_methods(alloc: Global, last: usize) -> Result<Vec<u8>, AllocError> {
+    let mut source: Vec<u8> = Vec::new(alloc);
+    add_methods(alloc, &mut source, last)?;
     Ok(source)
 }
 
 #[test]
-fn a_file_may_have_so_many_methods(rt: HostRuntime) -> Result<(), Fail> {
+fn a_file_may_have_so_many_methods(rt: HostRuntime) {
     let alloc = rt.alloc();
-    let most = with_methods(alloc, 98)?;
-    ends(&rt, alloc, &most, 0, "")?;
-    let more = with_methods(alloc, 99)?;
-    ends(&rt, alloc, &more, 8, "a.pony:9903:7: too many methods\n")?;
-    Ok(())
+    assert!(rt; made_ends(alloc, with_methods(alloc, 98), 0, b""));
+    let more = b"a.pony:9903:7: too many methods\n";
+    assert!(rt; made_ends(alloc, with_methods(alloc, 99), 8, more));
+}
+
+fn add_fields(alloc: Global, source: &mut Vec<u8>, count: usize) -> Result<(), AllocError> {
+    source.extend_from_slice(b"class C\n")?;
+    add_numbered(alloc, source, b"  let f", count, b": U64 = 1\n")?;
+    source.extend_from_slice(MAIN)
 }
 
 // A class with so many fields, and a Main.
 fn with_fields(alloc: Global, count: usize) -> Result<Vec<u8>, AllocError> {
-    let mut source = b"class C\n".to_vec(alloc)?;
-    for number in 0..count {
-        let line = format!(in alloc; "  let f{number}: U64 = 1\n")?;
-        source.extend_from_slice(line.as_bytes())?;
-    }
-    source.extend_from_slice(MAIN.as_bytes())?;
+    let mut source: Vec<u8> = Vec::new(alloc);
+    add_fields(alloc, &mut source, count)?;
     Ok(source)
 }
 
 #[test]
-fn an_entity_may_have_so_many_fields(rt: HostRuntime) -> Result<(), Fail> {
+fn an_entity_may_have_so_many_fields(rt: HostRuntime) {
     let alloc = rt.alloc();
-    let most = with_fields(alloc, 64)?;
-    ends(&rt, alloc, &most, 0, "")?;
-    let more = with_fields(alloc, 65)?;
-    ends(&rt, alloc, &more, 8, "a.pony:66:7: too many fields\n")?;
-    Ok(())
+    assert!(rt; made_ends(alloc, with_fields(alloc, 64), 0, b""));
+    let more = b"a.pony:66:7: too many fields\n";
+    assert!(rt; made_ends(alloc, with_fields(alloc, 65), 8, more));
 }
 
-// A sum of so many ones.
-fn add_sum(source: &mut Vec<u8>, terms: usize) -> Result<(), AllocError> {
-    source.extend_from_slice(b"1")?;
-    for _ in 1..terms {
-        source.extend_from_slice(b" + 1")?;
-    }
-    Ok(())
+// Adds a class whose 99 constructors have 2,000 nodes each: the 1,995 of the field's initial value, a sum of 998 ones, a write
+// of the field with its `this`, None, a sequence and a body. Its method has 1,997, of which 1,995 are such a sum. Behind the
+// class stands a Main whose body is a sequence with what is given; with the sequence and the body themselves that is two
+// nodes more.
+fn add_nodes(alloc: Global, source: &mut Vec<u8>, main: &[u8]) -> Result<(), AllocError> {
+    add_repeated(source, b"class C\n  var f: U64 = 1", b" + 1", 997, b"\n")?;
+    add_numbered(alloc, source, b"  new c", 99, b"() => None\n")?;
+    add_repeated(source, b"  fun sum(): U64 => 1", b" + 1", 997, main)
 }
 
-// A class whose 99 constructors have 2,000 nodes each: the 1,995 of the field's initial value, a write of the field with its
-// `this`, None, a sequence and a body. Its method has 1,997, of which 1,995 are a sum. Main's body is a sequence with what is
-// given; with the sequence and the body themselves that is two nodes more.
-fn with_nodes(alloc: Global, body: &str) -> Result<Vec<u8>, AllocError> {
-    let mut source = b"class C\n  var f: U64 = ".to_vec(alloc)?;
-    add_sum(&mut source, 998)?;
-    source.extend_from_slice(b"\n")?;
-    for number in 0..99usize {
-        let line = format!(in alloc; "  new c{number}() => None\n")?;
-        source.extend_from_slice(line.as_bytes())?;
-    }
-    source.extend_from_slice(b"  fun sum(): U64 => ")?;
-    add_sum(&mut source, 998)?;
-    let main = format!(in alloc; "\nactor Main\n  new create(env: Env) => {body}\n")?;
-    source.extend_from_slice(main.as_bytes())?;
+// A source of so many nodes.
+fn with_nodes(alloc: Global, main: &[u8]) -> Result<Vec<u8>, AllocError> {
+    let mut source: Vec<u8> = Vec::new(alloc);
+    add_nodes(alloc, &mut source, main)?;
     Ok(source)
 }
 
+const ONE_MORE: &[u8] = b"\nactor Main\n  new create(env: Env) => None\n";
+
+const TWO_MORE: &[u8] = b"\nactor Main\n  new create(env: Env) => None; None\n";
+
 #[test]
-fn a_core_may_have_so_many_nodes(rt: HostRuntime) -> Result<(), Fail> {
+fn a_core_may_have_so_many_nodes(rt: HostRuntime) {
     let alloc = rt.alloc();
-    let most = with_nodes(alloc, "None")?;
-    ends(&rt, alloc, &most, 0, "")?;
-    let more = with_nodes(alloc, "None; None")?;
-    ends(&rt, alloc, &more, 8, "a.pony:104:7: too many nodes\n")?;
-    Ok(())
+    assert!(rt; made_ends(alloc, with_nodes(alloc, ONE_MORE), 0, b""));
+    let more = b"a.pony:104:7: too many nodes\n";
+    assert!(rt; made_ends(alloc, with_nodes(alloc, TWO_MORE), 8, more));
+}
+
+const LINES: &[Refused<'_>] = &[
+    (
+        SOURCE,
+        b"rcap-derivation 1 640000 0\n",
+        5,
+        b"a.der:2: bad line\n",
+    ),
+    (
+        SOURCE,
+        b"rcap-derivation 1 640001 0\n",
+        8,
+        b"a.der: too many lines\n",
+    ),
+    (
+        SOURCE,
+        b"rcap-derivation 1 0 200000\n",
+        5,
+        b"a.der:2: bad line\n",
+    ),
+    (
+        SOURCE,
+        b"rcap-derivation 1 0 200001\n",
+        8,
+        b"a.der: too many lines\n",
+    ),
+];
+
+#[test]
+fn a_derivation_may_have_so_many_lines(rt: HostRuntime) {
+    all_refused(&rt, rt.alloc(), JUDGE, LINES);
 }
 
 #[test]
-fn a_derivation_may_have_so_many_lines(rt: HostRuntime) -> Result<(), Fail> {
+fn a_derivation_may_have_so_many_bytes(rt: HostRuntime) {
     let alloc = rt.alloc();
-    let rows: [(&[u8], u8, &str); 4] = [
-        (b"rcap-derivation 1 640000 0\n", 5, "a.der:2: bad line\n"),
-        (
-            b"rcap-derivation 1 640001 0\n",
-            8,
-            "a.der: too many lines\n",
-        ),
-        (b"rcap-derivation 1 0 200000\n", 5, "a.der:2: bad line\n"),
-        (
-            b"rcap-derivation 1 0 200001\n",
-            8,
-            "a.der: too many lines\n",
-        ),
-    ];
-    for (derivation, status, err) in rows {
-        let out = "";
-        let wanted = Wanted { status, out, err };
-        answers(
-            &rt,
-            alloc,
-            whole(JUDGE, SOURCE.as_bytes(), derivation),
-            wanted,
-        )?;
-    }
-    Ok(())
+    let line = b"a.der:1: bad line\n";
+    assert!(rt; refuses_made(alloc, JUDGE, SOURCE, spaces(alloc, 33_554_432), (5, line)));
+    let long = b"a.der: longer than 33554432 bytes\n";
+    assert!(rt; refuses_made(alloc, JUDGE, SOURCE, spaces(alloc, 33_554_433), (8, long)));
 }
 
 #[test]
-fn a_derivation_may_have_so_many_bytes(rt: HostRuntime) -> Result<(), Fail> {
-    let alloc = rt.alloc();
-    let rows = [
-        (33_554_432, 5, "a.der:1: bad line\n"),
-        (33_554_433, 8, "a.der: longer than 33554432 bytes\n"),
-    ];
-    for (size, status, err) in rows {
-        let derivation = vec![in alloc; b' '; size]?;
-        let out = "";
-        let wanted = Wanted { status, out, err };
-        answers(
-            &rt,
-            alloc,
-            whole(JUDGE, SOURCE.as_bytes(), &derivation),
-            wanted,
-        )?;
-    }
-    Ok(())
-}
-
-#[test]
-fn a_schedule_may_have_so_many_turns(rt: HostRuntime) -> Result<(), Fail> {
+fn a_schedule_may_have_so_many_turns(rt: HostRuntime) {
     let alloc = rt.alloc();
     // The greeting is sent within ten turns, and waits: the stream has no turn.
-    let rows = [
-        (
-            "1*1000000",
-            0,
-            "steps 10 skipped 999990 actors 2 objects 3 waiting 1\n",
-            "",
-        ),
-        ("1*1000001", 8, "", "a.sched:1:1: too many steps\n"),
-    ];
-    for (schedule, status, out, err) in rows {
-        let wanted = Wanted { status, out, err };
-        answers(
-            &rt,
-            alloc,
-            whole(RUN, GREETING, schedule.as_bytes()),
-            wanted,
-        )?;
-    }
-    Ok(())
+    let out = b"steps 10 skipped 999990 actors 2 objects 3 waiting 1\n";
+    assert!(rt; tells(alloc, RUN, GREETING, b"1*1000000", out));
+    let err = b"a.sched:1:1: too many steps\n";
+    assert!(rt; refuses(alloc, RUN, GREETING, b"1*1000001", (8, err)));
 }
 
 // A Main that prints a text of so many bytes with one more behind it.
 fn with_joined(alloc: Global, size: usize) -> Result<Vec<u8>, AllocError> {
-    let mut source = b"actor Main\n  new create(env: Env) => env.out.print(\"".to_vec(alloc)?;
-    let text = vec![in alloc; b'x'; size]?;
-    source.extend_from_slice(&text)?;
-    source.extend_from_slice(b"\" + \"x\")\n")?;
-    Ok(source)
+    let before = b"actor Main\n  new create(env: Env) => env.out.print(\"";
+    repeated(alloc, before, b"x", size, b"\" + \"x\")\n")
+}
+
+// Whether a source that was made prints a text that was made.
+fn prints(
+    alloc: Global,
+    source: Result<Vec<u8>, AllocError>,
+    printed: Result<Vec<u8>, AllocError>,
+) -> bool {
+    match (source, printed) {
+        (Ok(source), Ok(printed)) => tells(alloc, RUN, &source, b"1*13 0", &printed),
+        (Err(_), _) | (_, Err(_)) => false,
+    }
+}
+
+// Whether a source that was made ends with a text that is too long.
+fn is_too_long(alloc: Global, source: Result<Vec<u8>, AllocError>) -> bool {
+    let err = b"a.sched: text too long at step 8\n";
+    match source {
+        Ok(source) => refuses(alloc, RUN, &source, b"1*13 0", (12, err)),
+        Err(_) => false,
+    }
+}
+
+// A text of 4,096 bytes, with the numbers of the run that prints it.
+fn longest(alloc: Global) -> Result<Vec<u8>, AllocError> {
+    let numbers = b"\nsteps 14 skipped 0 actors 2 objects 3 waiting 0\n";
+    repeated(alloc, b"", b"x", 4_096, numbers)
 }
 
 #[test]
-fn a_text_of_the_machine_may_have_so_many_bytes(rt: HostRuntime) -> Result<(), Fail> {
+fn a_text_of_the_machine_may_have_so_many_bytes(rt: HostRuntime) {
     let alloc = rt.alloc();
-    let most = with_joined(alloc, 4_095)?;
-    let mut printed = vec![in alloc; b'x'; 4_096]?;
-    printed.extend_from_slice(b"\nsteps 14 skipped 0 actors 2 objects 3 waiting 0\n")?;
-    let wanted = Wanted {
-        status: 0,
-        out: std::str::from_utf8(&printed).unwrap_or(""),
-        err: "",
-    };
-    answers(&rt, alloc, whole(RUN, &most, b"1*13 0"), wanted)?;
-    let more = with_joined(alloc, 4_096)?;
-    let wanted = Wanted {
-        status: 12,
-        out: "",
-        err: "a.sched: text too long at step 8\n",
-    };
-    answers(&rt, alloc, whole(RUN, &more, b"1*13 0"), wanted)?;
-    Ok(())
+    assert!(rt; prints(alloc, with_joined(alloc, 4_095), longest(alloc)));
+    assert!(rt; is_too_long(alloc, with_joined(alloc, 4_096)));
 }

@@ -1,181 +1,188 @@
 //! `check` on sources whose names are at fault, or that pass a limit.
 
-use crate::cases::ends;
+use crate::rows::{Ending, all_end, all_end_within, ends, made_ends};
+use crate::texts::{add_numbered, add_repeated, repeated};
 use std::alloc::{AllocError, Global};
-use std::test::Fail;
 
-const MAIN: &str = "actor Main\n  new create(env: Env) => None\n";
+const MAIN: &[u8] = b"actor Main\n  new create(env: Env) => None\n";
 
-#[test]
-fn faults_of_declarations_are_named(rt: HostRuntime) -> Result<(), Fail> {
-    let alloc = rt.alloc();
-    let rows = [
-        ("class C\n", "a.pony: no Main\n"),
-        ("class C\nclass C\n", "a.pony:2:7: name twice\n"),
-        ("class String\n", "a.pony:1:7: name twice\n"),
-        (
-            "actor Main\n  new create() => None\n",
-            "a.pony:1:7: Main is of another form\n",
-        ),
-        ("trait Main\n", "a.pony:1:7: Main is of another form\n"),
-        (
-            "class C\n  let f: U64\n  let f: U64\n",
-            "a.pony:3:7: name twice\n",
-        ),
-        (
-            "class C\n  fun f(a: U64, a: U64) => None\n",
-            "a.pony:2:17: name twice\n",
-        ),
-        ("class C is D\nclass D\n", "a.pony:1:12: name unknown\n"),
-        (
-            "class C\n  fun f(): Zed => None\n",
-            "a.pony:2:12: name unknown\n",
-        ),
-        (
-            "class C\n  var create: U64 = 1\n",
-            "a.pony:1:7: name twice\n",
-        ),
-        (
-            "class C\n  fun f() => let x: Zed = 1\n",
-            "a.pony: no Main\n",
-        ),
-    ];
-    for (source, err) in rows {
-        ends(&rt, alloc, source.as_bytes(), 4, err)?;
-    }
-    let greeting = "\nactor Main\n  new create(env: Env) =>\n    env.out.print(\"hi\")\n";
-    let cycle = format!(in alloc; "trait A is B\ntrait B is A{greeting}")?;
-    ends(
-        &rt,
-        alloc,
-        cycle.as_bytes(),
+const DECLARATIONS: &[Ending<'_>] = &[
+    (b"class C\n", 4, b"a.pony: no Main\n"),
+    (b"class C\nclass C\n", 4, b"a.pony:2:7: name twice\n"),
+    (b"class String\n", 4, b"a.pony:1:7: name twice\n"),
+    (
+        b"actor Main\n  new create() => None\n",
         4,
-        "a.pony:1:7: trait in a cycle\n",
-    )?;
-    Ok(())
-}
+        b"a.pony:1:7: Main is of another form\n",
+    ),
+    (b"trait Main\n", 4, b"a.pony:1:7: Main is of another form\n"),
+    (
+        b"class C\n  let f: U64\n  let f: U64\n",
+        4,
+        b"a.pony:3:7: name twice\n",
+    ),
+    (
+        b"class C\n  fun f(a: U64, a: U64) => None\n",
+        4,
+        b"a.pony:2:17: name twice\n",
+    ),
+    (
+        b"class C is D\nclass D\n",
+        4,
+        b"a.pony:1:12: name unknown\n",
+    ),
+    (
+        b"class C\n  fun f(): Zed => None\n",
+        4,
+        b"a.pony:2:12: name unknown\n",
+    ),
+    (
+        b"class C\n  var create: U64 = 1\n",
+        4,
+        b"a.pony:1:7: name twice\n",
+    ),
+    (
+        b"class C\n  fun f() => let x: Zed = 1\n",
+        4,
+        b"a.pony: no Main\n",
+    ),
+    (
+        b"trait A is B\ntrait B is A\nactor Main\n  new create(env: Env) =>\n    env.out.print(\"hi\")\n",
+        4,
+        b"a.pony:1:7: trait in a cycle\n",
+    ),
+];
 
 #[test]
-fn faults_of_bodies_are_named(rt: HostRuntime) -> Result<(), Fail> {
-    let alloc = rt.alloc();
-    let rows = [
-        ("f() => yy", "a.pony:2:14: name unknown\n"),
-        ("f() => consume yy", "a.pony:2:22: name unknown\n"),
-        ("f() => let x: Zed = 1", "a.pony:2:21: name unknown\n"),
-        ("f() => Zed", "a.pony:2:14: name unknown\n"),
-        ("f() => U64", "a.pony:2:14: name unknown\n"),
-        ("f() => C.zz(yy)", "a.pony:2:16: name unknown\n"),
-        ("f() => C.create", "a.pony:2:16: name unknown\n"),
-        ("f() => C.create\n    (1)", "a.pony:2:16: name unknown\n"),
-        ("f() => f", "a.pony:2:14: name unknown\n"),
-        ("f() => D", "a.pony:2:14: name unknown\n"),
-        ("f(a: U64) => let a: U64 = 1", "a.pony:2:24: name twice\n"),
-        (
-            "g() => let f: U64 = 1; f = yy",
-            "a.pony:2:34: name unknown\n",
-        ),
-        ("f() => yy = zz", "a.pony:2:14: name unknown\n"),
-        (
-            "f() => if true then let a: U64 = 1 end; a",
-            "a.pony:2:47: name unknown\n",
-        ),
-        ("f() => let a: U64 = a", "a.pony:2:27: name unknown\n"),
-    ];
-    for (method, err) in rows {
-        let source = format!(in alloc;
-            "class C\n  fun {method}\nclass D\n  new make() => None\n{MAIN}"
-        )?;
-        ends(&rt, alloc, source.as_bytes(), 4, err)?;
-    }
-    let initial = "class C\n  var f: U64 = yy\n  fun g() => zz\n  new create() => None\n";
-    let field = "class C\n  var f: U64\n  new create() =>\n    let f: U64 = 1\n";
-    let hidden = "class C\n  var f: U64 = a\n  new create(a: U64) => None\n";
-    let traits = "trait T\nclass C\n  fun f() => T\n";
-    let text = "actor Main\n  new create(env: Env) =>\n    env.out.print(text)\n";
-    let rows = [
-        (initial, MAIN, "a.pony:3:14: name unknown\n"),
-        (field, MAIN, "a.pony:4:9: name twice\n"),
-        (hidden, MAIN, "a.pony:2:16: name unknown\n"),
-        (traits, MAIN, "a.pony:3:14: name unknown\n"),
-        (text, "", "a.pony:3:19: name unknown\n"),
-    ];
-    for (before, behind, err) in rows {
-        let source = format!(in alloc; "{before}{behind}")?;
-        ends(&rt, alloc, source.as_bytes(), 4, err)?;
-    }
-    Ok(())
+fn faults_of_declarations_are_named(rt: HostRuntime) {
+    all_end(&rt, rt.alloc(), DECLARATIONS);
 }
 
-// So many times the same text, one after the other.
-fn repeated(alloc: Global, text: &str, times: usize) -> Result<Vec<u8>, AllocError> {
-    let mut all = Vec::new(alloc);
-    for _ in 0..times {
-        all.extend_from_slice(text.as_bytes())?;
-    }
-    Ok(all)
+const FUN: &[u8] = b"class C\n  fun ";
+
+const BEHIND: &[u8] =
+    b"\nclass D\n  new make() => None\nactor Main\n  new create(env: Env) => None\n";
+
+const BODIES: &[Ending<'_>] = &[
+    (b"f() => yy", 4, b"a.pony:2:14: name unknown\n"),
+    (b"f() => consume yy", 4, b"a.pony:2:22: name unknown\n"),
+    (b"f() => let x: Zed = 1", 4, b"a.pony:2:21: name unknown\n"),
+    (b"f() => Zed", 4, b"a.pony:2:14: name unknown\n"),
+    (b"f() => U64", 4, b"a.pony:2:14: name unknown\n"),
+    (b"f() => C.zz(yy)", 4, b"a.pony:2:16: name unknown\n"),
+    (b"f() => C.create", 4, b"a.pony:2:16: name unknown\n"),
+    (
+        b"f() => C.create\n    (1)",
+        4,
+        b"a.pony:2:16: name unknown\n",
+    ),
+    (b"f() => f", 4, b"a.pony:2:14: name unknown\n"),
+    (b"f() => D", 4, b"a.pony:2:14: name unknown\n"),
+    (
+        b"f(a: U64) => let a: U64 = 1",
+        4,
+        b"a.pony:2:24: name twice\n",
+    ),
+    (
+        b"g() => let f: U64 = 1; f = yy",
+        4,
+        b"a.pony:2:34: name unknown\n",
+    ),
+    (b"f() => yy = zz", 4, b"a.pony:2:14: name unknown\n"),
+    (
+        b"f() => if true then let a: U64 = 1 end; a",
+        4,
+        b"a.pony:2:47: name unknown\n",
+    ),
+    (b"f() => let a: U64 = a", 4, b"a.pony:2:27: name unknown\n"),
+];
+
+const OTHERS: &[Ending<'_>] = &[
+    (
+        b"class C\n  var f: U64 = yy\n  fun g() => zz\n  new create() => None\n",
+        4,
+        b"a.pony:3:14: name unknown\n",
+    ),
+    (
+        b"class C\n  var f: U64\n  new create() =>\n    let f: U64 = 1\n",
+        4,
+        b"a.pony:4:9: name twice\n",
+    ),
+    (
+        b"class C\n  var f: U64 = a\n  new create(a: U64) => None\n",
+        4,
+        b"a.pony:2:16: name unknown\n",
+    ),
+    (
+        b"trait T\nclass C\n  fun f() => T\n",
+        4,
+        b"a.pony:3:14: name unknown\n",
+    ),
+];
+
+const TEXT: &[u8] = b"actor Main\n  new create(env: Env) =>\n    env.out.print(text)\n";
+
+#[test]
+fn faults_of_bodies_are_named(rt: HostRuntime) {
+    let alloc = rt.alloc();
+    all_end_within(&rt, alloc, (FUN, BEHIND), BODIES);
+    all_end_within(&rt, alloc, (b"", MAIN), OTHERS);
+    assert!(rt; ends(alloc, TEXT, 4, b"a.pony:3:19: name unknown\n"));
+}
+
+fn add_locals(alloc: Global, source: &mut Vec<u8>, count: usize) -> Result<(), AllocError> {
+    source.extend_from_slice(b"class C\nactor Main\n  new create(env: Env) =>\n")?;
+    add_numbered(alloc, source, b"    let a", count, b": C tag = C\n")
 }
 
 // A Main whose body defines so many locals, each on a line of its own.
 fn with_locals(alloc: Global, count: usize) -> Result<Vec<u8>, AllocError> {
-    let mut source = b"class C\nactor Main\n  new create(env: Env) =>\n".to_vec(alloc)?;
-    for number in 0..count {
-        let line = format!(in alloc; "    let a{number}: C tag = C\n")?;
-        source.extend_from_slice(line.as_bytes())?;
-    }
+    let mut source: Vec<u8> = Vec::new(alloc);
+    add_locals(alloc, &mut source, count)?;
     Ok(source)
 }
 
 #[test]
-fn a_method_may_have_so_many_slots(rt: HostRuntime) -> Result<(), Fail> {
+fn a_method_may_have_so_many_slots(rt: HostRuntime) {
     let alloc = rt.alloc();
-    let most = with_locals(alloc, 62)?;
-    ends(&rt, alloc, &most, 0, "")?;
-    let more = with_locals(alloc, 63)?;
-    ends(&rt, alloc, &more, 8, "a.pony:66:9: too many slots\n")?;
-    Ok(())
+    assert!(rt; made_ends(alloc, with_locals(alloc, 62), 0, b""));
+    let more = b"a.pony:66:9: too many slots\n";
+    assert!(rt; made_ends(alloc, with_locals(alloc, 63), 8, more));
 }
 
-// A class with a field whose initial value is a sum of so many ones, with so many constructors, and a Main.
-fn with_initial(alloc: Global, terms: usize, constructors: usize) -> Result<Vec<u8>, AllocError> {
-    let mut source = b"class C\n  var f: U64 = 1".to_vec(alloc)?;
-    let sum = repeated(alloc, " + 1", terms.saturating_sub(1))?;
-    source.extend_from_slice(&sum)?;
-    source.extend_from_slice(b"\n")?;
-    for number in 0..constructors {
-        let line = format!(in alloc; "  new c{number}() => None\n")?;
-        source.extend_from_slice(line.as_bytes())?;
-    }
-    source.extend_from_slice(MAIN.as_bytes())?;
+fn add_initial(alloc: Global, source: &mut Vec<u8>, constructors: usize) -> Result<(), AllocError> {
+    add_repeated(source, b"class C\n  var f: U64 = 1", b" + 1", 997, b"\n")?;
+    add_numbered(alloc, source, b"  new c", constructors, b"() => None\n")?;
+    source.extend_from_slice(MAIN)
+}
+
+// A class with a field whose initial value is a sum of 998 ones, with so many constructors, and a Main.
+fn with_initial(alloc: Global, constructors: usize) -> Result<Vec<u8>, AllocError> {
+    let mut source: Vec<u8> = Vec::new(alloc);
+    add_initial(alloc, &mut source, constructors)?;
     Ok(source)
 }
 
 #[test]
-fn a_program_may_have_so_many_nodes(rt: HostRuntime) -> Result<(), Fail> {
+fn a_program_may_have_so_many_nodes(rt: HostRuntime) {
     let alloc = rt.alloc();
     // Each constructor has the 1,995 nodes of the sum, a write of the field with its `this`, None, a sequence and a body:
     // 2,000. Main has three.
-    let most = with_initial(alloc, 998, 99)?;
-    ends(&rt, alloc, &most, 0, "")?;
-    let more = with_initial(alloc, 998, 100)?;
-    ends(&rt, alloc, &more, 8, "a.pony:104:7: too many nodes\n")?;
-    Ok(())
+    assert!(rt; made_ends(alloc, with_initial(alloc, 99), 0, b""));
+    let more = b"a.pony:104:7: too many nodes\n";
+    assert!(rt; made_ends(alloc, with_initial(alloc, 100), 8, more));
 }
 
 // A Main that has a text of so many bytes as its body.
 fn with_text(alloc: Global, size: usize) -> Result<Vec<u8>, AllocError> {
-    let mut source = b"actor Main\n  new create(env: Env) => \"".to_vec(alloc)?;
-    let text = vec![in alloc; b'x'; size]?;
-    source.extend_from_slice(&text)?;
-    source.extend_from_slice(b"\"\n")?;
-    Ok(source)
+    let before = b"actor Main\n  new create(env: Env) => \"";
+    repeated(alloc, before, b"x", size, b"\"\n")
 }
 
 #[test]
-fn a_text_may_have_so_many_bytes(rt: HostRuntime) -> Result<(), Fail> {
+fn a_text_may_have_so_many_bytes(rt: HostRuntime) {
     let alloc = rt.alloc();
-    let most = with_text(alloc, 4_096)?;
-    ends(&rt, alloc, &most, 0, "")?;
-    let more = with_text(alloc, 4_097)?;
-    ends(&rt, alloc, &more, 8, "a.pony:2:27: text too long\n")?;
-    Ok(())
+    assert!(rt; made_ends(alloc, with_text(alloc, 4_096), 0, b""));
+    let more = b"a.pony:2:27: text too long\n";
+    assert!(rt; made_ends(alloc, with_text(alloc, 4_097), 8, more));
 }

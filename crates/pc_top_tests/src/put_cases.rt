@@ -1,13 +1,14 @@
 //! How each command writes: what is one call of `put`, and what becomes of a command when one of its calls fails.
 
 use crate::counted_sink::CountedSink;
-use crate::programs::{DOUBLES, GREETING, SHARED};
+use crate::programs::{DOUBLES, FIRST, GREETING, SECOND, SHARED, SOURCE};
+use crate::running::{Failing, NOTHING, stored};
+use crate::texts::joined;
 use pc_io::MemFiles;
 use pc_referee::Rules;
 use pc_top::rcap;
 use std::alloc::{AllocError, Global};
 use std::process::Abort;
-use std::test::Fail;
 
 /// A command on the source `a.pony` and on what stands in `other`, and what it writes: its pieces on out, each by one call
 /// of `put`, and its line on err, which is empty where there is none.
@@ -15,10 +16,10 @@ use std::test::Fail;
 struct Writing<'a> {
     words: &'a [&'a str],
     source: &'a [u8],
-    other: &'a str,
+    other: &'a [u8],
     status: u8,
-    pieces: &'a [&'a str],
-    line: &'a str,
+    pieces: &'a [&'a [u8]],
+    line: &'a [u8],
 }
 
 /// What a command did: its status, what stands on out and err, and how often each was called.
@@ -29,6 +30,9 @@ struct Written {
     err: CountedSink,
 }
 
+/// What stands on a sink, and how often it was called.
+type Called<'a> = (&'a [u8], u32);
+
 const CHECK: &[&str] = &["check", "a.pony"];
 
 const JUDGE: &[&str] = &["judge", "a.pony", "other"];
@@ -37,197 +41,276 @@ const SHOW: &[&str] = &["show", "a.pony"];
 
 const RUN: &[&str] = &["run", "a.pony", "other"];
 
-const LOCAL: &[u8] = b"class C\nactor Main\n  new create(env: Env) =>\n    let a: C iso = C\n";
+const PRINTED: &[u8] = b"class C\n\nactor Main\n  new create(env: Env) =>\n    let a: C iso = C\n";
 
-const DERIVATION: &str = "rcap-derivation 1 4 7\ns 6 ref\ns 7 ref\ns 4 val\ns 6 iso\n\
-n prim 0 val 1 0 1 0\nn seq 0 val 1 0 1 0\nn body - 1 0 1 0\nn new 6 iso^ 3 0 3 0\nn define - 3 0 7 0\n\
-n seq - 3 0 3 0\nn body - 3 0 3 0\n";
-
-const SECOND: &str = "rcap-derivation 2 4 7\ns 6 ref\ns 7 ref\ns 4 val\ns 6 iso\n\
-n prim 0 val 1 0 0 0\nn seq 0 val 1 0 0 0\nn body - 1 0 0 0\nn new 6 iso^ 3 0 0 0\nn define - 3 0 4 0\n\
-n seq - 3 0 0 0\nn body - 3 0 0 0\n";
-
-const PRINTED: &str = "class C\n\nactor Main\n  new create(env: Env) =>\n    let a: C iso = C\n";
-
-const CASES: [Writing<'_>; 12] = [
+const CASES: &[Writing<'_>] = &[
     Writing {
         words: CHECK,
-        source: LOCAL,
-        other: "",
+        source: SOURCE,
+        other: b"",
         status: 0,
-        pieces: &[DERIVATION],
-        line: "",
+        pieces: &[FIRST],
+        line: b"",
     },
     Writing {
         words: JUDGE,
-        source: LOCAL,
-        other: DERIVATION,
+        source: SOURCE,
+        other: FIRST,
         status: 0,
-        pieces: &["accepted\n"],
-        line: "",
+        pieces: &[b"accepted\n"],
+        line: b"",
     },
     Writing {
         words: &["upgrade", "a.pony", "other"],
-        source: LOCAL,
-        other: DERIVATION,
+        source: SOURCE,
+        other: FIRST,
         status: 0,
         pieces: &[SECOND],
-        line: "",
+        line: b"",
     },
     Writing {
         words: SHOW,
-        source: LOCAL,
-        other: "",
+        source: SOURCE,
+        other: b"",
         status: 0,
         pieces: &[PRINTED],
-        line: "",
+        line: b"",
     },
     Writing {
         words: RUN,
         source: GREETING,
-        other: "1*10 0",
+        other: b"1*10 0",
         status: 0,
-        pieces: &["hi\n", "steps 11 skipped 0 actors 2 objects 3 waiting 0\n"],
-        line: "",
+        pieces: &[
+            b"hi\n",
+            b"steps 11 skipped 0 actors 2 objects 3 waiting 0\n",
+        ],
+        line: b"",
     },
     Writing {
         words: RUN,
         source: SHARED,
-        other: "1*43 2*13 3*13 2*9 3*9 2 3 2*6 3*6 0*2",
+        other: b"1*43 2*13 3*13 2*9 3*9 2 3 2*6 3*6 0*2",
         status: 0,
         pieces: &[
-            "5\n",
-            "5\n",
-            "steps 103 skipped 0 actors 4 objects 6 waiting 0\n",
+            b"5\n",
+            b"5\n",
+            b"steps 103 skipped 0 actors 4 objects 6 waiting 0\n",
         ],
-        line: "",
+        line: b"",
     },
     Writing {
         words: RUN,
         source: DOUBLES,
-        other: "1*9 0 1*1000",
+        other: b"1*9 0 1*1000",
         status: 12,
-        pieces: &["go\n"],
-        line: "other: text too long at step 157\n",
+        pieces: &[b"go\n"],
+        line: b"other: text too long at step 157\n",
     },
     Writing {
         words: &["make", "0", "1"],
         source: b"",
-        other: "",
+        other: b"",
         status: 0,
         pieces: &[
-            "seed 0 size 1 nodes 37\n",
-            "468\n",
-            "steps 62 skipped 740 actors 3 objects 5 waiting 0\n",
+            b"seed 0 size 1 nodes 37\n",
+            b"468\n",
+            b"steps 62 skipped 740 actors 3 objects 5 waiting 0\n",
         ],
-        line: "",
+        line: b"",
     },
     Writing {
         words: &["swap", "a.pony", "other", "10"],
         source: GREETING,
-        other: "1*10 0",
+        other: b"1*10 0",
         status: 0,
-        pieces: &["1*9 0 1\n"],
-        line: "",
+        pieces: &[b"1*9 0 1\n"],
+        line: b"",
     },
     Writing {
         words: CHECK,
         source: b"",
-        other: "",
+        other: b"",
         status: 3,
         pieces: &[],
-        line: "a.pony:1:1: unexpected\n",
+        line: b"a.pony:1:1: unexpected\n",
     },
     Writing {
         words: &["check", "gone.pony"],
         source: b"",
-        other: "",
+        other: b"",
         status: 9,
         pieces: &[],
-        line: "gone.pony: cannot be read\n",
+        line: b"gone.pony: cannot be read\n",
     },
     Writing {
         words: &[],
         source: b"",
-        other: "",
+        other: b"",
         status: 2,
         pieces: &[],
-        line: "usage: rcap COMMAND ARGUMENT ...\n",
+        line: b"usage: rcap COMMAND ARGUMENT ...\n",
     },
 ];
 
-// Runs a command, of which these calls of `put` fail.
-fn write(
+// The status of a command whose writes are counted.
+fn status_of(
     alloc: Global,
-    writing: Writing<'_>,
-    out: &[(u32, u32)],
-    err: &[(u32, u32)],
+    words: &[&str],
+    files: &mut MemFiles,
+    out: &mut CountedSink,
+    err: &mut CountedSink,
+) -> u8 {
+    rcap(alloc, words, files, out, err, &mut Rules)
+}
+
+// Runs a command on these files, of which these calls of `put` fail.
+fn write_on(
+    alloc: Global,
+    words: &[&str],
+    files: &mut MemFiles,
+    failing: Failing,
 ) -> Result<Written, AllocError> {
-    let mut files = MemFiles::new(alloc, &[])?;
-    files.add("a.pony", writing.source)?;
-    files.add("other", writing.other.as_bytes())?;
-    let mut out = CountedSink::new(alloc, out)?;
-    let mut err = CountedSink::new(alloc, err)?;
-    let status = rcap(
-        alloc,
-        writing.words,
-        &mut files,
-        &mut out,
-        &mut err,
-        &mut Rules,
-    );
+    let mut out = CountedSink::new(alloc, &[failing.out])?;
+    let mut err = CountedSink::new(alloc, &[failing.err])?;
+    let status = status_of(alloc, words, files, &mut out, &mut err);
     Ok(Written { status, out, err })
 }
 
-// Compares what a command did with a status, texts and counts of calls.
-fn compare(rt: &impl Abort, written: &Written, status: u8, out: (&[u8], u32), err: (&[u8], u32)) {
-    assert_eq!(rt; written.status, status);
-    assert_eq!(rt; written.out.bytes(), out.0);
-    assert_eq!(rt; written.out.calls(), out.1);
-    assert_eq!(rt; written.err.bytes(), err.0);
-    assert_eq!(rt; written.err.calls(), err.1);
+// Runs a command, of which these calls of `put` fail.
+fn write(alloc: Global, writing: &Writing<'_>, failing: Failing) -> Result<Written, AllocError> {
+    let source = ("a.pony", writing.source);
+    let mut files = stored(alloc, source, ("other", writing.other), 0)?;
+    write_on(alloc, writing.words, &mut files, failing)
 }
 
-// Each piece in turn is not taken but for its first byte: the pieces before it stand on out, nothing more is written there,
-// and nothing is written to err. Answers what stands on out where no piece fails, and how many pieces there are.
-fn fail_each_piece(
-    rt: &impl Abort,
+// Whether a sink has this text, and was called so often.
+fn is_called(sink: &CountedSink, called: Called<'_>) -> bool {
+    sink.bytes() == called.0 && sink.calls() == called.1
+}
+
+// Whether a command did this: its status, and what it left on out and err.
+fn did(written: &Written, status: u8, out: Called<'_>, err: Called<'_>) -> bool {
+    written.status == status && is_called(&written.out, out) && is_called(&written.err, err)
+}
+
+// Whether a command was run, and has this status and leaves this on out and err.
+fn left(
+    written: Result<Written, AllocError>,
+    status: u8,
+    out: Called<'_>,
+    err: Called<'_>,
+) -> bool {
+    match written {
+        Ok(written) => did(&written, status, out, err),
+        Err(_) => false,
+    }
+}
+
+// The number of the call at a place.
+fn number_at(at: usize) -> u32 {
+    u32::try_from(at).unwrap_or(u32::MAX).saturating_add(1)
+}
+
+// The first byte of the piece at a place.
+fn first_byte<'a>(pieces: &[&'a [u8]], at: usize) -> &'a [u8] {
+    let piece = pieces.get(at).copied().unwrap_or(b"");
+    piece.get(..1).unwrap_or(b"")
+}
+
+// The pieces before a place, and the first byte of the one there.
+fn cut_at(alloc: Global, pieces: &[&[u8]], at: usize) -> Result<Vec<u8>, AllocError> {
+    let mut text = joined(alloc, pieces.get(..at).unwrap_or(&[]))?;
+    text.extend_from_slice(first_byte(pieces, at))?;
+    Ok(text)
+}
+
+// Whether, where one call of `put` on out is not taken but for a byte, this text stands on out, nothing more is written there,
+// and nothing is written to err.
+fn is_cut(
     alloc: Global,
-    writing: Writing<'_>,
-) -> Result<(Vec<u8>, u32), AllocError> {
-    let mut before = Vec::new(alloc);
-    let mut call = 0u32;
-    for piece in writing.pieces {
-        call = call.saturating_add(1);
-        let written = write(alloc, writing, &[(call, 1)], &[])?;
-        let mut text = before.as_slice().to_vec(alloc)?;
-        text.extend_from_slice(piece.as_bytes().get(..1).unwrap_or(b""))?;
-        compare(rt, &written, 10, (&text, call), (b"", 0));
-        before.extend_from_slice(piece.as_bytes())?;
+    writing: &Writing<'_>,
+    call: u32,
+    text: Result<Vec<u8>, AllocError>,
+) -> bool {
+    let failing = Failing {
+        out: (call, 1),
+        err: (0, 0),
+    };
+    match text {
+        Ok(text) => left(write(alloc, writing, failing), 10, (&text, call), (b"", 0)),
+        Err(_) => false,
     }
-    Ok((before, call))
 }
 
-// Where nothing fails, each piece and the line are one call. Where the line is not taken, the pieces stand on out, and of
-// the line what was taken.
-fn writes(rt: &impl Abort, alloc: Global, writing: Writing<'_>) -> Result<(), AllocError> {
-    let (text, pieces) = fail_each_piece(rt, alloc, writing)?;
-    let line = writing.line.as_bytes();
-    let lines = u32::from(!line.is_empty());
-    let whole = write(alloc, writing, &[], &[])?;
-    compare(rt, &whole, writing.status, (&text, pieces), (line, lines));
-    if lines == 1 {
-        let cut = write(alloc, writing, &[], &[(1, 2)])?;
-        let part = line.get(..2).unwrap_or(b"");
-        compare(rt, &cut, 10, (&text, pieces), (part, 1));
+// Whether this is so of the call with the piece at a place, with the pieces before it.
+fn piece_fails(alloc: Global, writing: &Writing<'_>, at: usize) -> bool {
+    let text = cut_at(alloc, writing.pieces, at);
+    is_cut(alloc, writing, number_at(at), text)
+}
+
+// Whether this is so of each piece in turn.
+fn pieces_fail(alloc: Global, writing: &Writing<'_>) -> bool {
+    for at in 0..writing.pieces.len() {
+        if !piece_fails(alloc, writing, at) {
+            return false;
+        }
     }
-    Ok(())
+    true
+}
+
+// Whether, where nothing fails, these pieces are on out, and the line is one call.
+fn line_stands(alloc: Global, writing: &Writing<'_>, out: Called<'_>) -> bool {
+    let calls = u32::from(!writing.line.is_empty());
+    let written = write(alloc, writing, NOTHING);
+    left(written, writing.status, out, (writing.line, calls))
+}
+
+// Whether, where the line is not taken but for two bytes, these pieces are on out, and the two bytes on err.
+fn line_fails(alloc: Global, writing: &Writing<'_>, out: Called<'_>) -> bool {
+    let failing = Failing {
+        out: (0, 0),
+        err: (1, 2),
+    };
+    let part = writing.line.get(..2).unwrap_or(b"");
+    left(write(alloc, writing, failing), 10, out, (part, 1))
+}
+
+// Whether, where no piece fails, this text is on out by so many calls, and the line, if there is one, is one call.
+fn text_stands(
+    alloc: Global,
+    writing: &Writing<'_>,
+    text: Result<Vec<u8>, AllocError>,
+    calls: u32,
+) -> bool {
+    match text {
+        Ok(text) => {
+            line_stands(alloc, writing, (&text, calls))
+                && (writing.line.is_empty() || line_fails(alloc, writing, (&text, calls)))
+        }
+        Err(_) => false,
+    }
+}
+
+// Whether each piece is one call, and the line.
+fn whole_stands(alloc: Global, writing: &Writing<'_>) -> bool {
+    let calls = u32::try_from(writing.pieces.len()).unwrap_or(u32::MAX);
+    text_stands(alloc, writing, joined(alloc, writing.pieces), calls)
+}
+
+// Whether a command writes so.
+fn writes(alloc: Global, writing: &Writing<'_>) -> bool {
+    pieces_fail(alloc, writing) && whole_stands(alloc, writing)
+}
+
+// Each of these commands writes so.
+fn all_write(rt: &impl Abort, alloc: Global, cases: &[Writing<'_>]) {
+    for at in 0..cases.len() {
+        assert!(rt; writes(alloc, &cases[at]), "row {at}");
+    }
 }
 
 #[test]
-fn each_text_is_one_call(rt: HostRuntime) -> Result<(), Fail> {
-    for writing in CASES {
-        writes(&rt, rt.alloc(), writing)?;
-    }
-    Ok(())
+fn each_text_is_one_call(rt: HostRuntime) {
+    all_write(&rt, rt.alloc(), CASES);
 }

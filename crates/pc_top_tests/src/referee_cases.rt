@@ -1,12 +1,14 @@
 //! What `judge` asks a referee that keeps what it was asked; other commands ask nothing.
 
-use crate::cases::{CHECK, JUDGE, SOURCE};
-use crate::upgrade_cases::UPGRADE;
+use crate::programs::SOURCE;
+use crate::rows::{CHECK, JUDGE, UPGRADE};
+use crate::running::files_of;
+use crate::texts::joined;
 use pc_io::{MemFiles, MemSink};
 use pc_referee::ListReferee;
 use pc_top::rcap;
 use std::alloc::{AllocError, Global};
-use std::test::Fail;
+use std::process::Abort;
 
 const SLOTS: &[u8] = b"rcap-derivation 1 4 7\ns 6 ref\ns 7 ref\ns 4 val\ns 6 iso\n";
 
@@ -14,40 +16,108 @@ const CLASS: &[u8] = b"n prim 0 val 1 0 1 0\nn seq 0 val 1 0 1 0\nn body - 1 0 1
 
 const REST: &[u8] = b"n define - 3 0 7 0\nn seq - 3 0 3 0\nn body - 3 0 3 0\n";
 
-// The status of a command on the source and this derivation, and how many nodes the referee was asked of; none where their
-// numbers do not count up from 0.
-fn asks(alloc: Global, words: &[&str], new: &[u8]) -> Result<(u8, Option<usize>), AllocError> {
-    let mut derivation: Vec<u8> = Vec::new(alloc);
-    derivation.extend_from_slice(SLOTS)?;
-    derivation.extend_from_slice(CLASS)?;
-    derivation.extend_from_slice(new)?;
-    derivation.extend_from_slice(REST)?;
-    let mut files = MemFiles::new(alloc, &[])?;
-    files.add("a.pony", SOURCE.as_bytes())?;
-    files.add("a.der", &derivation)?;
+const RIGHT: &[u8] = b"n new 6 iso^ 3 0 3 0\n";
+
+const WRONG: &[u8] = b"n new 6 ref 3 0 3 0\n";
+
+/// The words of a command on `SOURCE` and its derivation, a line of the derivation, the status, and how many nodes the
+/// referee is asked of.
+type Asking = (&'static [&'static str], &'static [u8], u8, usize);
+
+const ASKED: &[Asking] = &[
+    (JUDGE, RIGHT, 0, 7),
+    (JUDGE, WRONG, 6, 3),
+    (CHECK, RIGHT, 0, 0),
+    (UPGRADE, RIGHT, 0, 0),
+    (UPGRADE, WRONG, 6, 0),
+];
+
+// The status of a command that asks a referee.
+fn status_of(
+    alloc: Global,
+    words: &[&str],
+    files: &mut MemFiles,
+    out: &mut MemSink,
+    err: &mut MemSink,
+    referee: &mut ListReferee,
+) -> u8 {
+    rcap(alloc, words, files, out, err, referee)
+}
+
+// The status of a command, whatever it writes.
+fn ask(
+    alloc: Global,
+    words: &[&str],
+    files: &mut MemFiles,
+    referee: &mut ListReferee,
+) -> Result<u8, AllocError> {
     let mut out = MemSink::new(alloc, &[])?;
     let mut err = MemSink::new(alloc, &[])?;
-    let mut referee = ListReferee::new(alloc);
-    let status = rcap(alloc, words, &mut files, &mut out, &mut err, &mut referee);
-    let mut at = 0;
-    for (number, _) in referee.asked().as_slice() {
-        if *number as usize != at {
-            return Ok((status, None));
+    Ok(status_of(alloc, words, files, &mut out, &mut err, referee))
+}
+
+// Whether so many nodes were asked of, whose numbers count up from 0.
+fn was_asked(referee: &ListReferee, count: usize) -> bool {
+    let asked = referee.asked().as_slice();
+    for at in 0..asked.len() {
+        if asked[at].0 as usize != at {
+            return false;
         }
-        at += 1;
     }
-    Ok((status, Some(at)))
+    asked.len() == count
+}
+
+// Whether a command on these files has this status, and the referee was asked of so many nodes.
+fn asks_on(alloc: Global, words: &[&str], files: &mut MemFiles, status: u8, count: usize) -> bool {
+    let mut referee = ListReferee::new(alloc);
+    let answer = ask(alloc, words, files, &mut referee);
+    answer == Ok(status) && was_asked(&referee, count)
+}
+
+// The same, where these are the files.
+fn asks_with(
+    alloc: Global,
+    words: &[&str],
+    files: Result<MemFiles, AllocError>,
+    status: u8,
+    count: usize,
+) -> bool {
+    match files {
+        Ok(mut files) => asks_on(alloc, words, &mut files, status, count),
+        Err(_) => false,
+    }
+}
+
+// The same, where this is the derivation.
+fn asks_of(
+    alloc: Global,
+    words: &[&str],
+    derivation: Result<Vec<u8>, AllocError>,
+    status: u8,
+    count: usize,
+) -> bool {
+    match derivation {
+        Ok(derivation) => {
+            let files = files_of(alloc, SOURCE, &derivation, 0);
+            asks_with(alloc, words, files, status, count)
+        }
+        Err(_) => false,
+    }
+}
+
+// Each of these commands asks so.
+fn all_ask(rt: &impl Abort, alloc: Global, rows: &[Asking]) {
+    for at in 0..rows.len() {
+        let (words, line, status, count) = rows[at];
+        let derivation = joined(alloc, &[SLOTS, CLASS, line, REST]);
+        assert!(rt;
+            asks_of(alloc, words, derivation, status, count),
+            "row {at}"
+        );
+    }
 }
 
 #[test]
-fn each_node_is_asked_up_to_the_first_that_is_wrong(rt: HostRuntime) -> Result<(), Fail> {
-    let alloc = rt.alloc();
-    let right: &[u8] = b"n new 6 iso^ 3 0 3 0\n";
-    let wrong: &[u8] = b"n new 6 ref 3 0 3 0\n";
-    assert!(rt; asks(alloc, JUDGE, right)? == (0, Some(7)));
-    assert!(rt; asks(alloc, JUDGE, wrong)? == (6, Some(3)));
-    assert!(rt; asks(alloc, CHECK, right)? == (0, Some(0)));
-    assert!(rt; asks(alloc, UPGRADE, right)? == (0, Some(0)));
-    assert!(rt; asks(alloc, UPGRADE, wrong)? == (6, Some(0)));
-    Ok(())
+fn each_node_is_asked_up_to_the_first_that_is_wrong(rt: HostRuntime) {
+    all_ask(&rt, rt.alloc(), ASKED);
 }

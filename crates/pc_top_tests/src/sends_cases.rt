@@ -1,8 +1,9 @@
 //! `sends` on whole programs: who sends what, and what is never sent.
 
-use crate::cases::{Given, Wanted, answers, whole};
 use crate::programs::{BANK, GREETING};
-use std::test::Fail;
+use crate::rows::{
+    Failure, NONE, Refused, Spoken, Told, USAGE, all_fail, all_refused, all_told, all_words_end,
+};
 
 const SENDS: &[&str] = &["sends", "a.pony"];
 
@@ -63,99 +64,79 @@ actor Main
     A().beat()
 ";
 
-#[test]
-fn who_sends_what(rt: HostRuntime) -> Result<(), Fail> {
-    let alloc = rt.alloc();
-    let rows: [(&[u8], &str); 7] = [
-        (
-            BANK,
-            "Teller sends OutStream.print\nTeller sends Teller.deposit\nMain sends Teller.create\n\
-             Main sends Teller.deposit\nMain sends Teller.withdraw\nMain sends Teller.report\n",
-        ),
-        (
-            STOPS,
-            "Main sends A.go\nMain sends A.create\nnever A.stop\n",
-        ),
-        (
-            SHAPES,
-            "Main sends A.go\nMain sends A.stop\nMain sends A.create\nMain sends B.stop\n\
-             never B.create\nnever Main.other\n",
-        ),
-        (CLASSES, "C sends OutStream.print\n"),
-        // It is the entity that took the method over that sends; traits send nothing.
-        (
-            TAKEN,
-            "C sends OutStream.print\nD sends OutStream.print\nMain sends A.create\nMain sends A.beat\n\
-             never B.create\nnever B.beat\n",
-        ),
-        (GREETING, "Main sends OutStream.print\n"),
-        // Where nothing is sent, the text is empty.
-        (b"actor Main\n  new create(env: Env) => None\n", ""),
-    ];
-    for (source, out) in rows {
-        let wanted = Wanted {
-            status: 0,
-            out,
-            err: "",
-        };
-        answers(&rt, alloc, whole(SENDS, source, b""), wanted)?;
-    }
-    Ok(())
-}
+const SENT: &[Told<'_>] = &[
+    (
+        BANK,
+        b"",
+        b"Teller sends OutStream.print\nTeller sends Teller.deposit\nMain sends Teller.create\n\
+Main sends Teller.deposit\nMain sends Teller.withdraw\nMain sends Teller.report\n",
+    ),
+    (
+        STOPS,
+        b"",
+        b"Main sends A.go\nMain sends A.create\nnever A.stop\n",
+    ),
+    (
+        SHAPES,
+        b"",
+        b"Main sends A.go\nMain sends A.stop\nMain sends A.create\nMain sends B.stop\n\
+never B.create\nnever Main.other\n",
+    ),
+    (CLASSES, b"", b"C sends OutStream.print\n"),
+    // It is the entity that took the method over that sends; traits send nothing.
+    (
+        TAKEN,
+        b"",
+        b"C sends OutStream.print\nD sends OutStream.print\nMain sends A.create\nMain sends A.beat\n\
+never B.create\nnever B.beat\n",
+    ),
+    (GREETING, b"", b"Main sends OutStream.print\n"),
+    // Where nothing is sent, the text is empty.
+    (b"actor Main\n  new create(env: Env) => None\n", b"", b""),
+];
 
 #[test]
-fn sources_without_a_table_are_refused(rt: HostRuntime) -> Result<(), Fail> {
-    let alloc = rt.alloc();
-    let usage = "usage: rcap COMMAND ARGUMENT ...\n";
-    let rows: [(&[&str], &[u8], u8, &str); 5] = [
-        (&["sends"], b"", 2, usage),
-        (&["sends", "a.pony", "a.sched"], b"", 2, usage),
-        (SENDS, b"", 3, "a.pony:1:1: unexpected\n"),
-        (SENDS, b"class C\n", 4, "a.pony: no Main\n"),
-        (
-            SENDS,
-            b"class C\nactor A\n  be go(c: C ref) => None\nactor Main\n  new create(env: Env) => None\n",
-            1,
-            "a.pony:3:9: parameter not sendable\n",
-        ),
-    ];
-    for (words, source, status, err) in rows {
-        let wanted = Wanted {
-            status,
-            out: "",
-            err,
-        };
-        answers(&rt, alloc, whole(words, source, b""), wanted)?;
-    }
-    Ok(())
+fn who_sends_what(rt: HostRuntime) {
+    all_told(&rt, rt.alloc(), SENDS, SENT);
 }
 
+const UNSENDABLE: &[u8] =
+    b"class C\nactor A\n  be go(c: C ref) => None\nactor Main\n  new create(env: Env) => None\n";
+
+const WORDS: &[Spoken<'_>] = &[
+    (&["sends"], 2, USAGE),
+    (&["sends", "a.pony", "a.sched"], 2, USAGE),
+];
+
+const REFUSED: &[Refused<'_>] = &[
+    (b"", b"", 3, b"a.pony:1:1: unexpected\n"),
+    (b"class C\n", b"", 4, b"a.pony: no Main\n"),
+    (UNSENDABLE, b"", 1, b"a.pony:3:9: parameter not sendable\n"),
+];
+
 #[test]
-fn files_and_sinks_of_tables_may_fail(rt: HostRuntime) -> Result<(), Fail> {
+fn sources_without_a_table_are_refused(rt: HostRuntime) {
     let alloc = rt.alloc();
-    let told = "Main sends A.go\nMain sends A.create\nnever A.stop\n";
-    let rows: [(&[u32], &[(u32, u32)], u8, &str, &str); 4] = [
-        (&[1], &[], 9, "", "a.pony: cannot be read\n"),
-        (&[], &[(1, 0)], 10, "", ""),
-        (&[], &[(1, 10)], 10, "Main sends", ""),
-        // There is no second call on out, of which a failure would be told.
-        (&[], &[(2, 0)], 0, told, ""),
-    ];
-    for (files, out, status, text, line) in rows {
-        let given = Given {
-            words: SENDS,
-            source: STOPS,
-            other: b"",
-            files,
-            out,
-            err: &[],
-        };
-        let wanted = Wanted {
-            status,
-            out: text,
-            err: line,
-        };
-        answers(&rt, alloc, given, wanted)?;
-    }
-    Ok(())
+    all_words_end(&rt, alloc, b"", WORDS);
+    all_refused(&rt, alloc, SENDS, REFUSED);
+}
+
+const FAILURES: &[Failure<'_>] = &[
+    (1, NONE, NONE, 9, b"", b"a.pony: cannot be read\n"),
+    (0, (1, 0), NONE, 10, b"", b""),
+    (0, (1, 10), NONE, 10, b"Main sends", b""),
+    // There is no second call on out, of which a failure would be told.
+    (
+        0,
+        (2, 0),
+        NONE,
+        0,
+        b"Main sends A.go\nMain sends A.create\nnever A.stop\n",
+        b"",
+    ),
+];
+
+#[test]
+fn files_and_sinks_of_tables_may_fail(rt: HostRuntime) {
+    all_fail(&rt, rt.alloc(), SENDS, (STOPS, b""), FAILURES);
 }

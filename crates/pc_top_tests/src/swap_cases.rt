@@ -1,8 +1,9 @@
 //! `swap` on whole programs: which turns of a schedule change places, and which stay.
 
-use crate::cases::{Given, Wanted, answers, whole};
 use crate::programs::{DOUBLES, GREETING, SHARED};
-use std::test::Fail;
+use crate::rows::{Failure, NONE, USAGE, all_fail, refuses, tells};
+use std::alloc::Global;
+use std::process::Abort;
 
 /// Two actors that make an actor each.
 const PARENTS: &[u8] = b"\
@@ -15,122 +16,106 @@ actor Main
     B().make()
 ";
 
-#[test]
-fn turns_are_exchanged_or_stay(rt: HostRuntime) -> Result<(), Fail> {
-    let alloc = rt.alloc();
-    let rows: [(&[u8], &str, &str, &str); 8] = [
-        (GREETING, "1*10 0", "10", "1*9 0 1\n"),
-        (GREETING, "1*10 0", "9", "kept: same actor\n"),
-        (GREETING, "1*8 0 1", "8", "kept: not moved\n"),
-        // Both read one field, and then both send to the stream.
-        (
-            SHARED,
-            "1*43 2*13 3*13 2*9 3*9 2 3",
-            "88",
-            "1*43 2*13 3*13 2*9 3*10 2\n",
-        ),
-        (
-            SHARED,
-            "1*43 2*13 3*13 2*14 3*14 2 3",
-            "98",
-            "kept: one mailbox\n",
-        ),
-        (
-            SHARED,
-            "1*43 2*13 3*13 2*9 3*9 2 3",
-            "43",
-            "1*42 2 1 2*12 3*13 2*9 3*9 2 3\n",
-        ),
-        (PARENTS, "1*13 2*9 3*9 2 3", "32", "kept: both spawn\n"),
-        // The step of the second turn would make too long a text.
-        (DOUBLES, "1*155 0 1", "156", "kept: not moved\n"),
-    ];
-    for (source, schedule, place, out) in rows {
+/// The place of a turn, a source, its schedule, and what stands on out.
+type Swapped<'a> = (&'a str, &'a [u8], &'a [u8], &'a [u8]);
+
+const SWAPPED: &[Swapped<'_>] = &[
+    ("10", GREETING, b"1*10 0", b"1*9 0 1\n"),
+    ("9", GREETING, b"1*10 0", b"kept: same actor\n"),
+    ("8", GREETING, b"1*8 0 1", b"kept: not moved\n"),
+    // Both read one field, and then both send to the stream.
+    (
+        "88",
+        SHARED,
+        b"1*43 2*13 3*13 2*9 3*9 2 3",
+        b"1*43 2*13 3*13 2*9 3*10 2\n",
+    ),
+    (
+        "98",
+        SHARED,
+        b"1*43 2*13 3*13 2*14 3*14 2 3",
+        b"kept: one mailbox\n",
+    ),
+    (
+        "43",
+        SHARED,
+        b"1*43 2*13 3*13 2*9 3*9 2 3",
+        b"1*42 2 1 2*12 3*13 2*9 3*9 2 3\n",
+    ),
+    ("32", PARENTS, b"1*13 2*9 3*9 2 3", b"kept: both spawn\n"),
+    // The step of the second turn would make too long a text.
+    ("156", DOUBLES, b"1*155 0 1", b"kept: not moved\n"),
+];
+
+// This is told of each of these turns.
+fn all_swapped(rt: &impl Abort, alloc: Global, rows: &[Swapped<'_>]) {
+    for at in 0..rows.len() {
+        let (place, source, schedule, out) = rows[at];
         let words = ["swap", "a.pony", "a.sched", place];
-        let wanted = Wanted {
-            status: 0,
-            out,
-            err: "",
-        };
-        answers(
-            &rt,
-            alloc,
-            whole(&words, source, schedule.as_bytes()),
-            wanted,
-        )?;
+        assert!(rt; tells(alloc, &words, source, schedule, out), "row {at}");
     }
-    Ok(())
 }
 
 #[test]
-fn exchanges_are_refused(rt: HostRuntime) -> Result<(), Fail> {
-    let alloc = rt.alloc();
-    let usage = "usage: rcap COMMAND ARGUMENT ...\n";
-    let rows: [(&[u8], &str, &str, u8, &str); 9] = [
-        (GREETING, "1*10 0", "0", 2, usage),
-        (GREETING, "1*10 0", "+1", 2, usage),
-        (GREETING, "1*10 0", "10000000", 2, usage),
-        // The word comes before the source, and the schedule's length before the run.
-        (b"", "x", "one", 2, usage),
-        (b"", "x", "1", 3, "a.pony:1:1: unexpected\n"),
-        (GREETING, "1*8 x", "1", 7, "a.sched:1:5: bad word\n"),
-        (GREETING, "1*8 0 1", "10", 15, "a.sched: no place 10\n"),
-        (
-            DOUBLES,
-            "1*9 0 1*1000",
-            "0001010",
-            15,
-            "a.sched: no place 1010\n",
-        ),
-        (
-            DOUBLES,
-            "1*9 0 1*1000",
-            "200",
-            12,
-            "a.sched: text too long at step 157\n",
-        ),
-    ];
-    for (source, schedule, place, status, err) in rows {
+fn turns_are_exchanged_or_stay(rt: HostRuntime) {
+    all_swapped(&rt, rt.alloc(), SWAPPED);
+}
+
+/// The place of a turn, a source, its schedule, and the status and the line on err.
+type Unswapped<'a> = (&'a str, &'a [u8], &'a [u8], u8, &'a [u8]);
+
+const UNSWAPPED: &[Unswapped<'_>] = &[
+    ("0", GREETING, b"1*10 0", 2, USAGE),
+    ("+1", GREETING, b"1*10 0", 2, USAGE),
+    ("10000000", GREETING, b"1*10 0", 2, USAGE),
+    // The word comes before the source, and the schedule's length before the run.
+    ("one", b"", b"x", 2, USAGE),
+    ("1", b"", b"x", 3, b"a.pony:1:1: unexpected\n"),
+    ("1", GREETING, b"1*8 x", 7, b"a.sched:1:5: bad word\n"),
+    ("10", GREETING, b"1*8 0 1", 15, b"a.sched: no place 10\n"),
+    (
+        "0001010",
+        DOUBLES,
+        b"1*9 0 1*1000",
+        15,
+        b"a.sched: no place 1010\n",
+    ),
+    (
+        "200",
+        DOUBLES,
+        b"1*9 0 1*1000",
+        12,
+        b"a.sched: text too long at step 157\n",
+    ),
+];
+
+// Each of these turns is refused so.
+fn all_unswapped(rt: &impl Abort, alloc: Global, rows: &[Unswapped<'_>]) {
+    for at in 0..rows.len() {
+        let (place, source, schedule, status, err) = rows[at];
         let words = ["swap", "a.pony", "a.sched", place];
-        let wanted = Wanted {
-            status,
-            out: "",
-            err,
-        };
-        answers(
-            &rt,
-            alloc,
-            whole(&words, source, schedule.as_bytes()),
-            wanted,
-        )?;
+        assert!(rt;
+            refuses(alloc, &words, source, schedule, (status, err)),
+            "row {at}"
+        );
     }
-    Ok(())
 }
 
 #[test]
-fn files_and_sinks_of_exchanges_may_fail(rt: HostRuntime) -> Result<(), Fail> {
-    let alloc = rt.alloc();
-    let rows: [(&[u32], &[(u32, u32)], u8, &str, &str); 4] = [
-        (&[], &[(1, 0)], 10, "", ""),
-        (&[], &[(1, 4)], 10, "1*9 ", ""),
-        (&[1], &[], 9, "", "a.pony: cannot be read\n"),
-        (&[2], &[], 9, "", "a.sched: cannot be read\n"),
-    ];
-    for (files, out, status, text, line) in rows {
-        let given = Given {
-            words: &["swap", "a.pony", "a.sched", "10"],
-            source: GREETING,
-            other: b"1*10 0",
-            files,
-            out,
-            err: &[],
-        };
-        let wanted = Wanted {
-            status,
-            out: text,
-            err: line,
-        };
-        answers(&rt, alloc, given, wanted)?;
-    }
-    Ok(())
+fn exchanges_are_refused(rt: HostRuntime) {
+    all_unswapped(&rt, rt.alloc(), UNSWAPPED);
+}
+
+const TENTH: &[&str] = &["swap", "a.pony", "a.sched", "10"];
+
+const FAILURES: &[Failure<'_>] = &[
+    (0, (1, 0), NONE, 10, b"", b""),
+    (0, (1, 4), NONE, 10, b"1*9 ", b""),
+    (1, NONE, NONE, 9, b"", b"a.pony: cannot be read\n"),
+    (2, NONE, NONE, 9, b"", b"a.sched: cannot be read\n"),
+];
+
+#[test]
+fn files_and_sinks_of_exchanges_may_fail(rt: HostRuntime) {
+    all_fail(&rt, rt.alloc(), TENTH, (GREETING, b"1*10 0"), FAILURES);
 }

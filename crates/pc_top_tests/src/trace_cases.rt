@@ -1,8 +1,7 @@
 //! `trace` on whole programs: the accesses of a run, each with its clock.
 
-use crate::cases::{Given, Wanted, answers, whole};
 use crate::programs::{DOUBLES, GREETING};
-use std::test::Fail;
+use crate::rows::{Failure, NONE, Refused, Told, USAGE, all_fail, all_refused, all_told, refuses};
 
 const TRACE: &[&str] = &["trace", "a.pony", "a.sched"];
 
@@ -27,114 +26,75 @@ actor Main
     while true do A end
 ";
 
-#[test]
-fn accesses_are_told_with_their_clocks(rt: HostRuntime) -> Result<(), Fail> {
-    let alloc = rt.alloc();
-    let rows: [(&[u8], &str, &str); 4] = [
-        (
-            GREETING,
-            "1*10 0",
-            "8 1 read 0.1 0 clock 0,8\naccesses 1 ordered\n",
-        ),
-        (GREETING, "", "accesses 0 ordered\n"),
-        // Steps that are skipped have no access, and count in no clock.
-        (
-            GREETING,
-            "7*2 1*10 0",
-            "10 1 read 0.1 0 clock 0,8\naccesses 1 ordered\n",
-        ),
-        (CROWD, "1*505", "accesses 0 ordered\n"),
-    ];
-    for (source, schedule, out) in rows {
-        let wanted = Wanted {
-            status: 0,
-            out,
-            err: "",
-        };
-        answers(
-            &rt,
-            alloc,
-            whole(TRACE, source, schedule.as_bytes()),
-            wanted,
-        )?;
-    }
-    Ok(())
-}
+const TRACED: &[Told<'_>] = &[
+    (
+        GREETING,
+        b"1*10 0",
+        b"8 1 read 0.1 0 clock 0,8\naccesses 1 ordered\n",
+    ),
+    (GREETING, b"", b"accesses 0 ordered\n"),
+    // Steps that are skipped have no access, and count in no clock.
+    (
+        GREETING,
+        b"7*2 1*10 0",
+        b"10 1 read 0.1 0 clock 0,8\naccesses 1 ordered\n",
+    ),
+    (CROWD, b"1*505", b"accesses 0 ordered\n"),
+];
 
 #[test]
-fn traces_are_refused(rt: HostRuntime) -> Result<(), Fail> {
-    let alloc = rt.alloc();
-    let usage = "usage: rcap COMMAND ARGUMENT ...\n";
-    let rows: [(&[&str], &[u8], &str, u8, &str); 7] = [
-        (&["trace", "a.pony"], GREETING, "", 2, usage),
-        (TRACE, b"", "x", 3, "a.pony:1:1: unexpected\n"),
-        (TRACE, b"class C\n", "x", 4, "a.pony: no Main\n"),
-        (
-            TRACE,
-            UNSENDABLE,
-            "1*25 2*8 3*8",
-            1,
-            "a.pony:4:14: parameter not sendable\n",
-        ),
-        (TRACE, GREETING, "1*8 x", 7, "a.sched:1:5: bad word\n"),
-        (
-            TRACE,
-            CROWD,
-            "1*506 1",
-            8,
-            "a.sched: too many actors at step 506\n",
-        ),
-        (
-            TRACE,
-            DOUBLES,
-            "1*9 0 1*1000",
-            12,
-            "a.sched: text too long at step 157\n",
-        ),
-    ];
-    for (words, source, schedule, status, err) in rows {
-        let wanted = Wanted {
-            status,
-            out: "",
-            err,
-        };
-        answers(
-            &rt,
-            alloc,
-            whole(words, source, schedule.as_bytes()),
-            wanted,
-        )?;
-    }
-    Ok(())
+fn accesses_are_told_with_their_clocks(rt: HostRuntime) {
+    all_told(&rt, rt.alloc(), TRACE, TRACED);
 }
 
+const REFUSED: &[Refused<'_>] = &[
+    (b"", b"x", 3, b"a.pony:1:1: unexpected\n"),
+    (b"class C\n", b"x", 4, b"a.pony: no Main\n"),
+    (
+        UNSENDABLE,
+        b"1*25 2*8 3*8",
+        1,
+        b"a.pony:4:14: parameter not sendable\n",
+    ),
+    (GREETING, b"1*8 x", 7, b"a.sched:1:5: bad word\n"),
+    (
+        CROWD,
+        b"1*506 1",
+        8,
+        b"a.sched: too many actors at step 506\n",
+    ),
+    (
+        DOUBLES,
+        b"1*9 0 1*1000",
+        12,
+        b"a.sched: text too long at step 157\n",
+    ),
+];
+
 #[test]
-fn files_and_sinks_of_traces_may_fail(rt: HostRuntime) -> Result<(), Fail> {
+fn traces_are_refused(rt: HostRuntime) {
     let alloc = rt.alloc();
-    let told = "8 1 read 0.1 0 clock 0,8\naccesses 1 ordered\n";
-    let rows: [(&[u32], &[(u32, u32)], u8, &str, &str); 5] = [
-        (&[1], &[], 9, "", "a.pony: cannot be read\n"),
-        (&[2], &[], 9, "", "a.sched: cannot be read\n"),
-        (&[], &[(1, 0)], 10, "", ""),
-        (&[], &[(1, 8)], 10, "8 1 read", ""),
-        // There is no second call on out, of which a failure would be told.
-        (&[], &[(2, 0)], 0, told, ""),
-    ];
-    for (files, out, status, text, line) in rows {
-        let given = Given {
-            words: TRACE,
-            source: GREETING,
-            other: b"1*10 0",
-            files,
-            out,
-            err: &[],
-        };
-        let wanted = Wanted {
-            status,
-            out: text,
-            err: line,
-        };
-        answers(&rt, alloc, given, wanted)?;
-    }
-    Ok(())
+    assert!(rt; refuses(alloc, &["trace", "a.pony"], GREETING, b"", (2, USAGE)));
+    all_refused(&rt, alloc, TRACE, REFUSED);
+}
+
+const FAILURES: &[Failure<'_>] = &[
+    (1, NONE, NONE, 9, b"", b"a.pony: cannot be read\n"),
+    (2, NONE, NONE, 9, b"", b"a.sched: cannot be read\n"),
+    (0, (1, 0), NONE, 10, b"", b""),
+    (0, (1, 8), NONE, 10, b"8 1 read", b""),
+    // There is no second call on out, of which a failure would be told.
+    (
+        0,
+        (2, 0),
+        NONE,
+        0,
+        b"8 1 read 0.1 0 clock 0,8\naccesses 1 ordered\n",
+        b"",
+    ),
+];
+
+#[test]
+fn files_and_sinks_of_traces_may_fail(rt: HostRuntime) {
+    all_fail(&rt, rt.alloc(), TRACE, (GREETING, b"1*10 0"), FAILURES);
 }

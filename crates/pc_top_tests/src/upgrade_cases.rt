@@ -1,38 +1,27 @@
 //! `upgrade`: a derivation written anew in version 2 of its text, and what is refused.
 
-use crate::cases::{Given, JUDGE, SOURCE, Wanted, answers, derive, whole};
-use crate::programs::{BANK, CHAIN, GREETING};
-use pc_io::{MemFiles, MemSink};
-use pc_referee::Rules;
-use pc_top::rcap;
+use crate::programs::{BANK, CHAIN, FIRST, GREETING, SECOND, SOURCE};
+use crate::rows::{
+    CHECK, Failure, JUDGE, NONE, Refused, Spoken, UPGRADE, USAGE, all_fail, all_refused,
+    all_words_end, refuses, refuses_made, tells,
+};
+use crate::running::{Done, is_done, run};
+use crate::texts::spaces;
 use std::alloc::{AllocError, Global};
 use std::process::Abort;
-use std::test::Fail;
 
-pub(crate) const UPGRADE: &[&str] = &["upgrade", "a.pony", "a.der"];
-
-/// The derivation of `SOURCE` in version 1.
-const FIRST: &str = "rcap-derivation 1 4 7\ns 6 ref\ns 7 ref\ns 4 val\ns 6 iso\n\
-n prim 0 val 1 0 1 0\nn seq 0 val 1 0 1 0\nn body - 1 0 1 0\nn new 6 iso^ 3 0 3 0\nn define - 3 0 7 0\n\
-n seq - 3 0 3 0\nn body - 3 0 3 0\n";
-
-/// The same in version 2.
-const SECOND: &str = "rcap-derivation 2 4 7\ns 6 ref\ns 7 ref\ns 4 val\ns 6 iso\n\
-n prim 0 val 1 0 0 0\nn seq 0 val 1 0 0 0\nn body - 1 0 0 0\nn new 6 iso^ 3 0 0 0\nn define - 3 0 4 0\n\
-n seq - 3 0 0 0\nn body - 3 0 0 0\n";
-
-/// The same with a version that there is not.
-const THIRD: &str = "rcap-derivation 3 4 7\ns 6 ref\ns 7 ref\ns 4 val\ns 6 iso\n\
+/// The derivation of `SOURCE` with a version that there is not.
+const THIRD: &[u8] = b"rcap-derivation 3 4 7\ns 6 ref\ns 7 ref\ns 4 val\ns 6 iso\n\
 n prim 0 val 1 0 0 0\nn seq 0 val 1 0 0 0\nn body - 1 0 0 0\nn new 6 iso^ 3 0 0 0\nn define - 3 0 4 0\n\
 n seq - 3 0 0 0\nn body - 3 0 0 0\n";
 
 /// The same in version 2, but for the type of `env`.
-const WRONG_SLOT: &str = "rcap-derivation 2 4 7\ns 6 ref\ns 7 ref\ns 4 box\ns 6 iso\n\
+const WRONG_SLOT: &[u8] = b"rcap-derivation 2 4 7\ns 6 ref\ns 7 ref\ns 4 box\ns 6 iso\n\
 n prim 0 val 1 0 0 0\nn seq 0 val 1 0 0 0\nn body - 1 0 0 0\nn new 6 iso^ 3 0 0 0\nn define - 3 0 4 0\n\
 n seq - 3 0 0 0\nn body - 3 0 0 0\n";
 
 /// The masks of version 1 behind the first line of version 2.
-const WRONG_NODE: &str = "rcap-derivation 2 4 7\ns 6 ref\ns 7 ref\ns 4 val\ns 6 iso\n\
+const WRONG_NODE: &[u8] = b"rcap-derivation 2 4 7\ns 6 ref\ns 7 ref\ns 4 val\ns 6 iso\n\
 n prim 0 val 1 0 1 0\nn seq 0 val 1 0 1 0\nn body - 1 0 1 0\nn new 6 iso^ 3 0 3 0\nn define - 3 0 7 0\n\
 n seq - 3 0 3 0\nn body - 3 0 3 0\n";
 
@@ -53,267 +42,220 @@ actor Main is Names
 const UNSET: &[u8] =
     b"class C\n  let f: U64\n  new create() => None\nactor Main\n  new create(env: Env) => None\n";
 
-const UNSET_FIRST: &str = "rcap-derivation 1 3 6\ns 6 ref\ns 7 ref\ns 4 val\n\
+const UNSET_FIRST: &[u8] = b"rcap-derivation 1 3 6\ns 6 ref\ns 7 ref\ns 4 val\n\
 n prim 0 val 1 0 1 0\nn seq 0 val 1 0 1 0\nn body - 1 0 1 0\nn prim 0 val 3 0 3 0\nn seq 0 val 3 0 3 0\nn body - 3 0 3 0\n";
 
 const UNSENDABLE: &[u8] =
     b"class C\nactor A\n  be take(c: C ref) => None\nactor Main\n  new create(env: Env) => None\n";
 
-/// What `upgrade` writes for an accepted source and this derivation of it.
-fn upgraded(
-    rt: &impl Abort,
+#[test]
+fn derivations_are_written_in_version_2(rt: HostRuntime) {
+    let alloc = rt.alloc();
+    assert!(rt; tells(alloc, UPGRADE, SOURCE, FIRST, SECOND));
+    assert!(rt; tells(alloc, UPGRADE, SOURCE, SECOND, SECOND));
+    assert!(rt; tells(alloc, JUDGE, SOURCE, SECOND, b"accepted\n"));
+}
+
+// Whether a derivation of a source is in version 2, is accepted, and is written anew as itself.
+fn stays(alloc: Global, source: &[u8], second: &[u8]) -> bool {
+    second.starts_with(b"rcap-derivation 2 ")
+        && tells(alloc, JUDGE, source, second, b"accepted\n")
+        && tells(alloc, UPGRADE, source, second, second)
+}
+
+// Whether a derivation of a source was upgraded, and what was written stays.
+fn is_upgraded(alloc: Global, source: &[u8], upgraded: Result<Done, AllocError>) -> bool {
+    match upgraded {
+        Ok(done) => is_done(&done) && stays(alloc, source, done.out.bytes()),
+        Err(_) => false,
+    }
+}
+
+// Whether a source was checked, its derivation is upgraded, and what is written then stays.
+fn is_derived(alloc: Global, source: &[u8], checked: Result<Done, AllocError>) -> bool {
+    match checked {
+        Ok(done) => {
+            let upgraded = run(alloc, UPGRADE, source, done.out.bytes());
+            is_done(&done) && is_upgraded(alloc, source, upgraded)
+        }
+        Err(_) => false,
+    }
+}
+
+// Whether the derivation of a source is upgraded, and what is written then stays.
+fn is_derived_and_upgraded(alloc: Global, source: &[u8]) -> bool {
+    is_derived(alloc, source, run(alloc, CHECK, source, b""))
+}
+
+#[test]
+fn what_is_written_is_accepted_and_stays(rt: HostRuntime) {
+    assert!(rt; is_derived_and_upgraded(rt.alloc(), GREETING));
+    assert!(rt; is_derived_and_upgraded(rt.alloc(), CHAIN));
+    assert!(rt; is_derived_and_upgraded(rt.alloc(), BANK));
+    assert!(rt; is_derived_and_upgraded(rt.alloc(), TAKEN));
+}
+
+// Whether `judge` and `upgrade` refuse this source with this derivation alike, and write nothing.
+fn both_refuse(alloc: Global, source: &[u8], derivation: &[u8], refusal: (u8, &[u8])) -> bool {
+    refuses(alloc, JUDGE, source, derivation, refusal)
+        && refuses(alloc, UPGRADE, source, derivation, refusal)
+}
+
+// `judge` and `upgrade` are refused so for each of these texts.
+fn all_refused_by_both(rt: &impl Abort, alloc: Global, rows: &[Refused<'_>]) {
+    all_refused(rt, alloc, JUDGE, rows);
+    all_refused(rt, alloc, UPGRADE, rows);
+}
+
+const SOURCES: &[Refused<'_>] = &[
+    (b"class C $", b"", 3, b"a.pony:1:9: bad byte\n"),
+    (b"class", b"", 3, b"a.pony:1:6: unexpected\n"),
+    (b"class C\n", b"", 4, b"a.pony: no Main\n"),
+    (
+        b"actor Main\n  new create(env: Env) => a\n",
+        b"",
+        4,
+        b"a.pony:2:27: name unknown\n",
+    ),
+    (
+        b"trait T\n  fun f() => a\nclass C is T\nactor Main\n  new create(env: Env) => None\n",
+        b"",
+        4,
+        b"a.pony:2:14: name unknown\n",
+    ),
+    // A declaration is looked at with the annotation.
+    (UNSENDABLE, b"", 5, b"a.der:1: bad line\n"),
+];
+
+#[test]
+fn sources_are_refused_before_derivations(rt: HostRuntime) {
+    all_refused_by_both(&rt, rt.alloc(), SOURCES);
+}
+
+const TEXTS: &[Refused<'_>] = &[
+    (SOURCE, b"", 5, b"a.der:1: bad line\n"),
+    (SOURCE, THIRD, 5, b"a.der:1: bad line\n"),
+    (
+        SOURCE,
+        b"rcap-derivation 02 4 7\n",
+        5,
+        b"a.der:1: bad line\n",
+    ),
+    (
+        SOURCE,
+        b"rcap-derivation 3 640001 0\n",
+        5,
+        b"a.der:1: bad line\n",
+    ),
+    (
+        SOURCE,
+        b"rcap-derivation 2 2 0\ns 6 ref\n",
+        5,
+        b"a.der:3: bad line\n",
+    ),
+    (
+        SOURCE,
+        b"rcap-derivation 2 640001 0\n",
+        8,
+        b"a.der: too many lines\n",
+    ),
+    (
+        SOURCE,
+        b"rcap-derivation 1 0 200001\n",
+        8,
+        b"a.der: too many lines\n",
+    ),
+];
+
+#[test]
+fn texts_of_derivations_are_refused(rt: HostRuntime) {
+    all_refused_by_both(&rt, rt.alloc(), TEXTS);
+}
+
+const NOT_VALID: &[Refused<'_>] = &[
+    (SOURCE, b"rcap-derivation 2 0 0\n", 6, b"a.der: shape\n"),
+    (SOURCE, WRONG_SLOT, 6, b"a.der: slot 2\n"),
+    (SOURCE, WRONG_NODE, 6, b"a.der: node 0\n"),
+    (UNSET, UNSET_FIRST, 6, b"a.der: unset in method 1\n"),
+    (
+        UNSENDABLE,
+        b"rcap-derivation 1 0 0\n",
+        6,
+        b"a.pony:3:11: parameter not sendable\n",
+    ),
+];
+
+#[test]
+fn what_is_not_valid_is_not_written(rt: HostRuntime) {
+    all_refused_by_both(&rt, rt.alloc(), NOT_VALID);
+}
+
+const WORDS: &[Spoken<'_>] = &[
+    (&["upgrade"], 2, USAGE),
+    (&["upgrade", "a.pony"], 2, USAGE),
+    (&["upgrade", "a.pony", "a.der", "b"], 2, USAGE),
+    (
+        &["upgrade", "gone.pony", "a.der"],
+        9,
+        b"gone.pony: cannot be read\n",
+    ),
+    (
+        &["upgrade", "a.pony", "gone.der"],
+        9,
+        b"gone.der: cannot be read\n",
+    ),
+];
+
+#[test]
+fn words_ask_for_upgrade(rt: HostRuntime) {
+    all_words_end(&rt, rt.alloc(), SOURCE, WORDS);
+}
+
+// Whether a source that was made, with the first derivation, is refused so.
+fn made_source_is_refused(
     alloc: Global,
-    source: &[u8],
-    derivation: &[u8],
-) -> Result<Vec<u8>, AllocError> {
-    let mut files = MemFiles::new(alloc, &[])?;
-    files.add("a.pony", source)?;
-    files.add("a.der", derivation)?;
-    let mut out = MemSink::new(alloc, &[])?;
-    let mut err = MemSink::new(alloc, &[])?;
-    assert_eq!(rt;
-        rcap(alloc, UPGRADE, &mut files, &mut out, &mut err, &mut Rules),
-        0
-    );
-    assert!(rt; err.bytes().is_empty());
-    out.bytes().to_vec(alloc)
-}
-
-/// `judge` and `upgrade` refuse this source with this derivation alike, and write nothing.
-fn refuse(
-    rt: &impl Abort,
-    alloc: Global,
-    source: &[u8],
-    derivation: &[u8],
-    refusal: (u8, &str),
-) -> Result<(), AllocError> {
-    let (status, err) = refusal;
-    let out = "";
-    let wanted = Wanted { status, out, err };
-    answers(rt, alloc, whole(JUDGE, source, derivation), wanted)?;
-    answers(rt, alloc, whole(UPGRADE, source, derivation), wanted)
+    source: Result<Vec<u8>, AllocError>,
+    refusal: (u8, &[u8]),
+) -> bool {
+    match source {
+        Ok(source) => both_refuse(alloc, &source, FIRST, refusal),
+        Err(_) => false,
+    }
 }
 
 #[test]
-fn derivations_are_written_in_version_2(rt: HostRuntime) -> Result<(), Fail> {
+fn upgraded_files_may_have_so_many_bytes(rt: HostRuntime) {
     let alloc = rt.alloc();
-    let rows: [(&[&str], &str, &str); 3] = [
-        (UPGRADE, FIRST, SECOND),
-        (UPGRADE, SECOND, SECOND),
-        (JUDGE, SECOND, "accepted\n"),
-    ];
-    for (words, derivation, out) in rows {
-        let wanted = Wanted {
-            status: 0,
-            out,
-            err: "",
-        };
-        let given = whole(words, SOURCE.as_bytes(), derivation.as_bytes());
-        answers(&rt, alloc, given, wanted)?;
-    }
-    Ok(())
+    let source = b"a.pony: longer than 1048576 bytes\n";
+    assert!(rt; made_source_is_refused(alloc, spaces(alloc, 1_048_577), (8, source)));
+    let line = b"a.der:1: bad line\n";
+    assert!(rt; refuses_made(alloc, JUDGE, SOURCE, spaces(alloc, 33_554_432), (5, line)));
+    assert!(rt; refuses_made(alloc, UPGRADE, SOURCE, spaces(alloc, 33_554_432), (5, line)));
+    let long = b"a.der: longer than 33554432 bytes\n";
+    assert!(rt; refuses_made(alloc, JUDGE, SOURCE, spaces(alloc, 33_554_433), (8, long)));
+    assert!(rt; refuses_made(alloc, UPGRADE, SOURCE, spaces(alloc, 33_554_433), (8, long)));
 }
+
+const FAILURES: &[Failure<'_>] = &[
+    (1, NONE, NONE, 9, b"", b"a.pony: cannot be read\n"),
+    (2, NONE, NONE, 9, b"", b"a.der: cannot be read\n"),
+    // The derivation is one reading.
+    (3, NONE, NONE, 0, SECOND, b""),
+    (0, (1, 0), NONE, 10, b"", b""),
+    (0, (1, 17), NONE, 10, b"rcap-derivation 2", b""),
+    // There is no second call on out, of which a failure would be told.
+    (0, (2, 0), NONE, 0, SECOND, b""),
+];
 
 #[test]
-fn what_is_written_is_accepted_and_stays(rt: HostRuntime) -> Result<(), Fail> {
-    let alloc = rt.alloc();
-    let wanted = Wanted {
-        status: 0,
-        out: "accepted\n",
-        err: "",
-    };
-    for source in [GREETING, CHAIN, BANK, TAKEN] {
-        let first = derive(&rt, alloc, source)?;
-        let second = upgraded(&rt, alloc, source, &first)?;
-        assert!(rt; second.as_slice().starts_with(b"rcap-derivation 2 "));
-        answers(&rt, alloc, whole(JUDGE, source, &second), wanted)?;
-        let again = upgraded(&rt, alloc, source, &second)?;
-        assert_eq!(rt; again.as_slice(), second.as_slice());
-    }
-    Ok(())
+fn files_and_sinks_of_upgrade_may_fail(rt: HostRuntime) {
+    all_fail(&rt, rt.alloc(), UPGRADE, (SOURCE, FIRST), FAILURES);
 }
+
+// Nothing is written on out, so no call there fails.
+const LINES: &[Failure<'_>] = &[(0, (1, 0), (1, 7), 10, b"", b"a.der:1")];
 
 #[test]
-fn sources_are_refused_before_derivations(rt: HostRuntime) -> Result<(), Fail> {
-    let alloc = rt.alloc();
-    let rows: [(&[u8], (u8, &str)); 6] = [
-        (b"class C $", (3, "a.pony:1:9: bad byte\n")),
-        (b"class", (3, "a.pony:1:6: unexpected\n")),
-        (b"class C\n", (4, "a.pony: no Main\n")),
-        (
-            b"actor Main\n  new create(env: Env) => a\n",
-            (4, "a.pony:2:27: name unknown\n"),
-        ),
-        (
-            b"trait T\n  fun f() => a\nclass C is T\nactor Main\n  new create(env: Env) => None\n",
-            (4, "a.pony:2:14: name unknown\n"),
-        ),
-        // A declaration is looked at with the annotation.
-        (UNSENDABLE, (5, "a.der:1: bad line\n")),
-    ];
-    for (source, refusal) in rows {
-        refuse(&rt, alloc, source, b"", refusal)?;
-    }
-    Ok(())
-}
-
-#[test]
-fn texts_of_derivations_are_refused(rt: HostRuntime) -> Result<(), Fail> {
-    let alloc = rt.alloc();
-    let rows = [
-        ("", (5, "a.der:1: bad line\n")),
-        (THIRD, (5, "a.der:1: bad line\n")),
-        ("rcap-derivation 02 4 7\n", (5, "a.der:1: bad line\n")),
-        ("rcap-derivation 3 640001 0\n", (5, "a.der:1: bad line\n")),
-        (
-            "rcap-derivation 2 2 0\ns 6 ref\n",
-            (5, "a.der:3: bad line\n"),
-        ),
-        (
-            "rcap-derivation 2 640001 0\n",
-            (8, "a.der: too many lines\n"),
-        ),
-        (
-            "rcap-derivation 1 0 200001\n",
-            (8, "a.der: too many lines\n"),
-        ),
-    ];
-    for (derivation, refusal) in rows {
-        refuse(
-            &rt,
-            alloc,
-            SOURCE.as_bytes(),
-            derivation.as_bytes(),
-            refusal,
-        )?;
-    }
-    Ok(())
-}
-
-#[test]
-fn what_is_not_valid_is_not_written(rt: HostRuntime) -> Result<(), Fail> {
-    let alloc = rt.alloc();
-    let source = SOURCE.as_bytes();
-    let rows: [(&[u8], &str, (u8, &str)); 5] = [
-        (source, "rcap-derivation 2 0 0\n", (6, "a.der: shape\n")),
-        (source, WRONG_SLOT, (6, "a.der: slot 2\n")),
-        (source, WRONG_NODE, (6, "a.der: node 0\n")),
-        (UNSET, UNSET_FIRST, (6, "a.der: unset in method 1\n")),
-        (
-            UNSENDABLE,
-            "rcap-derivation 1 0 0\n",
-            (6, "a.pony:3:11: parameter not sendable\n"),
-        ),
-    ];
-    for (text, derivation, refusal) in rows {
-        refuse(&rt, alloc, text, derivation.as_bytes(), refusal)?;
-    }
-    Ok(())
-}
-
-#[test]
-fn words_ask_for_upgrade(rt: HostRuntime) -> Result<(), Fail> {
-    let alloc = rt.alloc();
-    let usage = "usage: rcap COMMAND ARGUMENT ...\n";
-    let rows: [(&[&str], u8, &str); 5] = [
-        (&["upgrade"], 2, usage),
-        (&["upgrade", "a.pony"], 2, usage),
-        (&["upgrade", "a.pony", "a.der", "b"], 2, usage),
-        (
-            &["upgrade", "gone.pony", "a.der"],
-            9,
-            "gone.pony: cannot be read\n",
-        ),
-        (
-            &["upgrade", "a.pony", "gone.der"],
-            9,
-            "gone.der: cannot be read\n",
-        ),
-    ];
-    for (words, status, err) in rows {
-        let out = "";
-        let wanted = Wanted { status, out, err };
-        answers(&rt, alloc, whole(words, SOURCE.as_bytes(), b""), wanted)?;
-    }
-    Ok(())
-}
-
-#[test]
-fn upgraded_files_may_have_so_many_bytes(rt: HostRuntime) -> Result<(), Fail> {
-    let alloc = rt.alloc();
-    let source = vec![in alloc; b' '; 1_048_577]?;
-    refuse(
-        &rt,
-        alloc,
-        &source,
-        FIRST.as_bytes(),
-        (8, "a.pony: longer than 1048576 bytes\n"),
-    )?;
-    let rows = [
-        (33_554_432, (5, "a.der:1: bad line\n")),
-        (33_554_433, (8, "a.der: longer than 33554432 bytes\n")),
-    ];
-    for (size, refusal) in rows {
-        let derivation = vec![in alloc; b' '; size]?;
-        refuse(&rt, alloc, SOURCE.as_bytes(), &derivation, refusal)?;
-    }
-    Ok(())
-}
-
-/// `upgrade` of the first derivation, of which these readings and these calls on out fail.
-fn fails(
-    rt: &impl Abort,
-    alloc: Global,
-    files: &[u32],
-    out: &[(u32, u32)],
-    wanted: Wanted<'_>,
-) -> Result<(), AllocError> {
-    let given = Given {
-        words: UPGRADE,
-        source: SOURCE.as_bytes(),
-        other: FIRST.as_bytes(),
-        files,
-        out,
-        err: &[],
-    };
-    answers(rt, alloc, given, wanted)
-}
-
-#[test]
-fn files_and_sinks_of_upgrade_may_fail(rt: HostRuntime) -> Result<(), Fail> {
-    let rows: [(&[u32], &[(u32, u32)], u8, &str, &str); 6] = [
-        (&[1], &[], 9, "", "a.pony: cannot be read\n"),
-        (&[2], &[], 9, "", "a.der: cannot be read\n"),
-        // The derivation is one reading.
-        (&[3], &[], 0, SECOND, ""),
-        (&[], &[(1, 0)], 10, "", ""),
-        (&[], &[(1, 17)], 10, "rcap-derivation 2", ""),
-        // There is no second call on out, of which a failure would be told.
-        (&[], &[(2, 0)], 0, SECOND, ""),
-    ];
-    for (files, calls, status, out, err) in rows {
-        let wanted = Wanted { status, out, err };
-        fails(&rt, rt.alloc(), files, calls, wanted)?;
-    }
-    Ok(())
-}
-
-#[test]
-fn the_line_of_upgrade_may_fail(rt: HostRuntime) -> Result<(), Fail> {
-    let given = Given {
-        words: UPGRADE,
-        source: SOURCE.as_bytes(),
-        other: b"",
-        files: &[],
-        // Nothing is written on out, so no call there fails.
-        out: &[(1, 0)],
-        err: &[(1, 7)],
-    };
-    let wanted = Wanted {
-        status: 10,
-        out: "",
-        err: "a.der:1",
-    };
-    answers(&rt, rt.alloc(), given, wanted)?;
-    Ok(())
+fn the_line_of_upgrade_may_fail(rt: HostRuntime) {
+    all_fail(&rt, rt.alloc(), UPGRADE, (SOURCE, b""), LINES);
 }

@@ -1,63 +1,23 @@
 //! Traces of programs.
+ghost use Rattle.std.specs.Prelude.{◌≤◌, length};
+ghost use Rattle.pc_trace.specs.Traces.{list_limit};
+ghost use Rattle.pc_rules.specs.Valid.{Valid};
+
+use pc_ann::Ann;
 use pc_caps::List;
 use pc_check::check;
+use pc_core::Core;
 use pc_safe::accepted_is_safe;
 use pc_test_sources::core_of;
-use pc_trace::{AcceptedFault, Touch, Trace, TraceFault, accepted_trace, trace};
+use pc_trace::{AcceptedFault, Touch, Trace, TraceFault, Verdict, accepted_trace, trace};
 use std::alloc::Global;
 
-/// The trace of a program, whether it is accepted or not. What has no core is answered as want of memory.
-pub fn trace_of(alloc: Global, program: &[u8], actors: &[u32]) -> Result<Trace, TraceFault> {
-    if actors.len() > 4_000_000 {
-        return Err(TraceFault::Memory);
-    }
-    match core_of(alloc, program) {
-        Some(core) => trace(alloc, &core, actors),
-        None => Err(TraceFault::Memory),
-    }
-}
+/// An actor, and how often it takes a turn.
+pub type Turns = (u32, u32);
 
-/// The accesses of an accepted program. What is not accepted is answered as want of memory.
-pub fn accepted_of(
-    alloc: Global,
-    program: &[u8],
-    actors: &[u32],
-) -> Result<List<Touch>, AcceptedFault> {
-    if actors.len() > 4_000_000 {
-        return Err(AcceptedFault::Memory);
-    }
-    let Some(core) = core_of(alloc, program) else {
-        return Err(AcceptedFault::Memory);
-    };
-    let Ok(ann) = check(alloc, &core) else {
-        return Err(AcceptedFault::Memory);
-    };
-    let _notes = &ann.notes;
-    let _machine = accepted_is_safe(alloc, &core, &ann, &[]);
-    accepted_trace(alloc, &core, actors)
-}
-
-/// Whether the access at a place of the list is this one: its place in the run, its actor, the object's maker and serial,
-/// whether it writes, and its clock. The field is the first one.
-pub fn is_told(
-    touches: &[Touch],
-    at: usize,
-    wanted: (u64, u32, u32, u32, bool),
-    clock: &[u64],
-) -> bool {
-    match touches.get(at) {
-        Some(touch) => {
-            touch.place == wanted.0
-                && touch.actor == wanted.1
-                && touch.address.maker == wanted.2
-                && touch.address.serial == wanted.3
-                && touch.write == wanted.4
-                && touch.field == 0
-                && touch.clock.as_slice() == clock
-        }
-        None => false,
-    }
-}
+/// An access to the first field of an object: its place in the run, its actor, the object's maker and serial, whether it
+/// writes, and its clock.
+pub type Row = (u64, u32, u32, u32, bool, &'static [u64]);
 
 // An actor takes so many turns more.
 fn push_turns(list: &mut Vec<u32>, actor: u32, times: u32) -> Option<()> {
@@ -67,11 +27,129 @@ fn push_turns(list: &mut Vec<u32>, actor: u32, times: u32) -> Option<()> {
     Some(())
 }
 
-/// The list of actors that turns are, each an actor and how often.
-pub fn list_of(alloc: Global, turns: &[(u32, u32)]) -> Option<Vec<u32>> {
+// The list of actors that turns are.
+fn list_of(alloc: Global, turns: &[Turns]) -> Option<Vec<u32>> {
     let mut list = Vec::new(alloc);
     for (actor, times) in turns {
         push_turns(&mut list, *actor, *times)?;
     }
     Some(list)
+}
+
+// The trace of a program, whether it is accepted or not. What has no core is answered as want of memory.
+fn trace_of(alloc: Global, program: &[u8], actors: &[u32]) -> Result<Trace, TraceFault> {
+    if actors.len() > 4_000_000 {
+        return Err(TraceFault::Memory);
+    }
+    match core_of(alloc, program) {
+        Some(core) => trace(alloc, &core, actors),
+        None => Err(TraceFault::Memory),
+    }
+}
+
+// The accesses of a program by its derivation.
+fn touches_by(
+    alloc: Global,
+    core: &Core,
+    ann: &Ann,
+    actors: &[u32],
+) -> Result<List<Touch>, AcceptedFault>
+    requires valid { Valid core.now ann.now }
+    requires few { length actors.now ≤ list_limit }
+{
+    let _notes = &ann.notes;
+    let _machine = accepted_is_safe(alloc, core, ann, &[]);
+    accepted_trace(alloc, core, actors)
+}
+
+// The accesses of a core, where it is accepted. What is not is answered as want of memory.
+fn touches_of(alloc: Global, core: &Core, actors: &[u32]) -> Result<List<Touch>, AcceptedFault> {
+    if actors.len() > 4_000_000 {
+        return Err(AcceptedFault::Memory);
+    }
+    match check(alloc, core) {
+        Ok(ann) => touches_by(alloc, core, &ann, actors),
+        Err(_) => Err(AcceptedFault::Memory),
+    }
+}
+
+// The accesses of an accepted program. What is not accepted is answered as want of memory.
+fn accepted_of(
+    alloc: Global,
+    program: &[u8],
+    actors: &[u32],
+) -> Result<List<Touch>, AcceptedFault> {
+    match core_of(alloc, program) {
+        Some(core) => touches_of(alloc, &core, actors),
+        None => Err(AcceptedFault::Memory),
+    }
+}
+
+fn is_told(touch: &Touch, row: &Row) -> bool {
+    let (place, actor, maker, serial, write, clock) = *row;
+    let address = touch.address;
+    touch.place == place
+        && touch.actor == actor
+        && address.maker == maker
+        && address.serial == serial
+        && touch.write == write
+        && touch.field == 0
+        && touch.clock.as_slice() == clock
+}
+
+// Whether these are the accesses, and no others.
+fn are_told(touches: &[Touch], rows: &[Row]) -> bool {
+    for at in 0..rows.len() {
+        match touches.get(at) {
+            Some(touch) if is_told(touch, &rows[at]) => {}
+            _ => return false,
+        }
+    }
+    touches.len() == rows.len()
+}
+
+fn verdict_on(alloc: Global, program: &[u8], actors: &[u32], rows: &[Row]) -> Option<Verdict> {
+    match trace_of(alloc, program, actors) {
+        Ok(trace) if are_told(trace.touches.as_slice(), rows) => Some(trace.verdict),
+        _ => None,
+    }
+}
+
+/// The verdict on a program's run, where it is traced with these accesses and no others.
+pub fn verdict_of(alloc: Global, program: &[u8], turns: &[Turns], rows: &[Row]) -> Option<Verdict> {
+    let list = list_of(alloc, turns)?;
+    verdict_on(alloc, program, &list, rows)
+}
+
+/// Why a program's run is not traced, if it is not. Want of memory for the list itself is told as such.
+pub fn fault_of(alloc: Global, program: &[u8], turns: &[Turns]) -> Option<TraceFault> {
+    match list_of(alloc, turns) {
+        Some(list) => trace_of(alloc, program, &list).err(),
+        None => Some(TraceFault::Memory),
+    }
+}
+
+// Whether a run of a program is that of an accepted one, with these accesses and no others, or why it is not traced.
+fn accepted_with(
+    alloc: Global,
+    program: &[u8],
+    actors: &[u32],
+    rows: &[Row],
+) -> Result<bool, AcceptedFault> {
+    match accepted_of(alloc, program, actors) {
+        Ok(touches) => Ok(are_told(touches.as_slice(), rows)),
+        Err(fault) => Err(fault),
+    }
+}
+
+/// Whether a program's run, as that of an accepted one, has these accesses and no others, or why it is not traced. There is
+/// no answer where there is no memory for the list.
+pub fn is_accepted_with(
+    alloc: Global,
+    program: &[u8],
+    turns: &[Turns],
+    rows: &[Row],
+) -> Option<Result<bool, AcceptedFault>> {
+    let list = list_of(alloc, turns)?;
+    Some(accepted_with(alloc, program, &list, rows))
 }

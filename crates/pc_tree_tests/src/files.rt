@@ -3,14 +3,19 @@ use crate::ends::file_with_end;
 use crate::showing::shown;
 use pc_parse::ParseFault;
 use pc_test_sources::tree_of;
-use std::alloc::{AllocError, Global};
+use pc_tree::File;
+use std::alloc::Global;
+
+fn shows(alloc: Global, file: &File, shape: &[u8]) -> bool {
+    match shown(alloc, file) {
+        Some(found) => found.as_slice() == shape,
+        None => false,
+    }
+}
 
 fn has_shape(alloc: Global, text: &[u8], shape: &[u8]) -> bool {
     match tree_of(alloc, text) {
-        Ok(file) => match shown(alloc, &file) {
-            Ok(found) => found.as_slice() == shape,
-            Err(AllocError) => false,
-        },
+        Ok(file) => shows(alloc, &file, shape),
         Err(_) => false,
     }
 }
@@ -66,11 +71,19 @@ const SHAPES: [(&[u8], &[u8]); 14] = [
     ),
 ];
 
+// The place of the first of these texts that has another shape.
+fn wrong_shape(alloc: Global, shapes: &[(&[u8], &[u8])]) -> Option<usize> {
+    for at in 0..shapes.len() {
+        if !has_shape(alloc, shapes[at].0, shapes[at].1) {
+            return Some(at);
+        }
+    }
+    None
+}
+
 #[test]
 fn shapes(rt: HostRuntime) {
-    for (text, shape) in &SHAPES {
-        assert!(rt; has_shape(rt.alloc(), text, shape), "{text:?}");
-    }
+    assert_eq!(rt; wrong_shape(rt.alloc(), &SHAPES), None);
 }
 
 const BANK: &[u8] =
@@ -84,10 +97,11 @@ fn the_bank(rt: HostRuntime) {
     assert!(rt; has_shape(rt.alloc(), BANK, BANK_SHAPE));
 }
 
-fn fault_of(alloc: Global, text: &[u8]) -> Option<ParseFault> {
+// Whether the token at a byte is the first with which no file goes on.
+fn stops_at(alloc: Global, text: &[u8], place: u32) -> bool {
     match tree_of(alloc, text) {
-        Ok(_) => None,
-        Err(fault) => Some(fault),
+        Ok(_) => false,
+        Err(fault) => fault == ParseFault::Unexpected(place),
     }
 }
 
@@ -185,23 +199,34 @@ const UNEXPECTED: [(&[u8], u32); 45] = [
     (b"class C class D d", 16),
 ];
 
+// The place of the first of these texts that stops elsewhere, or not at all.
+fn wrong_stop(alloc: Global, texts: &[(&[u8], u32)]) -> Option<usize> {
+    for at in 0..texts.len() {
+        if !stops_at(alloc, texts[at].0, texts[at].1) {
+            return Some(at);
+        }
+    }
+    None
+}
+
 #[test]
 fn unexpected(rt: HostRuntime) {
-    for (text, place) in &UNEXPECTED {
-        let found = fault_of(rt.alloc(), text);
-        assert!(rt; found == Some(ParseFault::Unexpected(*place)), "{text:?}");
+    assert_eq!(rt; wrong_stop(rt.alloc(), &UNEXPECTED), None);
+}
+
+// The fault of a text with two ends, of which the second begins at a byte.
+fn fault_with_end(alloc: Global, text: &[u8], start: u32) -> Option<ParseFault> {
+    match file_with_end(alloc, text, start) {
+        Ok(_) => None,
+        Err(fault) => Some(fault),
     }
 }
 
 // A text that is a file, and a token behind its end.
 #[test]
 fn behind_the_end(rt: HostRuntime) {
-    match file_with_end(rt.alloc(), b"class C", 9) {
-        Ok(_) => assert!(rt; false),
-        Err(fault) => assert_eq!(rt; fault, ParseFault::Unexpected(9)),
-    }
-    match file_with_end(rt.alloc(), b"class", 9) {
-        Ok(_) => assert!(rt; false),
-        Err(fault) => assert_eq!(rt; fault, ParseFault::Unexpected(5)),
-    }
+    let found = fault_with_end(rt.alloc(), b"class C", 9);
+    assert_eq!(rt; found, Some(ParseFault::Unexpected(9)));
+    let found = fault_with_end(rt.alloc(), b"class", 9);
+    assert_eq!(rt; found, Some(ParseFault::Unexpected(5)));
 }

@@ -3,7 +3,6 @@ use pc_parse::ParseFault;
 use pc_test_sources::tree_of;
 use pc_tree::{depth, size};
 use std::alloc::{AllocError, Global};
-use std::test::Fail;
 
 /// A text, so many `(`, a number, and as many `)`.
 fn nested(alloc: Global, begin: &[u8], count: usize) -> Result<Vec<u8>, AllocError> {
@@ -28,7 +27,7 @@ fn level_of(alloc: Global, begin: &[u8], count: usize) -> Result<u32, ParseFault
 
 // A body and a value stand at level 1, so that 199 more are opened.
 #[test]
-fn levels(rt: HostRuntime) -> Result<(), Fail> {
+fn levels(rt: HostRuntime) {
     let alloc = rt.alloc();
     let body = b"class C fun f() => ";
     assert_eq!(rt; level_of(alloc, body, 199), Ok(200));
@@ -36,16 +35,16 @@ fn levels(rt: HostRuntime) -> Result<(), Fail> {
     let value = b"class C let x: U64 = ";
     assert_eq!(rt; level_of(alloc, value, 199), Ok(200));
     assert_eq!(rt; level_of(alloc, value, 200), Err(ParseFault::TooDeep(220)));
-    Ok(())
+}
+
+// The highest level of a text's tree, and the size of the tree.
+fn measured(alloc: Global, text: &[u8]) -> Result<(u32, u64), ParseFault> {
+    let tree = tree_of(alloc, text)?;
+    Ok((depth(&tree), size(&tree)))
 }
 
 #[test]
 fn empty_arguments_open_a_level(rt: HostRuntime) {
-    match tree_of(rt.alloc(), b"primitive P fun f() => g()") {
-        Ok(tree) => {
-            assert_eq!(rt; depth(&tree), 2);
-            assert_eq!(rt; size(&tree), 2);
-        }
-        Err(_) => assert!(rt; false),
-    }
+    let found = measured(rt.alloc(), b"primitive P fun f() => g()");
+    assert_eq!(rt; found, Ok((2, 2)));
 }

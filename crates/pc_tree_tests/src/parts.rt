@@ -1,10 +1,9 @@
 //! Parts of bodies: their trees, where reading stops, levels and long chains.
-use crate::reading::{Found, Part, read};
+use crate::reading::{Part, read};
 use crate::rows::Row;
 use pc_expr::{ParseFault, seq};
 use pc_test_sources::tokens_of;
 use std::alloc::{AllocError, Global};
-use std::test::Fail;
 
 fn has_rows(alloc: Global, text: &[u8], rows: &[Row]) -> bool {
     match read(alloc, Part::Seq, text, 1) {
@@ -132,29 +131,37 @@ const TREES: [(&[u8], &[Row]); 9] = [
     ),
 ];
 
-#[test]
-fn trees(rt: HostRuntime) {
-    for (text, rows) in &TREES {
-        assert!(rt; has_rows(rt.alloc(), text, rows), "{text:?}");
+// The place of the first of these texts whose tree has other rows.
+fn wrong_tree(alloc: Global, trees: &[(&[u8], &[Row])]) -> Option<usize> {
+    for at in 0..trees.len() {
+        if !has_rows(alloc, trees[at].0, trees[at].1) {
+            return Some(at);
+        }
     }
+    None
 }
 
-fn stops_as(
-    alloc: Global,
-    part: Part,
-    text: &[u8],
-    level: u16,
-    wanted: &Result<usize, ParseFault>,
-) -> bool {
-    match (read(alloc, part, text, level), wanted) {
-        (Ok(Found { to, .. }), Ok(place)) => to == *place,
-        (Err(fault), Err(named)) => fault == *named,
-        _ => false,
-    }
+#[test]
+fn trees(rt: HostRuntime) {
+    assert_eq!(rt; wrong_tree(rt.alloc(), &TREES), None);
+}
+
+/// A part that is read of a text at a level, and how many tokens are read, or why none are.
+type Stop = (Part, &'static [u8], u16, Result<usize, ParseFault>);
+
+// How many tokens are read of a part of a text.
+fn tokens_read(alloc: Global, part: Part, text: &[u8], level: u16) -> Result<usize, ParseFault> {
+    let found = read(alloc, part, text, level)?;
+    Ok(found.to)
+}
+
+fn stops_as(alloc: Global, stop: Stop) -> bool {
+    let (part, text, level, wanted) = stop;
+    tokens_read(alloc, part, text, level) == wanted
 }
 
 // How many tokens are read, or the byte of the token at which none are.
-const STOPS: [(Part, &[u8], u16, Result<usize, ParseFault>); 30] = [
+const STOPS: [Stop; 30] = [
     (Part::Seq, b"a + b - c", 1, Ok(3)),
     (Part::Seq, b"a\n- b", 1, Ok(1)),
     (Part::Seq, b"a -\nb", 1, Ok(3)),
@@ -202,14 +209,19 @@ const STOPS: [(Part, &[u8], u16, Result<usize, ParseFault>); 30] = [
     ),
 ];
 
+// The place of the first of these texts whose reading stops elsewhere.
+fn wrong_stop(alloc: Global, stops: &[Stop]) -> Option<usize> {
+    for at in 0..stops.len() {
+        if !stops_as(alloc, stops[at]) {
+            return Some(at);
+        }
+    }
+    None
+}
+
 #[test]
 fn stops(rt: HostRuntime) {
-    for (part, text, level, wanted) in &STOPS {
-        assert!(rt;
-            stops_as(rt.alloc(), *part, text, *level, wanted),
-            "{text:?}"
-        );
-    }
+    assert_eq!(rt; wrong_stop(rt.alloc(), &STOPS), None);
 }
 
 /// A text of many equal parts, between a beginning and an end.
@@ -241,22 +253,39 @@ fn length_read(alloc: Global, text: &[u8], level: u16) -> Result<usize, ParseFau
     Ok(to)
 }
 
+/// So many `(`, a name, and so many `)`.
+fn nested(alloc: Global, opened: usize, closed: usize) -> Result<Vec<u8>, AllocError> {
+    let mut text = repeated(alloc, b"", b"(", opened, b"a")?;
+    for _ in 0..closed {
+        text.push(b')')?;
+    }
+    Ok(text)
+}
+
+fn nested_read(
+    alloc: Global,
+    opened: usize,
+    closed: usize,
+    level: u16,
+) -> Result<usize, ParseFault> {
+    match nested(alloc, opened, closed) {
+        Ok(text) => length_read(alloc, text.as_slice(), level),
+        Err(AllocError) => Err(ParseFault::Memory),
+    }
+}
+
 #[test]
-fn levels(rt: HostRuntime) -> Result<(), Fail> {
+fn levels(rt: HostRuntime) {
     let alloc = rt.alloc();
-    let text = repeated(alloc, b"", b"(", 200, b"a")?;
-    let text = repeated(alloc, text.as_slice(), b")", 200, b"")?;
-    assert_eq!(rt; length_read(alloc, text.as_slice(), 0), Ok(401));
+    assert_eq!(rt; nested_read(alloc, 200, 200, 0), Ok(401));
     assert_eq!(rt;
-        length_read(alloc, text.as_slice(), 1),
+        nested_read(alloc, 200, 200, 1),
         Err(ParseFault::TooDeep(199))
     );
-    let text = repeated(alloc, b"", b"(", 201, b"a")?;
     assert_eq!(rt;
-        length_read(alloc, text.as_slice(), 0),
+        nested_read(alloc, 201, 0, 0),
         Err(ParseFault::TooDeep(200))
     );
-    Ok(())
 }
 
 /// How many tokens of such a text are read.

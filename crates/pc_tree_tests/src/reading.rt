@@ -1,8 +1,13 @@
 //! Parts of bodies, read.
-use crate::rows::{Row, of_expr, of_seq};
+ghost use Rattle.std.specs.Prelude.{◌<◌, ◌≤◌, length};
+ghost use Rattle.pc_expr.specs.Gives.{EndsWithEnd};
+
+use crate::rows::{Row, Rows, of_expr, of_seq};
 use pc_expr::{ParseFault, expr, infix, seq};
+use pc_lex::Token;
 use pc_test_sources::tokens_of;
-use std::alloc::{AllocError, Global};
+use pc_tree::{Expr, Seq};
+use std::alloc::Global;
 
 /// What is read: how far, in tokens, and the tree's rows.
 #[derive(Drop)]
@@ -19,32 +24,67 @@ pub enum Part {
     Infix,
 }
 
+// What was found up to a place, or want of memory.
+fn found_of(rows: Rows, to: usize) -> Result<Found, ParseFault> {
+    if rows.is_short {
+        return Err(ParseFault::Memory);
+    }
+    Ok(Found {
+        to,
+        rows: rows.found,
+    })
+}
+
+fn seq_rows(alloc: Global, tree: &Seq, to: usize) -> Result<Found, ParseFault> {
+    let mut rows = Rows::new(alloc);
+    of_seq(&mut rows, tree);
+    found_of(rows, to)
+}
+
+fn expr_rows(alloc: Global, tree: &Expr, to: usize) -> Result<Found, ParseFault> {
+    let mut rows = Rows::new(alloc);
+    of_expr(&mut rows, tree);
+    found_of(rows, to)
+}
+
+fn read_seq(alloc: Global, tokens: &[Token], level: u16) -> Result<Found, ParseFault>
+    requires ends { EndsWithEnd tokens.now }
+    requires within { 0 < length tokens.now }
+    requires level { level ≤ 200 }
+{
+    let (tree, to) = seq(alloc, tokens, 0, level)?;
+    seq_rows(alloc, &tree, to)
+}
+
+fn read_expr(alloc: Global, tokens: &[Token], level: u16) -> Result<Found, ParseFault>
+    requires ends { EndsWithEnd tokens.now }
+    requires within { 0 < length tokens.now }
+    requires level { level ≤ 200 }
+{
+    let (tree, to) = expr(alloc, tokens, 0, level)?;
+    expr_rows(alloc, &tree, to)
+}
+
+fn read_infix(alloc: Global, tokens: &[Token], level: u16) -> Result<Found, ParseFault>
+    requires ends { EndsWithEnd tokens.now }
+    requires within { 0 < length tokens.now }
+    requires level { level ≤ 200 }
+{
+    let (tree, to) = infix(alloc, tokens, 0, level)?;
+    expr_rows(alloc, &tree, to)
+}
+
 /// A part of a text from its beginning on, read at a level.
 pub fn read(alloc: Global, part: Part, text: &[u8], level: u16) -> Result<Found, ParseFault> {
     let Ok(tokens) = tokens_of(alloc, text) else {
         return Err(ParseFault::Memory);
     };
-    let tokens = tokens.as_slice();
     if level > 200 || tokens.is_empty() {
         return Err(ParseFault::Memory);
     }
-    let mut rows: Vec<Row> = Vec::new(alloc);
-    let (to, shown) = match part {
-        Part::Seq => {
-            let (tree, to) = seq(alloc, tokens, 0, level)?;
-            (to, of_seq(&mut rows, &tree))
-        }
-        Part::Expr => {
-            let (tree, to) = expr(alloc, tokens, 0, level)?;
-            (to, of_expr(&mut rows, &tree))
-        }
-        Part::Infix => {
-            let (tree, to) = infix(alloc, tokens, 0, level)?;
-            (to, of_expr(&mut rows, &tree))
-        }
-    };
-    match shown {
-        Ok(()) => Ok(Found { to, rows }),
-        Err(AllocError) => Err(ParseFault::Memory),
+    match part {
+        Part::Seq => read_seq(alloc, tokens.as_slice(), level),
+        Part::Expr => read_expr(alloc, tokens.as_slice(), level),
+        Part::Infix => read_infix(alloc, tokens.as_slice(), level),
     }
 }

@@ -1,14 +1,31 @@
 //! A tree as a list of rows, each part before what stands in it.
 use pc_caps::Span;
 use pc_tree::{Arm, Expr, Item, Op, Seq, Suffix};
-use std::alloc::AllocError;
+use std::alloc::Global;
 
 /// A part of a tree: what it is, and where it begins and ends.
 pub type Row = (&'static str, u32, u32);
 
-fn row(rows: &mut Vec<Row>, label: &'static str, span: Span) -> Result<(), AllocError> {
-    rows.push((label, span.start, span.end))?;
-    Ok(())
+/// The rows of what was walked so far, and whether there was no memory for one.
+#[derive(Drop)]
+pub struct Rows {
+    pub found: Vec<Row>,
+    pub is_short: bool,
+}
+
+impl Rows {
+    pub fn new(alloc: Global) -> Rows {
+        Rows {
+            found: Vec::new(alloc),
+            is_short: false,
+        }
+    }
+
+    fn add(&mut self, label: &'static str, span: Span) {
+        if self.found.push((label, span.start, span.end)).is_err() {
+            self.is_short = true;
+        }
+    }
 }
 
 fn op_label(op: Op) -> &'static str {
@@ -23,21 +40,20 @@ fn op_label(op: Op) -> &'static str {
 }
 
 #[cycle(rows)]
-pub fn of_seq(rows: &mut Vec<Row>, seq: &Seq) -> Result<(), AllocError> {
-    row(rows, "seq", seq.span)?;
+pub fn of_seq(rows: &mut Rows, seq: &Seq) {
+    rows.add("seq", seq.span);
     of_items(rows, seq.items.as_slice())
 }
 
 #[cycle(rows)]
-fn of_items(rows: &mut Vec<Row>, items: &[Item]) -> Result<(), AllocError> {
+fn of_items(rows: &mut Rows, items: &[Item]) {
     for item in items {
-        of_item(rows, item)?;
+        of_item(rows, item);
     }
-    Ok(())
 }
 
 #[cycle(rows)]
-fn of_item(rows: &mut Vec<Row>, item: &Item) -> Result<(), AllocError> {
+fn of_item(rows: &mut Rows, item: &Item) {
     match item {
         Item::Local {
             fixed,
@@ -45,7 +61,7 @@ fn of_item(rows: &mut Vec<Row>, item: &Item) -> Result<(), AllocError> {
             span,
             ..
         } => {
-            row(rows, if *fixed { "let" } else { "var" }, *span)?;
+            rows.add(if *fixed { "let" } else { "var" }, *span);
             of_expr(rows, value)
         }
         Item::Plain(e) => of_expr(rows, e),
@@ -53,29 +69,28 @@ fn of_item(rows: &mut Vec<Row>, item: &Item) -> Result<(), AllocError> {
 }
 
 #[cycle(rows)]
-fn of_exprs(rows: &mut Vec<Row>, exprs: &[Expr]) -> Result<(), AllocError> {
+fn of_exprs(rows: &mut Rows, exprs: &[Expr]) {
     for e in exprs {
-        of_expr(rows, e)?;
+        of_expr(rows, e);
     }
-    Ok(())
 }
 
 #[cycle(rows)]
-pub fn of_expr(rows: &mut Vec<Row>, e: &Expr) -> Result<(), AllocError> {
+pub fn of_expr(rows: &mut Rows, e: &Expr) {
     match e {
-        Expr::Number { span, .. } => row(rows, "number", *span),
-        Expr::Truth { span, .. } => row(rows, "truth", *span),
-        Expr::Text { span, .. } => row(rows, "text", *span),
-        Expr::Name(name) => row(rows, "name", name.span),
-        Expr::TypeName(name) => row(rows, "type name", name.span),
-        Expr::This(span) => row(rows, "this", *span),
-        Expr::Consume { span, .. } => row(rows, "consume", *span),
+        Expr::Number { span, .. } => rows.add("number", *span),
+        Expr::Truth { span, .. } => rows.add("truth", *span),
+        Expr::Text { span, .. } => rows.add("text", *span),
+        Expr::Name(name) => rows.add("name", name.span),
+        Expr::TypeName(name) => rows.add("type name", name.span),
+        Expr::This(span) => rows.add("this", *span),
+        Expr::Consume { span, .. } => rows.add("consume", *span),
         Expr::Not { inner, span } => {
-            row(rows, "not", *span)?;
+            rows.add("not", *span);
             of_expr(rows, inner)
         }
         Expr::Infix { op, terms, span } => {
-            row(rows, op_label(*op), *span)?;
+            rows.add(op_label(*op), *span);
             of_exprs(rows, terms.as_slice())
         }
         Expr::Chain {
@@ -83,74 +98,72 @@ pub fn of_expr(rows: &mut Vec<Row>, e: &Expr) -> Result<(), AllocError> {
             suffixes,
             span,
         } => {
-            row(rows, "chain", *span)?;
-            of_expr(rows, head)?;
+            rows.add("chain", *span);
+            of_expr(rows, head);
             of_suffixes(rows, suffixes.as_slice())
         }
         Expr::Group { body, span } => {
-            row(rows, "group", *span)?;
+            rows.add("group", *span);
             of_seq(rows, body)
         }
         Expr::If { arms, other, span } => {
-            row(rows, "if", *span)?;
-            of_arms(rows, arms.as_slice())?;
+            rows.add("if", *span);
+            of_arms(rows, arms.as_slice());
             of_other(rows, other)
         }
         Expr::While { cond, body, span } => {
-            row(rows, "while", *span)?;
-            of_seq(rows, cond)?;
+            rows.add("while", *span);
+            of_seq(rows, cond);
             of_seq(rows, body)
         }
         Expr::Recover { body, span, .. } => {
-            row(rows, "recover", *span)?;
+            rows.add("recover", *span);
             of_seq(rows, body)
         }
         Expr::Assign { left, right, span } => {
-            row(rows, "=", *span)?;
-            of_expr(rows, left)?;
+            rows.add("=", *span);
+            of_expr(rows, left);
             of_expr(rows, right)
         }
     }
 }
 
 #[cycle(rows)]
-fn of_suffixes(rows: &mut Vec<Row>, suffixes: &[Suffix]) -> Result<(), AllocError> {
+fn of_suffixes(rows: &mut Rows, suffixes: &[Suffix]) {
     for suffix in suffixes {
-        of_suffix(rows, suffix)?;
+        of_suffix(rows, suffix);
     }
-    Ok(())
 }
 
 #[cycle(rows)]
-fn of_suffix(rows: &mut Vec<Row>, suffix: &Suffix) -> Result<(), AllocError> {
+fn of_suffix(rows: &mut Rows, suffix: &Suffix) {
     match suffix {
-        Suffix::Dot(name) => row(rows, "dot", name.span),
+        Suffix::Dot(name) => rows.add("dot", name.span),
         Suffix::Args { args, span } => {
-            row(rows, "arguments", *span)?;
+            rows.add("arguments", *span);
             of_exprs(rows, args.as_slice())
         }
     }
 }
 
 #[cycle(rows)]
-fn of_arms(rows: &mut Vec<Row>, arms: &[Arm]) -> Result<(), AllocError> {
+fn of_arms(rows: &mut Rows, arms: &[Arm]) {
     for arm in arms {
-        of_arm(rows, arm)?;
+        of_arm(rows, arm);
     }
-    Ok(())
 }
 
 #[cycle(rows)]
-fn of_arm(rows: &mut Vec<Row>, arm: &Arm) -> Result<(), AllocError> {
-    row(rows, "arm", arm.span)?;
-    of_seq(rows, &arm.cond)?;
+fn of_arm(rows: &mut Rows, arm: &Arm) {
+    rows.add("arm", arm.span);
+    of_seq(rows, &arm.cond);
     of_seq(rows, &arm.body)
 }
 
 #[cycle(rows)]
-fn of_other(rows: &mut Vec<Row>, other: &Option<Box<Seq>>) -> Result<(), AllocError> {
+fn of_other(rows: &mut Rows, other: &Option<Box<Seq>>) {
     match other {
         Some(body) => of_seq(rows, body),
-        None => Ok(()),
+        None => {}
     }
 }

@@ -1,18 +1,27 @@
 //! The parts of a file as a text, a line for each entity, field and method.
 use pc_caps::Cap;
 use pc_tree::{Entity, EntityKind, FieldDef, File, MethodDef, MethodWord, Name, ParamDef, TypeRef};
-use std::alloc::{AllocError, Global};
+use std::alloc::Global;
 
-fn put(out: &mut Vec<u8>, text: &[u8]) -> Result<(), AllocError> {
-    out.extend_from_slice(text)
+/// What was put so far, and whether there was no memory for a part.
+#[derive(Drop)]
+struct Sheet {
+    text: Vec<u8>,
+    is_short: bool,
 }
 
-fn put_name(out: &mut Vec<u8>, before: &[u8], name: &Name) -> Result<(), AllocError> {
-    put(out, before)?;
+fn put(out: &mut Sheet, text: &[u8]) {
+    if out.text.extend_from_slice(text).is_err() {
+        out.is_short = true;
+    }
+}
+
+fn put_name(out: &mut Sheet, before: &[u8], name: &Name) {
+    put(out, before);
     put(out, name.text.as_slice())
 }
 
-fn put_cap(out: &mut Vec<u8>, cap: Option<Cap>) -> Result<(), AllocError> {
+fn put_cap(out: &mut Sheet, cap: Option<Cap>) {
     match cap {
         Some(Cap::Iso) => put(out, b" iso"),
         Some(Cap::Trn) => put(out, b" trn"),
@@ -20,35 +29,37 @@ fn put_cap(out: &mut Vec<u8>, cap: Option<Cap>) -> Result<(), AllocError> {
         Some(Cap::Val) => put(out, b" val"),
         Some(Cap::Box) => put(out, b" box"),
         Some(Cap::Tag) => put(out, b" tag"),
-        None => Ok(()),
+        None => {}
     }
 }
 
-fn put_type(out: &mut Vec<u8>, ty: &TypeRef) -> Result<(), AllocError> {
-    put_name(out, b": ", &ty.name)?;
-    put_cap(out, ty.cap)?;
-    if ty.hat { put(out, b"^") } else { Ok(()) }
+fn put_type(out: &mut Sheet, ty: &TypeRef) {
+    put_name(out, b": ", &ty.name);
+    put_cap(out, ty.cap);
+    if ty.hat {
+        put(out, b"^");
+    }
 }
 
-fn put_field(out: &mut Vec<u8>, field: &FieldDef) -> Result<(), AllocError> {
+fn put_field(out: &mut Sheet, field: &FieldDef) {
     put_name(
         out,
         if field.fixed { b" let " } else { b" var " },
         &field.name,
-    )?;
-    put_type(out, &field.ty)?;
+    );
+    put_type(out, &field.ty);
     match &field.value {
         Some(_) => put(out, b" =\n"),
         None => put(out, b"\n"),
     }
 }
 
-fn put_params(out: &mut Vec<u8>, params: &[ParamDef]) -> Result<(), AllocError> {
+fn put_params(out: &mut Sheet, params: &[ParamDef]) {
     let mut before: &[u8] = b"";
-    put(out, b"(")?;
+    put(out, b"(");
     for param in params {
-        put_name(out, before, &param.name)?;
-        put_type(out, &param.ty)?;
+        put_name(out, before, &param.name);
+        put_type(out, &param.ty);
         before = b", ";
     }
     put(out, b")")
@@ -62,13 +73,13 @@ fn word_text(word: MethodWord) -> &'static [u8] {
     }
 }
 
-fn put_method(out: &mut Vec<u8>, method: &MethodDef) -> Result<(), AllocError> {
-    put(out, word_text(method.word))?;
-    put_cap(out, method.cap)?;
-    put_name(out, b" ", &method.name)?;
-    put_params(out, method.params.as_slice())?;
+fn put_method(out: &mut Sheet, method: &MethodDef) {
+    put(out, word_text(method.word));
+    put_cap(out, method.cap);
+    put_name(out, b" ", &method.name);
+    put_params(out, method.params.as_slice());
     if let Some(ty) = &method.result {
-        put_type(out, ty)?;
+        put_type(out, ty);
     }
     match &method.body {
         Some(_) => put(out, b" =>\n"),
@@ -76,27 +87,24 @@ fn put_method(out: &mut Vec<u8>, method: &MethodDef) -> Result<(), AllocError> {
     }
 }
 
-fn put_provides(out: &mut Vec<u8>, names: &[Name]) -> Result<(), AllocError> {
+fn put_provides(out: &mut Sheet, names: &[Name]) {
     let mut before: &[u8] = b" is ";
     for name in names {
-        put_name(out, before, name)?;
+        put_name(out, before, name);
         before = b" ";
     }
-    Ok(())
 }
 
-fn put_fields(out: &mut Vec<u8>, fields: &[FieldDef]) -> Result<(), AllocError> {
+fn put_fields(out: &mut Sheet, fields: &[FieldDef]) {
     for field in fields {
-        put_field(out, field)?;
+        put_field(out, field);
     }
-    Ok(())
 }
 
-fn put_methods(out: &mut Vec<u8>, methods: &[MethodDef]) -> Result<(), AllocError> {
+fn put_methods(out: &mut Sheet, methods: &[MethodDef]) {
     for method in methods {
-        put_method(out, method)?;
+        put_method(out, method);
     }
-    Ok(())
 }
 
 fn kind_text(kind: EntityKind) -> &'static [u8] {
@@ -109,21 +117,24 @@ fn kind_text(kind: EntityKind) -> &'static [u8] {
     }
 }
 
-fn put_entity(out: &mut Vec<u8>, entity: &Entity) -> Result<(), AllocError> {
-    put(out, kind_text(entity.kind))?;
-    put_cap(out, entity.cap)?;
-    put_name(out, b" ", &entity.name)?;
-    put_provides(out, entity.provides.as_slice())?;
-    put(out, b"\n")?;
-    put_fields(out, entity.fields.as_slice())?;
+fn put_entity(out: &mut Sheet, entity: &Entity) {
+    put(out, kind_text(entity.kind));
+    put_cap(out, entity.cap);
+    put_name(out, b" ", &entity.name);
+    put_provides(out, entity.provides.as_slice());
+    put(out, b"\n");
+    put_fields(out, entity.fields.as_slice());
     put_methods(out, entity.methods.as_slice())
 }
 
-/// What a file has.
-pub fn shown(alloc: Global, file: &File) -> Result<Vec<u8>, AllocError> {
-    let mut out = Vec::new(alloc);
+/// What a file has. There is no answer where memory ran out.
+pub fn shown(alloc: Global, file: &File) -> Option<Vec<u8>> {
+    let mut out = Sheet {
+        text: Vec::new(alloc),
+        is_short: false,
+    };
     for entity in file.entities.as_slice() {
-        put_entity(&mut out, entity)?;
+        put_entity(&mut out, entity);
     }
-    Ok(out)
+    if out.is_short { None } else { Some(out.text) }
 }

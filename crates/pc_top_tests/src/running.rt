@@ -1,0 +1,119 @@
+//! Commands on files and sinks in memory: what they do, and whether it is what is wanted.
+
+use pc_io::{MemFiles, MemSink};
+use pc_referee::Rules;
+use pc_top::rcap;
+use std::alloc::{AllocError, Global};
+
+/// A write on out and one on err that fail, each by its number and by how many bytes it takes before. Calls are counted
+/// from 1, so 0 is none.
+#[derive(Clone, Copy)]
+pub(crate) struct Failing {
+    pub out: (u32, u32),
+    pub err: (u32, u32),
+}
+
+/// No write fails.
+pub(crate) const NOTHING: Failing = Failing {
+    out: (0, 0),
+    err: (0, 0),
+};
+
+/// The status, and what stands on out and err.
+#[derive(Clone, Copy)]
+pub(crate) struct Wanted<'a> {
+    pub status: u8,
+    pub out: &'a [u8],
+    pub err: &'a [u8],
+}
+
+/// What a command did: its status, and what stands on out and err.
+#[derive(Drop)]
+pub(crate) struct Done {
+    pub status: u8,
+    pub out: MemSink,
+    pub err: MemSink,
+}
+
+fn add_texts(files: &mut MemFiles, source: &[u8], other: &[u8]) -> Result<(), AllocError> {
+    files.add("a.pony", source)?;
+    files.add("a.der", other)?;
+    files.add("a.sched", other)
+}
+
+/// The source `a.pony`, and the other text in `a.der` and in `a.sched`, of which one reading fails.
+pub(crate) fn files_of(
+    alloc: Global,
+    source: &[u8],
+    other: &[u8],
+    read: u32,
+) -> Result<MemFiles, AllocError> {
+    let mut files = MemFiles::new(alloc, &[read])?;
+    add_texts(&mut files, source, other)?;
+    Ok(files)
+}
+
+/// A file: its name and its bytes.
+pub(crate) type Stored<'a> = (&'a str, &'a [u8]);
+
+fn add_two(files: &mut MemFiles, source: Stored<'_>, other: Stored<'_>) -> Result<(), AllocError> {
+    files.add(source.0, source.1)?;
+    files.add(other.0, other.1)
+}
+
+/// A source and another file, of which one reading fails.
+pub(crate) fn stored(
+    alloc: Global,
+    source: Stored<'_>,
+    other: Stored<'_>,
+    read: u32,
+) -> Result<MemFiles, AllocError> {
+    let mut files = MemFiles::new(alloc, &[read])?;
+    add_two(&mut files, source, other)?;
+    Ok(files)
+}
+
+// The status of a command that asks the rules.
+fn status_of(
+    alloc: Global,
+    words: &[&str],
+    files: &mut MemFiles,
+    out: &mut MemSink,
+    err: &mut MemSink,
+) -> u8 {
+    rcap(alloc, words, files, out, err, &mut Rules)
+}
+
+/// Runs a command on these files, of which these writes fail.
+pub(crate) fn run_on(
+    alloc: Global,
+    words: &[&str],
+    files: &mut MemFiles,
+    failing: Failing,
+) -> Result<Done, AllocError> {
+    let mut out = MemSink::new(alloc, &[failing.out])?;
+    let mut err = MemSink::new(alloc, &[failing.err])?;
+    let status = status_of(alloc, words, files, &mut out, &mut err);
+    Ok(Done { status, out, err })
+}
+
+/// Runs a command on a source and the other text, where nothing fails.
+pub(crate) fn run(
+    alloc: Global,
+    words: &[&str],
+    source: &[u8],
+    other: &[u8],
+) -> Result<Done, AllocError> {
+    let mut files = files_of(alloc, source, other, 0)?;
+    run_on(alloc, words, &mut files, NOTHING)
+}
+
+/// Whether what a command did is what is wanted.
+pub(crate) fn is_wanted(done: &Done, wanted: Wanted<'_>) -> bool {
+    done.status == wanted.status && done.out.bytes() == wanted.out && done.err.bytes() == wanted.err
+}
+
+/// Whether the status is 0, and nothing stands on err.
+pub(crate) fn is_done(done: &Done) -> bool {
+    done.status == 0 && done.err.bytes().is_empty()
+}
