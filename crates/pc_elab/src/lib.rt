@@ -2,8 +2,6 @@
 //!
 //! Proved: `elaborate` gives the core that stands for a file, or its first fault, for every file that tokens spell and
 //! whose names were collected; that core is formed and small (`cores_are_formed`).
-//!
-//! Only tested: chains of traits, with all their methods.
 #![tactic(auto)]
 
 mod elaborating;
