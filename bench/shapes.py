@@ -358,6 +358,22 @@ def chain_of_new_methods(part):
     yield from main_with(["0"])
 
 
+@shape("24,000 methods of the first of 500 traits in a chain", LIMIT)
+def many_methods_above_a_chain(part):
+    yield "trait T0\n"
+    yield from (f"  fun m{n}()\n" for n in numbered(part, 24_000))
+    yield from (f"trait T{n + 1} is T{n}\n" for n in numbered(part, 499))
+    yield from main_with(["0"])
+
+
+@shape("24,000 methods of the first of 300 traits, each below all before it", LIMIT)
+def many_methods_above_many_names(part):
+    yield "trait T0\n"
+    yield from (f"  fun m{n}()\n" for n in numbered(part, 24_000))
+    yield from (f"trait T{n} is ({' & '.join(f'T{k}' for k in range(n))})\n" for n in numbered(part, 300) if n > 0)
+    yield from main_with(["0"])
+
+
 # Bodies of traits, which stand in the core once for each entity that takes them over.
 
 
