@@ -1,9 +1,9 @@
 //! Reference capabilities, their forms, the order on forms and the tables on them; and the small types that every
-//! layer shares, `Span`, `List` and `SharedBytes`.
+//! layer shares, `Span`, `List` and `SharedList`.
 //!
 //! Proved: `below` is the closure of the ten pairs; `plain`, `unalias`, `stored`, `fits`, `view`, `taken`, `may_write`,
 //! `lift`, `sendable` and `sendable_form` are their tables. `List<T>` is a list, and may stand inside recursive types;
-//! `SharedBytes` are bytes, whoever else has them.
+//! `SharedList<T>` is a list that never changes, whoever else has it.
 #![tactic(auto)]
 
 mod capability;
@@ -17,5 +17,5 @@ pub use capability::{Cap, Form, plain, sendable, sendable_form, stored, unalias}
 pub use list::List;
 pub use order::{below, fits};
 pub use place::{lift, may_write, taken, view};
-pub use shared::SharedBytes;
+pub use shared::SharedList;
 pub use span::Span;

@@ -1,6 +1,6 @@
 //! What stands inside the methods: slots and nodes.
 
-use pc_caps::{Cap, List, SharedBytes, Span};
+use pc_caps::{Cap, List, SharedList, Span};
 use pc_tree::Op;
 
 /// The kind of a slot.
@@ -36,7 +36,7 @@ pub enum NodeKind {
     /// `true` or `false`.
     Truth(bool),
     /// A text, as its bytes.
-    Text(SharedBytes),
+    Text(SharedList<u8>),
     /// The value of a primitive, by the entity's number.
     Prim(u32),
     /// `this`.
@@ -84,7 +84,7 @@ pub enum NodeKind {
 pub struct Node {
     pub kind: NodeKind,
     /// The parts that are evaluated before it ends, by their numbers, in the order of evaluation.
-    pub children: List<u32>,
+    pub children: SharedList<u32>,
     /// The number of `recover` bodies around it within its method.
     pub depth: u32,
     /// The method that it belongs to.

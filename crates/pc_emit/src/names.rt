@@ -11,7 +11,7 @@ ghost use Rattle.pc_emit.specs.Closing.{name_closes};
 use crate::nodes::{double, gap, leaf, single};
 use crate::setting::Setting;
 use crate::stop::EmitStop;
-use pc_caps::{List, SharedBytes, Span};
+use pc_caps::{List, SharedList, Span};
 use pc_core::{Node, NodeKind};
 use pc_resolve::{Constructors, Meaning, TypeMeaning, Visible, slot_of};
 use pc_tree::Name;
@@ -80,7 +80,7 @@ pub(crate) fn write_field(
 pub(crate) fn read_text(
     setting: &Setting,
     nodes: &mut List<Node>,
-    bytes: &SharedBytes,
+    bytes: &SharedList<u8>,
     span: Span,
 ) -> Result<u32, EmitStop>
     ensures { Gives result nodes.new (put setting.now.number (roses.leaf (kinds.Text bytes.now) span setting.now.depth) nodes.old) }

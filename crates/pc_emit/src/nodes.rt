@@ -6,7 +6,7 @@ ghost use Rattle.pc_emit.specs.Giving.{Gives};
 
 use crate::setting::Setting;
 use crate::stop::EmitStop;
-use pc_caps::{List, Span};
+use pc_caps::{List, SharedList, Span};
 use pc_core::{Node, NodeKind};
 use pc_tree::Op;
 use std::alloc::{AllocError, Global};
@@ -29,6 +29,7 @@ pub(crate) fn push(
     if place >= NODE_LIMIT {
         return Err(EmitStop::Full);
     }
+    let children = SharedList::from_list(setting.alloc, children)?;
     nodes.push(Node {
         kind,
         children,

@@ -7,7 +7,7 @@ ghost use Rattle.pc_expr.specs.Onto as onto;
 
 use crate::stop::ParseStop;
 use crate::tokens::{look, take_sign, take_word};
-use pc_caps::{Cap, List, SharedBytes};
+use pc_caps::{Cap, List, SharedList};
 use pc_grammar::cap_of;
 use pc_token::{Sign, Token, TokenKind, Word, is_sign};
 use pc_tree::{Expr, Name, TypeRef, join};
@@ -143,7 +143,7 @@ pub fn text(alloc: Global, tokens: &[Token], at: usize) -> Result<(Expr, usize),
     let token = look(tokens, at);
     match &token.kind {
         TokenKind::Text(bytes) => {
-            let bytes = SharedBytes::from_slice(alloc, bytes.as_slice())?;
+            let bytes = SharedList::from_slice(alloc, bytes.as_slice())?;
             let span = token.span;
             Ok((Expr::Text { bytes, span }, at + 1))
         }

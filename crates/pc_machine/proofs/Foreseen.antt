@@ -1,5 +1,5 @@
 -- What an actor's next step is, by what stands on top of its frames, its tasks and its mailbox.
-use Rattle.std.proofs.Common.{◌≡◌, ℕ, zero, suc, ◌<◌, List, [], ◌∷◌, drop, Option, Some, None, refl, sym, ap, ◌∙◌, arith}
+use Rattle.std.proofs.Common.{◌≡◌, ℕ, zero, suc, ◌<◌, List, [], ◌∷◌, drop, Some, None, refl, sym, ap, ◌∙◌, arith}
 use Rattle.std.specs.Prelude.{slice_get}
 use Rattle.pc_core.specs.CoreData.{CoreData}
 use Rattle.pc_semantics.specs.declared.actors.Actor.{Actor}
@@ -10,7 +10,6 @@ use Rattle.pc_semantics.specs.Configurations.{Configuration}
 use Rattle.pc_semantics.specs.Around.{Around, with_tasks}
 use Rattle.pc_semantics.specs.Tasks.{task_move}
 use Rattle.pc_semantics.specs.Step.{around, begin_method, printed_text, take_first}
-use Rattle.pc_ahead.specs.declared.ahead.Ahead.{Ahead}
 use Rattle.pc_ahead.specs.declared.ahead.Ahead.TheVariants as ahead
 use Rattle.pc_ahead.specs.Ahead.{by_move, by_outcome, of_tasks, of_frames, of_actor, ahead_of}
 use Rattle.pc_tasks.specs.Inside.{first_move}

@@ -20,8 +20,7 @@ use Rattle.pc_semantics.specs.declared.outcome.Outcome.{Outcome}
 use Rattle.pc_semantics.specs.Configurations.{Configuration, own_address, with_frames}
 use Rattle.pc_semantics.specs.Around.{Move, Stuck, Overflows, Goes, Writes, Makes, Spawns, Enters, Sends, Leaves, with_tasks}
 use Rattle.pc_semantics.specs.Step.{around, begin_method, begun, delivered, made, printed_text, run_frames, run_task, step, step_of, take, take_first}
-use Rattle.pc_tasks.specs.Fielded.{Fielded}
-use Rattle.pc_machine.specs.States.{Peopled, Sound, IsSound}
+use Rattle.pc_machine.specs.States.{Sound, IsSound}
 use Rattle.pc_machine.proofs.Allowed.{Allowed, task_allowed}
 use Rattle.pc_machine.proofs.Entitled.{field_written, object_comes}
 use Rattle.pc_machine.proofs.Peopling.{peopled_actor, peopled_again, peopled_object}

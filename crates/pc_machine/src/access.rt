@@ -80,6 +80,6 @@ pub fn access_of(core: &Core, state: &State, actor: u32) -> Option<Access>
     let found = state.actors.get(actor as usize)?;
     let frame = found.frames.top()?;
     let task = frame.tasks.top()?;
-    let (name, write) = touched_name(core, *task)?;
+    let (name, write) = touched_name(core, task)?;
     access_on(core, &state.heap, frame, name, write)
 }

@@ -190,8 +190,7 @@ fn end_of(frame: &Frame, method: &Method) -> Ahead
             None => Ahead::Lacks,
         },
         MethodKind::New => match frame.slots.get(0) {
-            Some(Some(_)) => Ahead::Task,
-            Some(None) => Ahead::Lacks,
+            Some(_) => Ahead::Task,
             None => Ahead::Lacks,
         },
         MethodKind::Be => Ahead::Task,
@@ -217,7 +216,7 @@ fn first_call(core: &Core, heap: &Heap, actors: usize, frame: &Frame) -> Ahead
     let Some(task) = frame.tasks.top() else {
         return Ahead::Lacks;
     };
-    match *task {
+    match task {
         Task::Make(number) => match core.node_at(number) {
             Some(node) => make(core, frame, node),
             None => Ahead::Lacks,

@@ -38,7 +38,7 @@ fn copied(alloc: Global, values: &[Value]) -> Result<Arguments, AllocError>
 {
     let mut arguments = Arguments::new(alloc);
     for value in values {
-        arguments.push(value.copy(alloc)?)?;
+        arguments.push(value.copy()?)?;
     }
     Ok(arguments)
 }

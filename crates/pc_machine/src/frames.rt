@@ -4,48 +4,35 @@ ghost use Rattle.pc_semantics.specs.Around.{first_frame, pushed};
 ghost use Rattle.pc_machine.specs.Plans.{after_call, given, entered, ended, frames_changed, Suits};
 
 use crate::plan::Change;
-use pc_caps::List;
 use pc_core::Method;
 use pc_heap::Value;
-use pc_semantics::{Frame, Stack, Task};
+use pc_semantics::{Frame, Slots, Stack, Task, Tasks};
 use std::alloc::{AllocError, Global};
 
 // A frame that holds the place of another. It takes no memory.
 fn blank(alloc: Global) -> Frame {
     Frame {
         method: 0,
-        slots: List::new(alloc),
+        slots: Slots::new(Vec::new(alloc), 0),
         stack: Stack::new(alloc),
-        tasks: Stack::new(alloc),
+        tasks: Tasks::new(alloc),
     }
 }
 
-// The slots of `this` and of the arguments, with room for as many slots as are named.
+// The values of `this` and of the arguments, each in a slot.
 fn argument_slots(
     alloc: Global,
-    slots: usize,
     this: Value,
     arguments: &[Value],
 ) -> Result<Vec<Option<Value>>, AllocError>
     ensures { IfOk result (λ filled. filled.items ≡ Some this ∷ map Some arguments.now) }
 {
-    let mut filled = Vec::with_capacity(alloc, slots)?;
+    let mut filled = Vec::with_capacity(alloc, arguments.len().saturating_add(1))?;
     filled.push(Some(this))?;
     for argument in arguments {
-        filled.push(Some(argument.copy(alloc)?))?;
+        filled.push(Some(argument.copy()?))?;
     }
     Ok(filled)
-}
-
-// So many empty slots behind the others.
-#[tactic(auto, using(std::proofs::lemmas::List::replicate_more))]
-fn add_empty(slots: &mut Vec<Option<Value>>, count: usize) -> Result<(), AllocError>
-    ensures { OnOk result (slots.new.items ≡ slots.old.items ++ replicate count None) }
-{
-    for _ in 0..count {
-        slots.push(None)?;
-    }
-    Ok(())
 }
 
 /// The frame of a method that begins, by its number and its body, with `this` and the arguments.
@@ -59,17 +46,14 @@ pub fn begin_frame(
 ) -> Result<Frame, AllocError>
     ensures { IfOk result (λ frame. frame ≡ first_frame number method.now this arguments.now body) }
 {
-    let count = method.slots as usize;
-    let mut slots = argument_slots(alloc, count, this, arguments)?;
-    add_empty(
-        &mut slots,
-        count.saturating_sub(1).saturating_sub(arguments.len()),
-    )?;
-    let mut tasks = Stack::new(alloc);
+    let empty = (method.slots as usize)
+        .saturating_sub(1)
+        .saturating_sub(arguments.len());
+    let mut tasks = Tasks::new(alloc);
     tasks.push(Task::Eval(body))?;
     Ok(Frame {
         method: number,
-        slots: List::from_vec(slots),
+        slots: Slots::new(argument_slots(alloc, this, arguments)?, empty),
         stack: Stack::new(alloc),
         tasks,
     })

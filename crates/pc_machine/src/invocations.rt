@@ -37,7 +37,7 @@ fn plan_function(
     let Some(body) = method.body else {
         return Ok(Plan::Lacks(Lack::Method));
     };
-    let this = this.copy(alloc)?;
+    let this = this.copy()?;
     let frame = begin_frame(alloc, number, method, this, arguments, body)?;
     Ok(Plan::Changes(Change::Enters {
         count: arguments.len() + 1,

@@ -113,9 +113,8 @@ fn make(
 {
     state.heap.reserve(actor, fields)?;
     let mut callee = frame;
-    let _ = callee
-        .slots
-        .replace(0, Some(Value::At(state.heap.reserved())));
+    let this = Value::At(state.heap.reserved());
+    let _ = callee.slots.put(0, this)?;
     let change = Change::Enters {
         count,
         frame: callee,

@@ -28,7 +28,7 @@ pub fn plan_first(
     let Some(task) = frame.tasks.top() else {
         return Ok(Plan::Lacks(Lack::Value));
     };
-    match *task {
+    match task {
         Task::Make(number) => match core.node_at(number) {
             Some(node) => plan_make(alloc, core, frame, node),
             None => Ok(Plan::Lacks(Lack::Value)),
@@ -41,7 +41,7 @@ pub fn plan_first(
             Some(node) => plan_invoke(alloc, core, heap, actors, frame, node),
             None => Ok(Plan::Lacks(Lack::Value)),
         },
-        Task::Return => plan_return(alloc, core, frame),
+        Task::Return => plan_return(core, frame),
         _ => unreachable!(),
     }
 }

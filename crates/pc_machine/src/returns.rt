@@ -9,17 +9,17 @@ use crate::plan::{Change, Plan};
 use pc_core::{Core, MethodKind};
 use pc_heap::Value;
 use pc_semantics::{Frame, Lack};
-use std::alloc::{AllocError, Global};
+use std::alloc::AllocError;
 
 // A copy of a value is left.
-fn plan_leave(alloc: Global, value: &Value) -> Result<Plan, AllocError>
+fn plan_leave(value: &Value) -> Result<Plan, AllocError>
     ensures { IfOk result (λ plan. plan ≡ Plan.Changes (Change.Leaves (Some value.now))) }
 {
-    Ok(Plan::Changes(Change::Leaves(Some(value.copy(alloc)?))))
+    Ok(Plan::Changes(Change::Leaves(Some(value.copy()?))))
 }
 
 /// What the task Return of a frame is about to do.
-pub fn plan_return(alloc: Global, core: &Core, frame: &Frame) -> Result<Plan, AllocError>
+pub fn plan_return(core: &Core, frame: &Frame) -> Result<Plan, AllocError>
     ensures means { IfOk result (λ plan. (around : Around) → move_of around plan frame.now
         ≡ return_task (relieved frame.now) (slice_get core.now.methods frame.now.method)) }
     ensures fits { IfOk result (λ plan. Fits plan (length frame.now.stack)) }
@@ -29,12 +29,12 @@ pub fn plan_return(alloc: Global, core: &Core, frame: &Frame) -> Result<Plan, Al
     };
     match method.kind {
         MethodKind::Fun => match frame.stack.top() {
-            Some(value) => plan_leave(alloc, value),
+            Some(value) => plan_leave(value),
             None => Ok(Plan::Lacks(Lack::Value)),
         },
         MethodKind::New => match frame.slots.get(0) {
-            Some(Some(this)) => plan_leave(alloc, this),
-            _ => Ok(Plan::Lacks(Lack::Slot)),
+            Some(this) => plan_leave(this),
+            None => Ok(Plan::Lacks(Lack::Slot)),
         },
         MethodKind::Be | MethodKind::Spawn => Ok(Plan::Changes(Change::Leaves(None))),
     }

@@ -6,7 +6,7 @@ ghost use Rattle.pc_machine.specs.Plans.{after_call, move_of, Fits};
 ghost use Rattle.pc_semantics.specs.declared.frames.Frame.{Frame};
 
 use crate::plan::{Change, Plan};
-use pc_caps::List;
+use pc_caps::{List, SharedList};
 use pc_core::Core;
 use pc_heap::Value;
 use pc_semantics::Lack;
@@ -73,7 +73,7 @@ pub fn plan_string(
     match text_of(alloc, this)? {
         Some(text) => Ok(Plan::Changes(Change::Gives {
             count: arguments.len() + 1,
-            value: Value::Text(text),
+            value: Value::Text(SharedList::from_list(alloc, text)?),
         })),
         None => Ok(Plan::Lacks(Lack::Method)),
     }

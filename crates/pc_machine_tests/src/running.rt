@@ -1,10 +1,9 @@
 //! A constructor that is run to its end. What is refused memory is done once more.
 use crate::heaps::made;
 use crate::held::{Held, holds};
-use pc_caps::List;
 use pc_core::{Core, Method};
 use pc_heap::{Address, Heap, Value};
-use pc_semantics::{Frame, Outcome, Stack, Task};
+use pc_semantics::{Frame, Outcome, Slots, Stack, Task, Tasks};
 use pc_tasks::{is_inside, run_inside};
 use pc_test_sources::core_of;
 use std::alloc::{AllocError, Global};
@@ -18,30 +17,27 @@ pub struct Ended {
     pub is_done: bool,
 }
 
-// What can be counted in a frame: its values, its tasks with the first of them, and its slots that hold something.
-type Counts = (usize, usize, Option<Task>, usize);
+// What can be told of a frame: how many values it has, its first task, and how many of its slots, of which there are at most
+// 64, hold something.
+type Told = (usize, Option<Task>, usize);
 
-fn counts_of(frame: &Frame) -> Counts {
-    let slots = frame.slots.as_slice();
-    let held = slots.iter().filter(|slot| slot.is_some()).count();
-    (
-        frame.stack.len(),
-        frame.tasks.len(),
-        frame.tasks.top().copied(),
-        held,
-    )
+fn told_of(frame: &Frame) -> Told {
+    let held = (0..64)
+        .filter(|slot| frame.slots.get(*slot).is_some())
+        .count();
+    (frame.stack.len(), frame.tasks.top(), held)
 }
 
-// How a step ends, tried once more where memory was refused. There is no answer where the refusal changed a count.
+// How a step ends, tried once more where memory was refused. There is no answer where the refusal changed what can be told.
 fn step(alloc: Global, core: &Core, heap: &mut Heap, frame: &mut Frame) -> Option<Outcome> {
     if !is_inside(frame) {
         return None;
     }
-    let before = counts_of(frame);
+    let before = told_of(frame);
     if let Ok(outcome) = run_inside(alloc, core, heap, frame) {
         return Some(outcome);
     }
-    if counts_of(frame) == before {
+    if told_of(frame) == before {
         run_inside(alloc, core, heap, frame).ok()
     } else {
         None
@@ -64,10 +60,7 @@ fn last_outcome(alloc: Global, core: &Core, heap: &mut Heap, frame: &mut Frame) 
 }
 
 fn slot_holds(frame: &Frame, slot: usize, wanted: Held<'_>) -> bool {
-    match frame.slots.get(slot) {
-        Some(held) => holds(held.as_ref(), Some(wanted)),
-        None => false,
-    }
+    holds(frame.slots.get(slot), Some(wanted))
 }
 
 // Whether the slots behind the parameter of a constructor hold these values.
@@ -82,7 +75,7 @@ fn slots_hold(frame: &Frame, wanted: &[Held<'_>]) -> bool {
 
 // Whether a frame is at its Return, with one value on the stack.
 fn is_at_return(frame: &Frame) -> bool {
-    frame.tasks.top().copied() == Some(Task::Return) && frame.stack.len() == 1
+    frame.tasks.top() == Some(Task::Return) && frame.stack.len() == 1
 }
 
 fn run(
@@ -98,18 +91,15 @@ fn run(
 }
 
 // So many slots, of which the first holds an object.
-fn slots_of(alloc: Global, this: Address, count: u32) -> Result<List<Option<Value>>, AllocError> {
-    let mut slots = List::new(alloc);
-    slots.push(Some(Value::At(this)))?;
-    for _ in 1..count {
-        slots.push(None)?;
-    }
-    Ok(slots)
+fn slots_of(alloc: Global, this: Address, count: u32) -> Result<Slots, AllocError> {
+    let mut held = Vec::new(alloc);
+    held.push(Some(Value::At(this)))?;
+    Ok(Slots::new(held, (count as usize).saturating_sub(1)))
 }
 
 // The frame of the constructor of an object, about to begin.
 fn frame_of(alloc: Global, this: Address, slots: u32, body: u32) -> Result<Frame, AllocError> {
-    let mut tasks = Stack::new(alloc);
+    let mut tasks = Tasks::new(alloc);
     tasks.push(Task::Eval(body))?;
     Ok(Frame {
         method: 1,

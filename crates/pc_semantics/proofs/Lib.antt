@@ -3,3 +3,5 @@ mod Maps
 mod Parts
 mod Computed
 mod Unmoved
+mod Pending
+mod Held

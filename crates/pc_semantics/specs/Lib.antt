@@ -14,3 +14,4 @@ pub mod Programs
 pub mod Examples
 pub mod Laws
 pub mod Lending
+pub mod Pending

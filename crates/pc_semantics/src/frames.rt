@@ -1,7 +1,8 @@
 //! What an actor is doing.
 
+use crate::slots::Slots;
 use crate::stack::Stack;
-use pc_caps::List;
+use crate::tasks::Tasks;
 use pc_heap::Value;
 
 /// What is to be done next. Each number is that of a node of the core.
@@ -41,9 +42,9 @@ pub struct Frame {
     /// The number of the method.
     pub method: u32,
     /// What its slots hold, `this` first. A slot that holds nothing is empty.
-    pub slots: List<Option<Value>>,
+    pub slots: Slots,
     /// The values that are not used yet.
     pub stack: Stack<Value>,
     /// What is to be done, the first task on top.
-    pub tasks: Stack<Task>,
+    pub tasks: Tasks,
 }

@@ -5,7 +5,8 @@
 //! Proved: What a program does, as definitions: configurations, one step of an actor, runs over every schedule, races,
 //! and when a program is safe. Small programs are run in them (`hello_runs` and its like): texts and counts, messages
 //! in order, each lack, a text that is too long, races that are seen. A step that does not move leaves the
-//! configuration as it was (`only_moves_change`). The types of stacks and mailboxes, with their calls.
+//! configuration as it was (`only_moves_change`). The types of stacks, tasks, slots and mailboxes, with their calls:
+//! `Tasks` and `Slots` are the lists that the definitions have, also where they take less memory.
 #![tactic(auto)]
 
 mod access;
@@ -15,7 +16,9 @@ mod frames;
 mod laws;
 mod mailbox;
 mod outcome;
+mod slots;
 mod stack;
+mod tasks;
 
 pub use access::Access;
 pub use actors::Actor;
@@ -29,4 +32,6 @@ pub use laws::{
 };
 pub use mailbox::{Mailbox, Message};
 pub use outcome::{Lack, Outcome};
+pub use slots::Slots;
 pub use stack::Stack;
+pub use tasks::Tasks;

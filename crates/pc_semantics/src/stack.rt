@@ -1,7 +1,7 @@
 //! The values that a frame works on, with the last one on top.
-ghost use Rattle.std.specs.Prelude.{◌≡◌, ◌-◌, ◌<◌, ◌≤◌, ◌↔◌, ◌∷◌, ◌++◌, [], length, take, drop, reverse, slice_get, slice_set, option_copied, Some, IsSome, IfSome, OnOk, OnErr, IfErr};
+ghost use Rattle.std.specs.Prelude.{◌≡◌, ◌-◌, ◌<◌, ◌≤◌, ◌↔◌, ◌∷◌, [], length, take, drop, reverse, slice_get, slice_set, option_copied, Some, IsSome, IfSome, OnOk, OnErr, IfErr};
 
-use std::alloc::{AllocError, AllocFailed, Global};
+use std::alloc::{AllocFailed, Global};
 use std::marker::Model;
 use std::mem;
 
@@ -103,16 +103,6 @@ impl<T> Stack<T> {
         replace_from_end(&mut self.items, place, value)
     }
 
-    /// Puts values on the stack, of which the first becomes the top. An `Err` changes nothing.
-    pub fn push_all(&mut self, values: &[T]) -> Result<(), AllocError>
-    where
-        T: Copy + Drop,
-        ensures ok { OnOk result (self.new ≡ values.now ++ self.old) }
-        ensures err { OnErr result (self.new ≡ self.old) }
-    {
-        append_reversed(&mut self.items, values)
-    }
-
     /// The topmost values, the deepest of them first. `None` exactly where there are not so many.
     pub fn topmost(&self, count: usize) -> Option<&[T]>
         ensures enough { IsSome result ↔ (count ≤ length self.now) }
@@ -142,23 +132,6 @@ fn last_values<T>(items: &[T], count: usize) -> &[T]
     ensures { result.now ≡ drop (length items.now - count) items.now }
 {
     &items[items.len() - count..]
-}
-
-// The values behind the others, the last one first. An `Err` changes nothing.
-fn append_reversed<T: Copy + Drop>(items: &mut Vec<T>, values: &[T]) -> Result<(), AllocError>
-    ensures ok { OnOk result (items.new.items ≡ items.old.items ++ reverse values.now) }
-    ensures err { OnErr result (items.new.items ≡ items.old.items) }
-{
-    let before = items.len();
-    let mut left = values.len();
-    'values: while left > 0 {
-        left -= 1;
-        if items.push(values[left]).is_err() {
-            items.truncate(before);
-            return Err(AllocError);
-        }
-    }
-    Ok(())
 }
 
 // Another value in place of the last one.

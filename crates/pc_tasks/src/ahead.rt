@@ -28,8 +28,7 @@ fn slot(frame: &Frame, slot: u32) -> Ahead
     ensures taken { result ≡ by_move (evaluation.take_slot (relieved frame.now) slot (slice_get frame.now.slots slot)) }
 {
     match frame.slots.get(slot as usize) {
-        Some(Some(_)) => Ahead::Task,
-        Some(None) => Ahead::Lacks,
+        Some(_) => Ahead::Task,
         None => Ahead::Lacks,
     }
 }
@@ -374,7 +373,7 @@ fn first_ahead(core: &Core, heap: &Heap, frame: &Frame) -> Ahead
     let Some(task) = frame.tasks.top() else {
         unreachable!()
     };
-    match *task {
+    match task {
         Task::Eval(n) => evaluate(core, frame, n),
         Task::Get(n) => get(core, heap, frame, n),
         Task::Put(n) => put(core, heap, frame, n),

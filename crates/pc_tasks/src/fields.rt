@@ -9,16 +9,10 @@ use crate::values::none;
 use pc_core::{Core, NodeKind};
 use pc_heap::{Heap, Value};
 use pc_semantics::{Frame, Lack, Outcome};
-use std::alloc::{AllocError, Global};
+use std::alloc::AllocError;
 
 // The field of this name of the object on top is read.
-fn read(
-    alloc: Global,
-    core: &Core,
-    heap: &Heap,
-    frame: &mut Frame,
-    name: u32,
-) -> Result<Outcome, AllocError>
+fn read(core: &Core, heap: &Heap, frame: &mut Frame, name: u32) -> Result<Outcome, AllocError>
     requires { 0 < length frame.old.tasks }
     ensures ok { IfOk result (λ o. within frame.old (pop (relieved frame.old) (spec.get_from core.now (seeing heap.now.objects) name)) ≡ Some (o, frame.new)) }
     ensures err { OnErr result (frame.new ≡ frame.old) }
@@ -37,20 +31,14 @@ fn read(
     let Some(value) = heap.get(address, field) else {
         return Ok(Outcome::Lacks(Lack::Field));
     };
-    let value = value.copy(alloc)?;
+    let value = value.copy()?;
     let _ = frame.stack.replace_top(value);
     let _ = frame.tasks.pop();
     Ok(Outcome::Moved)
 }
 
 /// The task Get of node n: the origin goes, and the value of its field comes.
-pub fn get(
-    alloc: Global,
-    core: &Core,
-    heap: &Heap,
-    frame: &mut Frame,
-    n: u32,
-) -> Result<Outcome, AllocError>
+pub fn get(core: &Core, heap: &Heap, frame: &mut Frame, n: u32) -> Result<Outcome, AllocError>
     requires { 0 < length frame.old.tasks }
     ensures ok { IfOk result (λ o. within frame.old (at_node (slice_get core.now.nodes n) (λ x. spec.get_task core.now (seeing heap.now.objects) (relieved frame.old) x.kind)) ≡ Some (o, frame.new)) }
     ensures err { OnErr result (frame.new ≡ frame.old) }
@@ -59,42 +47,47 @@ pub fn get(
         return Ok(Outcome::Lacks(Lack::Value));
     };
     match &node.kind {
-        NodeKind::Field(name) => read(alloc, core, heap, frame, *name),
+        NodeKind::Field(name) => read(core, heap, frame, *name),
         _ => Ok(Outcome::Lacks(Lack::Value)),
     }
 }
 
 // The value on top is put into the slot, and the one before comes, or None.
-#[tactic(auto, using(std::proofs::lemmas::List::set_past, std::proofs::lemmas::Option::slice_get_past))]
-fn store_in(frame: &mut Frame, slot: u32) -> Outcome
+fn store_in(frame: &mut Frame, slot: u32) -> Result<Outcome, AllocError>
     requires { 0 < length frame.old.tasks }
-    ensures { within frame.old (pop (relieved frame.old) (spec.store slot)) ≡ Some (result, frame.new) }
+    ensures ok { IfOk result (λ o. within frame.old (pop (relieved frame.old) (spec.store slot)) ≡ Some (o, frame.new)) }
+    ensures err { OnErr result (frame.new ≡ frame.old) }
 {
     if frame.stack.len() == 0 {
-        return Outcome::Lacks(Lack::Value);
+        return Ok(Outcome::Lacks(Lack::Value));
     }
-    let place = slot as usize;
     let value = frame.stack.replace_top(none());
-    if place < frame.slots.len() {
-        if let Some(before) = frame.slots.replace(place, Some(value)) {
+    match frame.slots.put(slot as usize, value) {
+        Ok(Some(before)) => {
             let _ = frame.stack.replace_top(before);
+        }
+        Ok(None) => {}
+        Err(refused) => {
+            let _ = frame.stack.replace_top(refused.value);
+            return Err(AllocError);
         }
     }
     let _ = frame.tasks.pop();
-    Outcome::Moved
+    Ok(Outcome::Moved)
 }
 
 /// The task Store of node n: the value goes into the slot, and the one before comes, or None.
-pub fn store(core: &Core, frame: &mut Frame, n: u32) -> Outcome
+pub fn store(core: &Core, frame: &mut Frame, n: u32) -> Result<Outcome, AllocError>
     requires { 0 < length frame.old.tasks }
-    ensures { within frame.old (at_node (slice_get core.now.nodes n) (λ x. spec.store_task (relieved frame.old) x.kind)) ≡ Some (result, frame.new) }
+    ensures ok { IfOk result (λ o. within frame.old (at_node (slice_get core.now.nodes n) (λ x. spec.store_task (relieved frame.old) x.kind)) ≡ Some (o, frame.new)) }
+    ensures err { OnErr result (frame.new ≡ frame.old) }
 {
     let Some(node) = core.node_at(n) else {
-        return Outcome::Lacks(Lack::Value);
+        return Ok(Outcome::Lacks(Lack::Value));
     };
     match &node.kind {
         NodeKind::Define(slot) | NodeKind::Assign(slot) => store_in(frame, *slot),
-        _ => Outcome::Lacks(Lack::Value),
+        _ => Ok(Outcome::Lacks(Lack::Value)),
     }
 }
 

@@ -58,11 +58,11 @@ fn run_task(
     let Some(task) = frame.tasks.top() else {
         unreachable!()
     };
-    match *task {
-        Task::Eval(n) => evaluate_node(alloc, core, frame, n),
-        Task::Get(n) => get(alloc, core, heap, frame, n),
+    match task {
+        Task::Eval(n) => evaluate_node(core, frame, n),
+        Task::Get(n) => get(core, heap, frame, n),
         Task::Put(n) => Ok(put(core, heap, frame, n)),
-        Task::Store(n) => Ok(store(core, frame, n)),
+        Task::Store(n) => store(core, frame, n),
         Task::Apply(n) => apply(alloc, core, frame, n),
         Task::Test(n) => Ok(test(core, frame, n)),
         Task::Branch(n) => Ok(branch(core, frame, n)),

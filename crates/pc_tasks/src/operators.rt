@@ -5,7 +5,7 @@ ghost use Rattle.pc_semantics.specs.Operators as spec;
 ghost use Rattle.pc_tasks.specs.Applied.{applied_to};
 
 use crate::identity::same_truth;
-use pc_caps::List;
+use pc_caps::{List, SharedList};
 use pc_heap::Value;
 use pc_tree::Op;
 use std::alloc::{AllocError, Global};
@@ -79,7 +79,8 @@ fn joined(alloc: Global, left: &[u8], right: &[u8]) -> Result<Applied, AllocErro
     let mut bytes = Vec::with_capacity(alloc, length)?;
     bytes.extend_from_slice(left)?;
     bytes.extend_from_slice(right)?;
-    Ok(Applied::Gives(Value::Text(List::from_vec(bytes))))
+    let text = SharedList::from_list(alloc, List::from_vec(bytes))?;
+    Ok(Applied::Gives(Value::Text(text)))
 }
 
 // An operator on two texts.

@@ -1,7 +1,7 @@
 //! Trees of expressions and sequences.
 use crate::kinds::Op;
 use crate::names::{Name, TypeRef};
-use pc_caps::{Cap, List, SharedBytes, Span};
+use pc_caps::{Cap, List, SharedList, Span};
 
 /// A sequence: one or more items, of which the last gives the value.
 #[cycle(tree)]
@@ -47,7 +47,7 @@ pub enum Expr {
     /// A text literal.
     Text {
         /// The bytes that it stands for.
-        bytes: SharedBytes,
+        bytes: SharedList<u8>,
         span: Span,
     },
     Name(Name),

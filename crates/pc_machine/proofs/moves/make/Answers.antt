@@ -20,7 +20,7 @@ returns-clause-ok c =
     let reserved : c.reserved.result ≡ next_address c.reserve.new.self.objects c.args.actor = rw c.in_ok-reserve.ensures.ok at c.reserved.ensures in
     let objects : c.make.new.self.objects ≡ insert now.objects c.make.result (new_object c.args.entity c.args.fields) =
     c.make.ensures.objects ∙ ap (λ (m : ObjectMap). insert m c.make.result (new_object c.args.entity c.args.fields)) same in
-    let callee : Frame = record { method = frame.method; slots = c.replace.new.self; stack = frame.stack; tasks = frame.tasks } in
+    let callee : Frame = record { method = frame.method; slots = c.put.new.self; stack = frame.stack; tasks = frame.tasks } in
     ap (λ (m : ObjectMap). let o : Outcome × Configuration = (Moved, amended now m c.change_actor.new.actors) in o) objects
     ∙ made_object now c.args.actor c.args.count c.args.entity c.args.fields frame callee c.reserved.result c.make.result c.change_actor.new.actors c.requires.running (reserved ∙ next) (c.make.ensures.address ∙ next)
-    (ap (λ (ss : List (Option Value)). let f : Frame = record { method = frame.method; slots = ss; stack = frame.stack; tasks = frame.tasks } in f) c.replace.ensures.new) c.in_ok-change_actor.ensures.ok
+    (ap (λ (ss : List (Option Value)). let f : Frame = record { method = frame.method; slots = ss; stack = frame.stack; tasks = frame.tasks } in f) c.in_ok-put.ensures.ok) c.in_ok-change_actor.ensures.ok

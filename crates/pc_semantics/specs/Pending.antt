@@ -1,0 +1,33 @@
+-- Which tasks the entries of a frame stand for.
+use Rattle.std.specs.Prelude.{ℕ, List, [], ◌∷◌, map, drop}
+use Rattle.std.specs.List.{flat_map}
+use Rattle.pc_semantics.specs.declared.frames.Task.{Task}
+use Rattle.pc_semantics.specs.declared.frames.Task.TheVariants as task
+use Rattle.pc_semantics.specs.declared.tasks.Behind.{Behind}
+use Rattle.pc_semantics.specs.declared.tasks.Behind.TheVariants as behind
+use Rattle.pc_semantics.specs.declared.tasks.Entry.{Entry}
+
+-- Each child is evaluated.
+abbrev pub evaluated : List ℕ → List Task
+evaluated children = map (λ c. task.Eval c) children
+
+-- Before each child is evaluated, a value is dropped.
+abbrev pub as_items : List ℕ → List Task
+as_items children = flat_map (λ c. task.Discard ∷ task.Eval c ∷ []) children
+
+abbrev pub behind_tasks : Behind → List Task
+behind_tasks behind.Nothing = []
+behind_tasks (behind.Evaluations children place) = evaluated (drop place children)
+behind_tasks (behind.Items children place) = as_items (drop place children)
+behind_tasks (behind.Dropped children place) = drop 1 (as_items (drop place children))
+
+abbrev pub entry_tasks : Entry → List Task
+entry_tasks e = e.task ∷ behind_tasks e.behind
+
+-- The entry of a task behind which the entry below comes.
+abbrev pub single : Task → Entry
+single t = record { task = t; behind = behind.Nothing }
+
+-- The entries, the first on top.
+abbrev pub all_tasks : List Entry → List Task
+all_tasks entries = flat_map entry_tasks entries

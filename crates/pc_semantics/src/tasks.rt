@@ -1,0 +1,253 @@
+//! The tasks of a frame.
+ghost use Rattle.std.specs.Prelude.{◌≡◌, ◌<◌, ◌∷◌, ◌++◌, [], length, take, drop, slice_get, Some, MatchOption, OnOk, OnErr};
+ghost use Rattle.pc_semantics.specs.Evaluation.{evaluations, items};
+ghost use Rattle.pc_semantics.specs.Pending.{all_tasks, as_items, behind_tasks, entry_tasks, evaluated, single};
+
+use crate::frames::Task;
+use crate::stack::Stack;
+use pc_caps::SharedList;
+use std::alloc::{AllocError, Global};
+use std::marker::Model;
+
+/// What a frame has to do. It is seen as a list, the first task on top.
+///
+/// The children of a node wait in one entry, however many they are: the list that the core has of them, and a place in it.
+#[derive(Debug, Drop)]
+pub struct Tasks {
+    entries: Stack<Entry>,
+}
+
+// A task, and what follows it before the entry below.
+#[derive(Debug, Drop)]
+struct Entry {
+    task: Task,
+    behind: Behind,
+}
+
+// What follows a task, of the children of a node from a place on.
+#[derive(Debug, Drop)]
+enum Behind {
+    Nothing,
+    // Each child is evaluated.
+    Evaluations(SharedList<u32>, usize),
+    // Before each child is evaluated, a value is dropped.
+    Items(SharedList<u32>, usize),
+    // The same, where the first of these values is dropped.
+    Dropped(SharedList<u32>, usize),
+}
+
+impl Model for Tasks {
+    ghost use Rattle.std.specs.Prelude.{List as Sequence};
+    ghost use Rattle.pc_semantics.specs.declared.frames.Task.{Task};
+    ghost use Rattle.pc_semantics.specs.Pending.{all_tasks};
+
+    ghost Value = { Sequence Task };
+
+    ghost view = { λ tasks. all_tasks tasks.entries };
+}
+
+impl Tasks {
+    /// No task. It takes no memory.
+    pub fn new(alloc: Global) -> Tasks
+        ensures { result ≡ [] }
+    {
+        Tasks {
+            entries: Stack::new(alloc),
+        }
+    }
+
+    /// The first task. `None` exactly where there is none.
+    #[tactic(auto, using(crate::proofs::Pending::top_task, crate::proofs::Pending::no_task))]
+    pub fn top(&self) -> Option<Task>
+        ensures { result ≡ slice_get self.now 0 }
+    {
+        match self.entries.top() {
+            Some(entry) => Some(entry.task),
+            None => None,
+        }
+    }
+
+    /// Puts a task before the others. An `Err` changes nothing.
+    pub fn push(&mut self, task: Task) -> Result<(), AllocError>
+        ensures ok { OnOk result (self.new ≡ task ∷ self.old) }
+        ensures err { OnErr result (self.new ≡ self.old) }
+    {
+        self.entries.push(alone(task))?;
+        Ok(())
+    }
+
+    /// Takes the first task off. `None` exactly where there is none.
+    pub fn pop(&mut self) -> Option<Task>
+        ensures value { result ≡ slice_get self.old 0 }
+        ensures rest { self.new ≡ drop 1 self.old }
+    {
+        let task = self.top()?;
+        advance(&mut self.entries);
+        Some(task)
+    }
+
+    /// Puts another task in place of the first, and answers the one before. It takes no memory.
+    pub fn replace_top(&mut self, task: Task) -> Task
+        requires { 0 < length self.old }
+        ensures new { self.new ≡ task ∷ drop 1 self.old }
+        ensures top { slice_get self.old 0 ≡ Some result }
+    {
+        let Entry {
+            task: before,
+            behind,
+        } = self.entries.replace_top(alone(task));
+        let _ = self.entries.replace_top(Entry { task, behind });
+        before
+    }
+
+    /// Puts tasks before the others, of which the first becomes the first of all. An `Err` changes nothing.
+    pub fn push_all(&mut self, tasks: &[Task]) -> Result<(), AllocError>
+        ensures ok { OnOk result (self.new ≡ tasks.now ++ self.old) }
+        ensures err { OnErr result (self.new ≡ self.old) }
+    {
+        let mut left = tasks.len();
+        'tasks: while left > 0 {
+            left -= 1;
+            if self.entries.push(alone(tasks[left])).is_err() {
+                self.entries.discard(tasks.len() - 1 - left);
+                return Err(AllocError);
+            }
+        }
+        Ok(())
+    }
+
+    /// Puts the evaluations of these children before the other tasks. An `Err` changes nothing.
+    pub fn push_evaluations(&mut self, children: &SharedList<u32>) -> Result<(), AllocError>
+        ensures ok { OnOk result (self.new ≡ evaluations children.now ++ self.old) }
+        ensures err { OnErr result (self.new ≡ self.old) }
+    {
+        let Some(first) = children.as_slice().first() else {
+            return Ok(());
+        };
+        let entry = Entry {
+            task: Task::Eval(*first),
+            behind: Behind::Evaluations(children.share()?, 1),
+        };
+        self.entries.push(entry)?;
+        Ok(())
+    }
+
+    /// Puts the items of a sequence in place of the first task: each is evaluated, and its value is dropped before the next. An
+    /// `Err` changes nothing.
+    pub fn go_on_with_items(&mut self, children: &SharedList<u32>) -> Result<(), AllocError>
+        requires { 0 < length self.old }
+        ensures ok { OnOk result (self.new ≡ items children.now ++ drop 1 self.old) }
+        ensures err { OnErr result (self.new ≡ self.old) }
+    {
+        let Some(first) = children.as_slice().first() else {
+            advance(&mut self.entries);
+            return Ok(());
+        };
+        let entry = Entry {
+            task: Task::Eval(*first),
+            behind: Behind::Items(children.share()?, 1),
+        };
+        replace_first(&mut self.entries, entry)?;
+        Ok(())
+    }
+}
+
+// A task, behind which the entry below comes.
+fn alone(task: Task) -> Entry
+    ensures { result ≡ single task }
+{
+    Entry {
+        task,
+        behind: Behind::Nothing,
+    }
+}
+
+// The evaluation of the child at a place, and then of those behind it.
+fn evaluation_at(children: SharedList<u32>, place: usize) -> Option<Entry>
+    ensures { MatchOption result (evaluated (drop place children) ≡ []) (λ e. entry_tasks e ≡ evaluated (drop place children)) }
+{
+    let child = *children.as_slice().get(place)?;
+    Some(Entry {
+        task: Task::Eval(child),
+        behind: Behind::Evaluations(children, place + 1),
+    })
+}
+
+// A value is dropped, and then the item at a place comes.
+fn item_at(children: SharedList<u32>, place: usize) -> Option<Entry>
+    ensures { MatchOption result (as_items (drop place children) ≡ []) (λ e. entry_tasks e ≡ as_items (drop place children)) }
+{
+    let _ = children.as_slice().get(place)?;
+    Some(Entry {
+        task: Task::Discard,
+        behind: Behind::Dropped(children, place),
+    })
+}
+
+// The item at a place, where the value before it is dropped.
+fn dropped_at(children: SharedList<u32>, place: usize) -> Option<Entry>
+    ensures { MatchOption result (drop 1 (as_items (drop place children)) ≡ []) (λ e. entry_tasks e ≡ drop 1 (as_items (drop place children))) }
+{
+    let child = *children.as_slice().get(place)?;
+    Some(Entry {
+        task: Task::Eval(child),
+        behind: Behind::Items(children, place + 1),
+    })
+}
+
+// What follows a task, as an entry. `None` exactly where nothing does.
+fn following(behind: Behind) -> Option<Entry>
+    ensures { MatchOption result (behind_tasks behind ≡ []) (λ e. entry_tasks e ≡ behind_tasks behind) }
+{
+    match behind {
+        Behind::Nothing => None,
+        Behind::Evaluations(children, place) => evaluation_at(children, place),
+        Behind::Items(children, place) => item_at(children, place),
+        Behind::Dropped(children, place) => dropped_at(children, place),
+    }
+}
+
+// The first task goes.
+fn advance(entries: &mut Stack<Entry>)
+    ensures { all_tasks entries.new ≡ drop 1 (all_tasks entries.old) }
+{
+    if entries.len() == 0 {
+        return;
+    }
+    let Entry { behind, .. } = entries.replace_top(alone(Task::Discard));
+    match following(behind) {
+        Some(next) => {
+            let _ = entries.replace_top(next);
+        }
+        None => {
+            let _ = entries.pop();
+        }
+    }
+}
+
+// The second entry goes.
+fn drop_second(entries: &mut Stack<Entry>)
+    requires { 1 < length entries.old }
+    ensures { entries.new ≡ take 1 entries.old ++ drop 2 entries.old }
+{
+    if let Some(top) = entries.pop() {
+        let _ = entries.replace_top(top);
+    }
+}
+
+// An entry comes in place of the first task. An `Err` changes nothing.
+fn replace_first(entries: &mut Stack<Entry>, entry: Entry) -> Result<(), AllocError>
+    requires { 0 < length entries.old }
+    ensures ok { OnOk result (all_tasks entries.new ≡ entry_tasks entry ++ drop 1 (all_tasks entries.old)) }
+    ensures err { OnErr result (entries.new ≡ entries.old) }
+{
+    entries.push(entry)?;
+    let Entry { behind, .. } = entries.replace(1, alone(Task::Discard));
+    match following(behind) {
+        Some(next) => {
+            let _ = entries.replace(1, next);
+        }
+        None => drop_second(entries),
+    }
+    Ok(())
+}
