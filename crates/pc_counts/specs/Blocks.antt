@@ -1,4 +1,4 @@
--- What stands of 64 names in a row, by masks.
+-- As the code computes it: what stands of 64 names in a row, by masks.
 use Rattle.std.specs.Prelude.{ℕ, Bool, true, false}
 use Rattle.pc_ann.specs.declared.mask.Mask.{Mask}
 use Rattle.pc_ann.specs.Masks.{empty, first, with_number, without_number, meet, join}

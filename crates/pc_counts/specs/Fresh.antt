@@ -1,4 +1,4 @@
--- How many of some names each entity gets beside those that are written in it, by masks.
+-- As the code computes it: how many of some names each entity gets beside those that are written in it, by masks.
 use Rattle.std.specs.Prelude.{ℕ, ◌+◌, ◌-◌, List, [], ◌∷◌, count_ones, if◌then◌else◌}
 use Rattle.pc_ann.specs.declared.mask.Mask.{Mask}
 use Rattle.pc_ann.specs.Masks.{empty, first, without_number, meet, join}

@@ -1,4 +1,4 @@
--- The names of a file's methods, and the numbers of names among them.
+-- As the code computes it: the names of a file's methods, and the numbers of names among them.
 use Rattle.std.specs.Prelude.{ℕ, List, [], ◌∷◌, ◌++◌, map}
 use Rattle.std.specs.List.{position_or_len}
 use Rattle.std.specs.Str.{bytes_eq}

@@ -1,4 +1,4 @@
--- The places of the traits and interfaces of a file, by the count of the entities above them.
+-- As the code computes it: the places of the traits and interfaces of a file, by the count of the entities above them.
 use Rattle.std.specs.Prelude.{ℕ, zero, suc, ◌+◌, Bool, ◌&&◌, List, [], ◌∷◌, ◌++◌, length, nat_eq, if◌then◌else◌}
 use Rattle.pc_tree.specs.Kinds.{is_abstract}
 use Rattle.pc_tree.specs.Tree as t

@@ -1,4 +1,4 @@
--- What is made of a file before its names are gone through.
+-- As the code computes it: what is made of a file before its names are gone through.
 use Rattle.std.specs.Prelude.{◌≡◌, ℕ, List, [], map}
 use Rattle.pc_tree.specs.Tree as t
 use Rattle.pc_members.specs.Words.{entity_names}

@@ -1,4 +1,4 @@
--- The blocks of the traits and interfaces of a file for 64 names, from one number on.
+-- As the code computes it: the blocks of the traits and interfaces of a file for 64 names, from one number on.
 use Rattle.std.specs.Prelude.{◌≡◌, ℕ, ◌-◌, Bool, ◌&&◌, List, [], ◌∷◌, length, Option, Some, None, slice_get, slice_set, nat_le, nat_lt, if◌then◌else◌}
 use Rattle.pc_tree.specs.Tree as t
 use Rattle.pc_members.specs.Chains.{first_own}

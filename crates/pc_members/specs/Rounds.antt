@@ -1,5 +1,5 @@
--- How the members of a file's entities are found: first the methods of the traits and interfaces, each behind those that it names, and
--- then the members of each entity from these.
+-- As the code computes it: the members of a file's entities, first the methods of the traits and interfaces, each behind those that
+-- it names, and then the members of each entity from these.
 use Rattle.std.specs.Prelude.{◌≡◌, ◌⊎◌, ◌&&◌, ◌<◌, Bool, true, false, not, ℕ, ◌-◌, ◌+◌, List, [], ◌∷◌, ◌++◌, map, drop, length, Option, Some, None, slice_get, if◌then◌else◌}
 use Rattle.pc_tree.specs.declared.kinds.EntityKind.{EntityKind}
 use Rattle.pc_tree.specs.declared.names.Name.{Name}
