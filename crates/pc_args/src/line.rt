@@ -1,6 +1,7 @@
 //! The command line of the program, for clap: a command for each subcommand, with its required arguments.
-ghost use Rattle.std.specs.Prelude.{◌≡◌, false, true, IfErr, IfOk};
-ghost use Rattle.clap.specs.Words.{FailsBy, app_of, fault_of, kind_of, rule_of, subcommand_of, subcommand_rows_of, takes};
+ghost use Rattle.std.specs.Prelude.{◌≡◌, false, true, map, IfErr, IfOk};
+ghost use Rattle.clap.specs.Simple.{new_shape, shape_of};
+ghost use Rattle.clap.specs.Words.{FailsBy, app_of, fault_of, kind_of, rule_of, subcommand_of, subcommand_rows_of, takes, with_subcommand};
 ghost use Rattle.clap.specs.declared.builder.command.Command.TheViews.{out-Command as fields_of};
 ghost use Rattle.pc_args.specs.Asked.{texts};
 ghost use Rattle.pc_args.specs.Line as line;
@@ -17,80 +18,36 @@ fn make_positional<'a>(alloc: Global, id: &'a str) -> Arg<'a>
     Arg::new(alloc, id).required(true)
 }
 
-fn make_check<'a>(alloc: Global) -> Result<Command<'a>, AllocError>
-    ensures app { IfOk result (λ c. app_of c ≡ line.check) }
+// A command without subcommands, with these required arguments.
+fn make_leaf<'a>(alloc: Global, name: &'a str, ids: &[&'a str]) -> Result<Command<'a>, AllocError>
+    ensures shape { IfOk result (λ c. shape_of c ≡ record (new_shape name.entry.now) { rules = map line.positional (texts ids.now) }) }
     ensures local { IfOk result (λ c. (fields_of c).has_globals ≡ false) }
 {
-    Command::new(alloc, "check").arg(make_positional(alloc, "SRC"))
+    let mut leaf = Command::new(alloc, name);
+    for id in ids {
+        leaf = leaf.arg(make_positional(alloc, id))?;
+    }
+    Ok(leaf)
 }
 
-fn make_judge<'a>(alloc: Global) -> Result<Command<'a>, AllocError>
-    ensures app { IfOk result (λ c. app_of c ≡ line.judge) }
-    ensures local { IfOk result (λ c. (fields_of c).has_globals ≡ false) }
+// A command with one subcommand more, with these required arguments.
+fn with_leaf<'a>(
+    command: Command<'a>,
+    alloc: Global,
+    name: &'a str,
+    ids: &[&'a str],
+) -> Result<Command<'a>, AllocError>
+    ensures { IfOk result (λ c. app_of c ≡ with_subcommand (app_of command.entry) (record (new_shape name.entry.now) { rules = map line.positional (texts ids.now) })) }
 {
-    let source = Command::new(alloc, "judge").arg(make_positional(alloc, "SRC"))?;
-    source.arg(make_positional(alloc, "DERIV"))
-}
-
-fn make_run<'a>(alloc: Global) -> Result<Command<'a>, AllocError>
-    ensures app { IfOk result (λ c. app_of c ≡ line.run) }
-    ensures local { IfOk result (λ c. (fields_of c).has_globals ≡ false) }
-{
-    let source = Command::new(alloc, "run").arg(make_positional(alloc, "SRC"))?;
-    source.arg(make_positional(alloc, "SCHED"))
-}
-
-fn make_show<'a>(alloc: Global) -> Result<Command<'a>, AllocError>
-    ensures app { IfOk result (λ c. app_of c ≡ line.show) }
-    ensures local { IfOk result (λ c. (fields_of c).has_globals ≡ false) }
-{
-    Command::new(alloc, "show").arg(make_positional(alloc, "SRC"))
-}
-
-fn make_make<'a>(alloc: Global) -> Result<Command<'a>, AllocError>
-    ensures app { IfOk result (λ c. app_of c ≡ line.make) }
-    ensures local { IfOk result (λ c. (fields_of c).has_globals ≡ false) }
-{
-    let seed = Command::new(alloc, "make").arg(make_positional(alloc, "SEED"))?;
-    seed.arg(make_positional(alloc, "SIZE"))
-}
-
-fn make_swap<'a>(alloc: Global) -> Result<Command<'a>, AllocError>
-    ensures app { IfOk result (λ c. app_of c ≡ line.swap) }
-    ensures local { IfOk result (λ c. (fields_of c).has_globals ≡ false) }
-{
-    let source = Command::new(alloc, "swap").arg(make_positional(alloc, "SRC"))?;
-    let schedule = source.arg(make_positional(alloc, "SCHED"))?;
-    schedule.arg(make_positional(alloc, "PLACE"))
-}
-
-fn make_trace<'a>(alloc: Global) -> Result<Command<'a>, AllocError>
-    ensures app { IfOk result (λ c. app_of c ≡ line.trace) }
-    ensures local { IfOk result (λ c. (fields_of c).has_globals ≡ false) }
-{
-    let source = Command::new(alloc, "trace").arg(make_positional(alloc, "SRC"))?;
-    source.arg(make_positional(alloc, "SCHED"))
-}
-
-fn make_sends<'a>(alloc: Global) -> Result<Command<'a>, AllocError>
-    ensures app { IfOk result (λ c. app_of c ≡ line.sends) }
-    ensures local { IfOk result (λ c. (fields_of c).has_globals ≡ false) }
-{
-    Command::new(alloc, "sends").arg(make_positional(alloc, "SRC"))
-}
-
-fn make_upgrade<'a>(alloc: Global) -> Result<Command<'a>, AllocError>
-    ensures app { IfOk result (λ c. app_of c ≡ line.upgrade) }
-    ensures local { IfOk result (λ c. (fields_of c).has_globals ≡ false) }
-{
-    let upgrade = Command::new(alloc, "upgrade").arg(make_positional(alloc, "SRC"))?;
-    upgrade.arg(make_positional(alloc, "DERIV"))
+    match make_leaf(alloc, name, ids) {
+        Ok(leaf) => command.subcommand(leaf),
+        Err(error) => Err(error),
+    }
 }
 
 // The command line without a subcommand.
 fn make_bare<'a>(alloc: Global) -> Command<'a>
-    ensures app { app_of result ≡ line.bare }
-    ensures local { (fields_of result).has_globals ≡ false }
+    ensures { app_of result ≡ line.bare }
 {
     Command::new(alloc, "rcap")
         .no_binary_name(true)
@@ -98,52 +55,19 @@ fn make_bare<'a>(alloc: Global) -> Command<'a>
         .subcommand_required(true)
 }
 
-// With the subcommands that derivations are made and judged by.
-fn make_judging<'a>(alloc: Global) -> Result<Command<'a>, AllocError>
-    ensures app { IfOk result (λ c. app_of c ≡ line.judging) }
-    ensures local { IfOk result (λ c. (fields_of c).has_globals ≡ false) }
-{
-    make_bare(alloc)
-        .subcommand(make_check(alloc)?)?
-        .subcommand(make_judge(alloc)?)
-}
-
-// With those that run a source and show it.
-fn make_reading<'a>(alloc: Global) -> Result<Command<'a>, AllocError>
-    ensures app { IfOk result (λ c. app_of c ≡ line.reading) }
-    ensures local { IfOk result (λ c. (fields_of c).has_globals ≡ false) }
-{
-    make_judging(alloc)?
-        .subcommand(make_run(alloc)?)?
-        .subcommand(make_show(alloc)?)
-}
-
-// With those that make a program and exchange two turns.
-fn make_changing<'a>(alloc: Global) -> Result<Command<'a>, AllocError>
-    ensures app { IfOk result (λ c. app_of c ≡ line.changing) }
-    ensures local { IfOk result (λ c. (fields_of c).has_globals ≡ false) }
-{
-    make_reading(alloc)?
-        .subcommand(make_make(alloc)?)?
-        .subcommand(make_swap(alloc)?)
-}
-
-// With those that tell what a run and a source do.
-fn make_telling<'a>(alloc: Global) -> Result<Command<'a>, AllocError>
-    ensures app { IfOk result (λ c. app_of c ≡ line.telling) }
-    ensures local { IfOk result (λ c. (fields_of c).has_globals ≡ false) }
-{
-    make_changing(alloc)?
-        .subcommand(make_trace(alloc)?)?
-        .subcommand(make_sends(alloc)?)
-}
-
 // The whole command line, its words not yet read.
 fn make_rcap<'a>(alloc: Global) -> Result<Command<'a>, AllocError>
-    ensures app { IfOk result (λ c. app_of c ≡ line.rcap) }
-    ensures local { IfOk result (λ c. (fields_of c).has_globals ≡ false) }
+    ensures { IfOk result (λ c. app_of c ≡ line.rcap) }
 {
-    make_telling(alloc)?.subcommand(make_upgrade(alloc)?)
+    let check = with_leaf(make_bare(alloc), alloc, "check", &["SRC"])?;
+    let judge = with_leaf(check, alloc, "judge", &["SRC", "DERIV"])?;
+    let run = with_leaf(judge, alloc, "run", &["SRC", "SCHED"])?;
+    let show = with_leaf(run, alloc, "show", &["SRC"])?;
+    let make = with_leaf(show, alloc, "make", &["SEED", "SIZE"])?;
+    let swap = with_leaf(make, alloc, "swap", &["SRC", "SCHED", "PLACE"])?;
+    let trace = with_leaf(swap, alloc, "trace", &["SRC", "SCHED"])?;
+    let sends = with_leaf(trace, alloc, "sends", &["SRC"])?;
+    with_leaf(sends, alloc, "upgrade", &["SRC", "DERIV"])
 }
 
 /// The matches of the words, or why clap refuses them.

@@ -1,5 +1,6 @@
 //! What the words of a command line ask for.
-ghost use Rattle.std.specs.Prelude.{◌≡◌, option_and_then, option_map};
+ghost use Rattle.std.specs.Prelude.{◌≡◌, [], option_and_then, option_map, unwrap_or};
+ghost use Rattle.clap.specs.Matches.{first_value};
 ghost use Rattle.clap.specs.Words.{found_of, rows_of, subcommand_rows_of};
 ghost use Rattle.pc_args.specs.Asked.{asked_by, named, texts, value};
 ghost use Rattle.pc_args.specs.Reads.{Reads};
@@ -129,8 +130,12 @@ fn command_in<'a>(matches: &ArgMatches<'a>) -> Option<Command<'a>>
 fn value_of<'a>(matches: &ArgMatches<'a>, id: &str) -> &'a str
     ensures { result.now ≡ value id.now (rows_of (found_of matches.now)) }
 {
-    match matches.get_str(id) {
-        Some(text) => text,
-        None => "",
-    }
+    first_text(matches, id)
+}
+
+// The first value of an argument, or the empty text.
+fn first_text<'a>(matches: &ArgMatches<'a>, id: &str) -> &'a str
+    ensures { result.now ≡ unwrap_or (first_value (found_of matches.now) id.now) [] }
+{
+    matches.get_str(id).unwrap_or("")
 }

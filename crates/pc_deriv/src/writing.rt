@@ -24,8 +24,7 @@ fn push_head(
 {
     let version = version_name(version);
     let line = format!(in alloc; "rcap-derivation {version} {slots} {nodes}\n")?;
-    out.extend_from_slice(line.as_bytes())?;
-    Ok(())
+    out.extend_from_slice(line.as_bytes())
 }
 
 /// Puts the line of a slot at the end.
@@ -36,8 +35,7 @@ fn push_slot(alloc: Global, out: &mut Vec<u8>, slot: (u32, Cap)) -> Result<(), A
     let (entity, cap) = slot;
     let cap = cap_name(cap);
     let line = format!(in alloc; "s {entity} {cap}\n")?;
-    out.extend_from_slice(line.as_bytes())?;
-    Ok(())
+    out.extend_from_slice(line.as_bytes())
 }
 
 /// Puts the type of a node at the end.
@@ -53,8 +51,7 @@ fn push_type(alloc: Global, out: &mut Vec<u8>, ty: Option<(u32, Form)>) -> Resul
         Some((entity, form)) => {
             let form = form_name(form);
             let pair = format!(in alloc; "{entity} {form}")?;
-            out.extend_from_slice(pair.as_bytes())?;
-            Ok(())
+            out.extend_from_slice(pair.as_bytes())
         }
     }
 }
@@ -76,8 +73,7 @@ fn push_masks(
     let masks = format!(in alloc;
         " {live_before:x} {set_before:x} {live_shown:x} {set_shown:x}\n"
     )?;
-    out.extend_from_slice(masks.as_bytes())?;
-    Ok(())
+    out.extend_from_slice(masks.as_bytes())
 }
 
 /// Puts the line of a node at the end.
@@ -109,7 +105,6 @@ fn push_slots(alloc: Global, out: &mut Vec<u8>, slots: &[(u32, Cap)]) -> Result<
 }
 
 /// Puts the lines of nodes at the end.
-#[tactic(auto, using(crate::proofs::Fitting::fits_more))]
 fn push_notes(
     alloc: Global,
     out: &mut Vec<u8>,

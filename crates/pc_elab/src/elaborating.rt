@@ -1,6 +1,7 @@
 //! The core of a file.
 ghost use Rattle.std.specs.Prelude.{◌≡◌, ◌<◌, ◌^◌, map, length, IfOk, IfErr};
 ghost use Rattle.pc_tree.specs.View.{file_view};
+ghost use Rattle.pc_core.specs.Formed.{Formed};
 ghost use Rattle.pc_names.specs.Names.{Collected};
 ghost use Rattle.pc_file_spec.specs.Cores.{Stands, core_of};
 ghost use Rattle.pc_file_spec.specs.Known.{known_of, texts_of};
@@ -96,6 +97,24 @@ fn make_parts(
     })
 }
 
+// The same where no context is there yet.
+fn make_with(
+    alloc: Global,
+    file: &File,
+    names: &Names,
+    table: &[List<Member>],
+) -> Result<Made, NameFault>
+    requires collected { Collected (file_view file.now) names.now }
+    requires members { table_view table.now ≡ map (members (file_view file.now).entities) (file_view file.now).entities }
+    ensures core { spec.Makes result (core_of names.now.above (file_view file.now)) }
+    ensures few { IfOk result (λ m. length m.names < 2 ^ 32) }
+{
+    let mut context = make_context(alloc, file, names, table)?;
+    let made = make_parts(alloc, file, names, table, &mut context);
+    drop(context);
+    made
+}
+
 /// What the core of a file is made of, or the first fault of its members.
 pub(crate) fn make(alloc: Global, file: &File, names: &Names) -> Result<Made, NameFault>
     requires { Collected (file_view file.now) names.now }
@@ -103,9 +122,26 @@ pub(crate) fn make(alloc: Global, file: &File, names: &Names) -> Result<Made, Na
     ensures few { IfOk result (λ m. length m.names < 2 ^ 32) }
 {
     let table = members_of(alloc, file, names)?;
-    let table = table.as_slice();
-    let mut context = make_context(alloc, file, names, table)?;
-    make_parts(alloc, file, names, table, &mut context)
+    make_with(alloc, file, names, table.as_slice())
+}
+
+// The core of what was made, with an index of its methods.
+fn finish(alloc: Global, made: Made) -> Result<Core, AllocError>
+    requires { Formed (spec.made_view made) }
+    ensures { IfOk result (λ c. c ≡ spec.made_view made) }
+{
+    let Made {
+        entities,
+        parts,
+        names,
+    } = made;
+    let Parts {
+        methods,
+        slots,
+        nodes,
+    } = parts;
+    let mut core = Core::from_parts(entities, methods, slots, nodes, names);
+    core.index_methods(alloc).and(Ok(core))
 }
 
 /// The core of a file whose names were collected. It is `Err` exactly where a member of the file has a fault, and then it
@@ -120,17 +156,6 @@ pub fn elaborate(alloc: Global, file: &File, names: &Names) -> Result<Core, Name
 {
     cores_are_formed();
     names_are_in_order();
-    let Made {
-        entities,
-        parts,
-        names,
-    } = make(alloc, file, names)?;
-    let Parts {
-        methods,
-        slots,
-        nodes,
-    } = parts;
-    let mut core = Core::from_parts(entities, methods, slots, nodes, names);
-    core.index_methods(alloc)?;
-    Ok(core)
+    let made = make(alloc, file, names)?;
+    Ok(finish(alloc, made)?)
 }

@@ -1,5 +1,5 @@
 //! The entities of a core.
-ghost use Rattle.std.specs.Prelude.{◌≡◌, ◌++◌, ◌+◌, ◌<◌, ◌^◌, map, length, slice_get, IfOk};
+ghost use Rattle.std.specs.Prelude.{◌≡◌, ◌++◌, [], ◌+◌, ◌<◌, ◌^◌, map, length, slice_get, IfOk, OnOk};
 ghost use Rattle.pc_tree.specs.View.{entity_view, field_view};
 ghost use Rattle.pc_members.specs.Chains.{first_own, numbers_of};
 ghost use Rattle.pc_members.specs.Reach.{or_nil};
@@ -8,7 +8,7 @@ ghost use Rattle.pc_file_spec.specs.Cores as spec;
 ghost use Rattle.pc_elab.specs.Rows as rows;
 
 use crate::known::{default_cap, number_after};
-use crate::language::list_built_ins;
+use crate::language::add_built_ins;
 use crate::signature::type_in;
 use pc_caps::List;
 use pc_core::{EntityDef, FieldInfo};
@@ -33,32 +33,31 @@ fn field_of(context: &Context, field: &FieldDef) -> FieldInfo
     }
 }
 
-fn list_fields(
-    alloc: Global,
+// These fields go behind the others.
+fn add_fields(
+    list: &mut List<FieldInfo>,
     context: &Context,
     fields: &[FieldDef],
-) -> Result<List<FieldInfo>, AllocError>
-    ensures { IfOk result (λ l. l ≡ map (spec.field_of context.now.texts context.now.entities) (map field_view fields.now)) }
+) -> Result<(), AllocError>
+    ensures { OnOk result (list.new ≡ list.old ++ map (spec.field_of context.now.texts context.now.entities) (map field_view fields.now)) }
 {
-    let mut list = List::new(alloc);
     for field in fields {
         list.push(field_of(context, field))?;
     }
-    Ok(list)
+    Ok(())
 }
 
-// The numbers of those names that are entities.
-fn number_names(alloc: Global, names: &Names, provides: &[Name]) -> Result<List<u32>, AllocError>
-    ensures { IfOk result (λ l. l ≡ numbers_of names.now.entities provides.now) }
+// The numbers of those names that are entities go behind the others.
+fn add_numbers(numbers: &mut List<u32>, names: &Names, provides: &[Name]) -> Result<(), AllocError>
+    ensures { OnOk result (numbers.new ≡ numbers.old ++ numbers_of names.now.entities provides.now) }
 {
-    let mut numbers = List::new(alloc);
     for name in provides {
         match names.entity(name.text.as_slice()) {
             Some(number) => numbers.push(number)?,
             None => {}
         }
     }
-    Ok(numbers)
+    Ok(())
 }
 
 // The entities above that of this number.
@@ -69,6 +68,23 @@ fn list_above(alloc: Global, names: &Names, number: u32) -> Result<List<u32>, Al
         Some(above) => List::from_slice(alloc, above),
         None => Ok(List::new(alloc)),
     }
+}
+
+// What the entity names after `is`, and its fields, go into two lists without any.
+fn add_lists(
+    numbers: &mut List<u32>,
+    fields: &mut List<FieldInfo>,
+    context: &Context,
+    names: &Names,
+    entity: &Entity,
+) -> Result<(), AllocError>
+    requires numbers { numbers.old ≡ [] }
+    requires fields { fields.old ≡ [] }
+    ensures numbers { OnOk result (numbers.new ≡ numbers_of names.now.entities (entity_view entity.now).provides) }
+    ensures fields { OnOk result (fields.new ≡ map (spec.field_of context.now.texts context.now.entities) (entity_view entity.now).fields) }
+{
+    add_numbers(numbers, names, entity.provides.as_slice())?;
+    add_fields(fields, context, entity.fields.as_slice())
 }
 
 // The entity of this number, with so many methods from this one on.
@@ -83,17 +99,48 @@ fn make_entity(
 ) -> Result<EntityDef, AllocError>
     ensures { IfOk result (λ x. x ≡ rows.entity_with context.now names.now number first_method (entity_view entity.now) methods) }
 {
-    Ok(EntityDef {
+    let name = List::from_slice(alloc, entity.name.text.as_slice())?;
+    let above = list_above(alloc, names, number)?;
+    let mut provides = List::new(alloc);
+    let mut fields = List::new(alloc);
+    add_lists(&mut provides, &mut fields, context, names, entity).and(Ok(EntityDef {
         kind: entity.kind,
         cap: default_cap(entity.kind, entity.cap),
-        name: List::from_slice(alloc, entity.name.text.as_slice())?,
+        name,
         span: entity.name.span,
-        provides: number_names(alloc, names, entity.provides.as_slice())?,
-        above: list_above(alloc, names, number)?,
-        fields: list_fields(alloc, context, entity.fields.as_slice())?,
+        provides,
+        above,
+        fields,
         first_method,
         methods,
-    })
+    }))
+}
+
+// The entities of the language and those of the file, with the table of their members, go into a list without any.
+fn add_entities(
+    alloc: Global,
+    list: &mut List<EntityDef>,
+    context: &Context,
+    names: &Names,
+    entities: &[Entity],
+    table: &[List<Member>],
+) -> Result<(), AllocError>
+    requires rows { length table.now ≡ length entities.now }
+    requires numbers { first_own + length entities.now < 2 ^ 32 }
+    requires none { list.old ≡ [] }
+    ensures { OnOk result (list.new ≡ spec.built_ins ++ rows.entity_rows context.now names.now first_own 1 (map entity_view entities.now) (table_view table.now)) }
+{
+    add_built_ins(alloc, list)?;
+    let mut first = 1;
+    for at in 0..entities.len() {
+        let after = number_after(first, table[at].as_slice())?;
+        let number = (FIRST_OWN + at) as u32;
+        let entity = &entities[at];
+        let made = make_entity(alloc, context, names, number, first, entity, after - first)?;
+        list.push(made)?;
+        first = after;
+    }
+    Ok(())
 }
 
 /// The entities of a program: those of the language, and then those of the file, with the table of their members.
@@ -108,15 +155,6 @@ pub(crate) fn list_entities(
     requires numbers { first_own + length entities.now < 2 ^ 32 }
     ensures { IfOk result (λ l. l ≡ spec.built_ins ++ rows.entity_rows context.now names.now first_own 1 (map entity_view entities.now) (table_view table.now)) }
 {
-    let mut list = list_built_ins(alloc)?;
-    let mut first = 1;
-    for at in 0..entities.len() {
-        let after = number_after(first, table[at].as_slice())?;
-        let number = (FIRST_OWN + at) as u32;
-        let entity = &entities[at];
-        let made = make_entity(alloc, context, names, number, first, entity, after - first)?;
-        list.push(made)?;
-        first = after;
-    }
-    Ok(list)
+    let mut list = List::new(alloc);
+    add_entities(alloc, &mut list, context, names, entities, table).and(Ok(list))
 }

@@ -1,5 +1,5 @@
 //! What the bodies of a file see of its entities.
-ghost use Rattle.std.specs.Prelude.{◌≡◌, ◌++◌, [], ◌+◌, ◌<◌, ◌^◌, map, length, IfOk};
+ghost use Rattle.std.specs.Prelude.{◌≡◌, ◌++◌, ◌∷◌, [], ◌+◌, ◌<◌, ◌^◌, map, length, IfOk, OnOk};
 ghost use Rattle.pc_tree.specs.View.{entity_view};
 ghost use Rattle.pc_file_spec.specs.Known as spec;
 ghost use Rattle.pc_body_spec.specs.Slots.{cap_or as either_cap};
@@ -84,31 +84,53 @@ fn make_known(
     Ok(Known::new(name, entity.kind, cap, constructors))
 }
 
-// An entity of the language that has no constructor.
-fn make_built_in(
+// An entity of the language, which has no constructor, goes behind the others.
+fn add_built_in(
     alloc: Global,
+    known: &mut List<Known>,
     name: &[u8],
     kind: EntityKind,
     cap: Cap,
-) -> Result<Known, AllocError>
-    ensures { IfOk result (λ k. k ≡ record { name = name.now; kind = kind; cap = cap; constructors = [] }) }
+) -> Result<(), AllocError>
+    ensures { OnOk result (known.new ≡ known.old ++ record { name = name.now; kind = kind; cap = cap; constructors = [] } ∷ []) }
 {
     let name = List::from_slice(alloc, name)?;
-    Ok(Known::new(name, kind, cap, Constructors::new(alloc)))
+    known.push(Known::new(name, kind, cap, Constructors::new(alloc)))
 }
 
-// The entities of the language.
-fn list_built_in(alloc: Global) -> Result<List<Known>, AllocError>
-    ensures { IfOk result (λ l. l ≡ spec.built_in_known) }
+// The entities of the language go into a list without any.
+fn add_all_built_in(alloc: Global, known: &mut List<Known>) -> Result<(), AllocError>
+    requires { known.old ≡ [] }
+    ensures { OnOk result (known.new ≡ spec.built_in_known) }
 {
-    let mut known = List::new(alloc);
-    known.push(make_built_in(alloc, b"None", EntityKind::Primitive, Cap::Val)?)?;
-    known.push(make_built_in(alloc, b"U64", EntityKind::Primitive, Cap::Val)?)?;
-    known.push(make_built_in(alloc, b"Bool", EntityKind::Primitive, Cap::Val)?)?;
-    known.push(make_built_in(alloc, b"String", EntityKind::Primitive, Cap::Val)?)?;
-    known.push(make_built_in(alloc, b"Env", EntityKind::Class, Cap::Val)?)?;
-    known.push(make_built_in(alloc, b"OutStream", EntityKind::Actor, Cap::Tag)?)?;
-    Ok(known)
+    add_built_in(alloc, known, b"None", EntityKind::Primitive, Cap::Val)?;
+    add_built_in(alloc, known, b"U64", EntityKind::Primitive, Cap::Val)?;
+    add_built_in(alloc, known, b"Bool", EntityKind::Primitive, Cap::Val)?;
+    add_built_in(alloc, known, b"String", EntityKind::Primitive, Cap::Val)?;
+    add_built_in(alloc, known, b"Env", EntityKind::Class, Cap::Val)?;
+    add_built_in(alloc, known, b"OutStream", EntityKind::Actor, Cap::Tag)
+}
+
+// The entities of the language and those of the file, with the table of their members, go into a list without any.
+fn add_known(
+    alloc: Global,
+    known: &mut List<Known>,
+    entities: &[Entity],
+    table: &[List<Member>],
+) -> Result<(), AllocError>
+    requires rows { length table.now ≡ length entities.now }
+    requires none { known.old ≡ [] }
+    ensures { OnOk result (known.new ≡ spec.built_in_known ++ rows.known_rows 1 (map entity_view entities.now) (table_view table.now)) }
+{
+    add_all_built_in(alloc, known)?;
+    let mut first = 1;
+    for at in 0..entities.len() {
+        let members = table[at].as_slice();
+        let after = number_after(first, members)?;
+        known.push(make_known(alloc, first, &entities[at], members)?)?;
+        first = after;
+    }
+    Ok(())
 }
 
 /// Behind the entities of the language those of the file, with the table of their members.
@@ -120,13 +142,6 @@ pub(crate) fn list_known(
     requires { length table.now ≡ length entities.now }
     ensures { IfOk result (λ l. l ≡ spec.built_in_known ++ rows.known_rows 1 (map entity_view entities.now) (table_view table.now)) }
 {
-    let mut known = list_built_in(alloc)?;
-    let mut first = 1;
-    for at in 0..entities.len() {
-        let members = table[at].as_slice();
-        let after = number_after(first, members)?;
-        known.push(make_known(alloc, first, &entities[at], members)?)?;
-        first = after;
-    }
-    Ok(known)
+    let mut known = List::new(alloc);
+    add_known(alloc, &mut known, entities, table).and(Ok(known))
 }

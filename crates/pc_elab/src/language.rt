@@ -1,5 +1,5 @@
 //! What each program has: the entities of the language.
-ghost use Rattle.std.specs.Prelude.{◌≡◌, ◌∷◌, [], IfOk};
+ghost use Rattle.std.specs.Prelude.{◌≡◌, ◌++◌, ◌∷◌, [], IfOk, OnOk};
 ghost use Rattle.pc_core.specs.Entities.{built_in, built_in_value, out_field, print_method};
 ghost use Rattle.pc_file_spec.specs.Cores as spec;
 
@@ -11,21 +11,23 @@ use std::alloc::{AllocError, Global};
 // What the language has stands nowhere in the text.
 const NOWHERE: Span = Span { start: 0, end: 0 };
 
-// An entity of the language.
-fn make_built_in(
+// An entity of the language goes behind the others.
+fn add_built_in(
     alloc: Global,
+    entities: &mut List<EntityDef>,
     kind: EntityKind,
     cap: Cap,
     name: &str,
     fields: List<FieldInfo>,
     methods: u32,
-) -> Result<EntityDef, AllocError>
-    ensures { IfOk result (λ x. x ≡ built_in kind cap name.now fields methods) }
+) -> Result<(), AllocError>
+    ensures { OnOk result (entities.new ≡ entities.old ++ built_in kind cap name.now fields methods ∷ []) }
 {
-    Ok(EntityDef {
+    let name = List::from_slice(alloc, name.as_bytes())?;
+    entities.push(EntityDef {
         kind,
         cap,
-        name: List::from_slice(alloc, name.as_bytes())?,
+        name,
         span: NOWHERE,
         provides: List::new(alloc),
         above: List::new(alloc),
@@ -35,16 +37,18 @@ fn make_built_in(
     })
 }
 
-// One of the language's values.
-fn make_built_in_value(alloc: Global, name: &str) -> Result<EntityDef, AllocError>
-    ensures { IfOk result (λ x. x ≡ built_in_value name.now) }
+// One of the language's values goes behind the others.
+fn add_value(alloc: Global, entities: &mut List<EntityDef>, name: &str) -> Result<(), AllocError>
+    ensures { OnOk result (entities.new ≡ entities.old ++ built_in_value name.now ∷ []) }
 {
-    make_built_in(
+    let none = List::new(alloc);
+    add_built_in(
         alloc,
+        entities,
         EntityKind::Primitive,
         Cap::Val,
         name,
-        List::new(alloc),
+        none,
         0,
     )
 }
@@ -63,20 +67,35 @@ fn list_env_fields(alloc: Global) -> Result<List<FieldInfo>, AllocError>
     Ok(fields)
 }
 
-/// The entities of the language, where `out` and `print` are the first two texts.
-pub(crate) fn list_built_ins(alloc: Global) -> Result<List<EntityDef>, AllocError>
-    ensures { IfOk result (λ entities. entities ≡ spec.built_ins) }
+/// The entities of the language, where `out` and `print` are the first two texts, go into a list without any.
+pub(crate) fn add_built_ins(alloc: Global, entities: &mut List<EntityDef>) -> Result<(), AllocError>
+    requires { entities.old ≡ [] }
+    ensures { OnOk result (entities.new ≡ spec.built_ins) }
 {
-    let mut entities = List::new(alloc);
-    entities.push(make_built_in_value(alloc, "None")?)?;
-    entities.push(make_built_in_value(alloc, "U64")?)?;
-    entities.push(make_built_in_value(alloc, "Bool")?)?;
-    entities.push(make_built_in_value(alloc, "String")?)?;
+    add_value(alloc, entities, "None")?;
+    add_value(alloc, entities, "U64")?;
+    add_value(alloc, entities, "Bool")?;
+    add_value(alloc, entities, "String")?;
     let fields = list_env_fields(alloc)?;
-    entities.push(make_built_in(alloc, EntityKind::Class, Cap::Val, "Env", fields, 0)?)?;
+    add_built_in(
+        alloc,
+        entities,
+        EntityKind::Class,
+        Cap::Val,
+        "Env",
+        fields,
+        0,
+    )?;
     let none = List::new(alloc);
-    entities.push(make_built_in(alloc, EntityKind::Actor, Cap::Tag, "OutStream", none, 1)?)?;
-    Ok(entities)
+    add_built_in(
+        alloc,
+        entities,
+        EntityKind::Actor,
+        Cap::Tag,
+        "OutStream",
+        none,
+        1,
+    )
 }
 
 /// The behaviour of the stream.

@@ -1,5 +1,5 @@
 //! The texts of a file.
-ghost use Rattle.std.specs.Prelude.{◌≡◌, ◌<◌, ◌^◌, length, IfOk};
+ghost use Rattle.std.specs.Prelude.{◌≡◌, ◌<◌, [], ◌^◌, length, IfOk, OnOk};
 ghost use Rattle.pc_tree.specs.View.{file_view};
 ghost use Rattle.pc_file_spec.specs.Known.{texts_of};
 
@@ -10,19 +10,26 @@ use pc_resolve::add_texts;
 use pc_tree::File;
 use std::alloc::{AllocError, Global};
 
+// The texts of a file go into a table without any.
+fn add_all(table: &mut NameTable, file: &File) -> Result<(), AllocError>
+    requires { table.old ≡ [] }
+    ensures { OnOk result (table.new ≡ texts_of (file_view file.now)) }
+{
+    table.add(b"out")?;
+    table.add(b"print")?;
+    table.add(b"create")?;
+    table.add(b"apply")?;
+    add_member_texts(table, file.entities.as_slice())?;
+    add_texts(table, file.entities.as_slice())
+}
+
 /// The texts of a file, each once: those of the language, then the names of the fields and methods, and then the names
 /// behind a `.`.
 pub(crate) fn table_texts(alloc: Global, file: &File) -> Result<NameTable, AllocError>
     ensures { IfOk result (λ t. t ≡ texts_of (file_view file.now)) }
 {
     let mut table = NameTable::new(alloc);
-    table.add(b"out")?;
-    table.add(b"print")?;
-    table.add(b"create")?;
-    table.add(b"apply")?;
-    add_member_texts(&mut table, file.entities.as_slice())?;
-    add_texts(&mut table, file.entities.as_slice())?;
-    Ok(table)
+    add_all(&mut table, file).and(Ok(table))
 }
 
 /// The texts of a table by their numbers.

@@ -1,5 +1,5 @@
 -- Laws of the walk's loops.
-use Rattle.std.proofs.Common.{◌≡◌, rules, ℕ, zero, suc, ◌+◌, ◌<◌, drop, take, map, length, Bool, true, false, Option, List, [], ◌∷◌, ◌++◌, Some, None, refl, ap, ◌∙◌, sym, Result, Err, arith}
+use Rattle.std.proofs.Common.{◌≡◌, rules, ℕ, zero, suc, ◌+◌, ◌<◌, ◌≤◌, drop, take, map, length, Bool, true, false, Option, List, [], ◌∷◌, ◌++◌, Some, None, refl, ap, ◌∙◌, sym, Result, Err, arith}
 use Rattle.std.specs.Prelude.{slice_get, slice_index_or, option_map}
 use Rattle.std.proofs.lemmas.Option.{same_Some, none-some, slice_get_read, slice_get-map}
 use Rattle.pc_caps.specs.declared.span.Span.{Span}
@@ -9,13 +9,15 @@ use Rattle.pc_core.specs.declared.nodes.NodeKind.TheVariants as node
 use Rattle.pc_tree.specs.declared.kinds.Op.{Op}
 use Rattle.pc_tree.specs.declared.names.Name.{Name}
 use Rattle.pc_tree.specs.Tree as t
-use Rattle.pc_tree.specs.View.{expr_view, exprs_view, arm_view, arms_view, seq_view, items_view}
+use Rattle.pc_tree.specs.View.{expr_view, exprs_view, arm_view, arms_view, seq_view, item_view, items_view}
 use Rattle.pc_tree.specs.declared.expression.Expr.{Expr, the_lemmas}
 use Rattle.pc_tree.specs.declared.expression.Arm.{Arm}
+use Rattle.pc_tree.specs.declared.expression.Item.{Item}
+use Rattle.std.proofs.lemmas.List.{length-take, take-append-le}
 use Rattle.pc_tree.specs.declared.expression.Seq.{Seq}
 use Rattle.std.proofs.lemmas.Bool.{true≢false}
 use Rattle.pc_body_spec.specs.Roses.{Rose, Roses, rose, more, no_roses, two, three, and_last, Numbered, and_then, put, puts, push}
-use Rattle.pc_body_spec.specs.Scopes.{Context, Scope, Meaning, local, field, method, nothing, resolve, text_of}
+use Rattle.pc_body_spec.specs.Scopes.{Context, Scope, Meaning, local, field, method, nothing, resolve, scope_after, text_of}
 use Rattle.pc_body_spec.specs.Expressions.{expr_of, exprs_of, assign_of, chain_of, named_of, write_name, read_field, call_named, apply, Start, start_of, with_value, write, operands_of, operation, join, or_none, sequence, if_of}
 use Rattle.pc_emit.specs.declared.stop.EmitStop.{EmitStop}
 use Rattle.pc_emit.specs.declared.stop.EmitStop.TheVariants as stop
@@ -107,6 +109,15 @@ arm_is m d true reach x y z a b ns n1 n2 ex ey = three_is m x y z a b ns n1 n2 (
 arm_is m d false reach x y z a b ns n1 n2 ex ey =
     one_part (and_then (puts m (three x y z) ns) (push m node.If reach d)) (push m node.Seq reach d) ∙ ap (λ o. and_then o (λ a. push m node.Seq reach d (a ∷ []))) (three_is m x y z a b ns n1 n2 (push m node.If reach d) ex ey) ∙ assoc (put m z n2) (λ e. push m node.If reach d (a ∷ b ∷ e ∷ [])) (λ a. push m node.Seq reach d (a ∷ []))
 
+-- An arm stops with its condition, or with its body.
+pub cond_none : (m d : ℕ) (first : Bool) (reach : Span) (x y z : Rose) (ns : List Node) → put m x ns ≡ None → put m (if_of first reach d (three x y z)) ns ≡ None
+cond_none m d true reach x y z ns h = rw h refl
+cond_none m d false reach x y z ns h = rw h refl
+
+pub body_none : (m d : ℕ) (first : Bool) (reach : Span) (x y z : Rose) (a : ℕ) (ns n1 : List Node) → put m x ns ≡ Some (a, n1) → put m y n1 ≡ None → put m (if_of first reach d (three x y z)) ns ≡ None
+body_none m d true reach x y z a ns n1 h g = rw (h, g) refl
+body_none m d false reach x y z a ns n1 h g = rw (h, g) refl
+
 -- A sequence without items gets the value None.
 none_first : (m d : ℕ) (s : Span) (o : Numbered ℕ) (rest : List Node → Numbered (List ℕ)) → and_then o (λ a. λ ns. and_then (rest ns) (λ b. λ ns. Some (a ∷ b, ns))) ≡ and_then (and_then o (λ a. λ ns. and_then (rest ns) (λ b. λ ns. Some (a ∷ b, ns)))) (none_closes m d s)
 unfolding none_closes
@@ -160,6 +171,15 @@ inner_stops stop.Memory ns n2 inner f whole h g = tt
 pub inner_gives : {A B : Type 0} (r : Result B EmitStop) (n1 n2 : List Node) (a : A) (inner : Numbered A) (f : A → List Node → Numbered B) (whole : Numbered B) → whole ≡ and_then inner f → inner ≡ Some (a, n1) → Gives r n2 (f a n1) → Gives r n2 whole
 inner_gives r n1 n2 a inner f whole h g i = rw (h, g) i
 
+-- The whole stops with a part of an arm, around which others wait.
+pub arm_stops : {P : Type 0} (e : EmitStop) (ns n2 : List Node) (step : P → ℕ → List Node → Numbered ℕ) (ps : List P) (inner : List Node → Numbered ℕ) (part arm whole : Numbered ℕ) → whole ≡ and_then arm (closing step ps) → Gives {A = ℕ} (Err e) ns part → (part ≡ None → arm ≡ None) → Opens (Err e) n2 step inner whole
+arm_stops stop.Full ns n2 step ps inner part arm whole w h f = w ∙ ap (λ o. and_then o (closing step ps)) (f h)
+arm_stops stop.Memory ns n2 step ps inner part arm whole w h f = tt
+
+pub opens_stop : {P : Type 0} (e : EmitStop) (ns n2 : List Node) (step : P → ℕ → List Node → Numbered ℕ) (inner : List Node → Numbered ℕ) (whole : Numbered ℕ) → Opens (Err e) ns step inner whole → Gives {A = ℕ} (Err e) n2 whole
+opens_stop stop.Full ns n2 step inner whole h = h
+opens_stop stop.Memory ns n2 step inner whole h = tt
+
 -- ---- lists and what they stand for
 
 pub exprs_at : (xs : List Expr) (i : ℕ) (x : Expr) → slice_get xs i ≡ Some x → exprs_view (drop i xs) ≡ t.expr (expr_view x) (exprs_view (drop (suc i) xs))
@@ -169,6 +189,19 @@ exprs_at (y ∷ xs) (suc i) x h = exprs_at xs i x h
 
 pub exprs_from : (xs : List Expr) (i j : ℕ) (x : Expr) → slice_get xs i ≡ Some x → j ≡ i + 1 → exprs_view (drop i xs) ≡ t.expr (expr_view x) (exprs_view (drop j xs))
 exprs_from xs i j x h e = let n : suc i ≡ j = omega (arith, e) in exprs_at xs i x h ∙ ap (λ k. t.expr (expr_view x) (exprs_view (drop k xs))) n
+
+-- What was visible stays so behind an item.
+pub scope_kept : (c : Context) (sc old : Scope) (i : t.Item) → take (length old) sc ≡ old → take (length old) (scope_after c sc i) ≡ old
+scope_kept c sc old (t.plain e) h = h
+scope_kept c sc old (t.local fixed n ty v s) h = let within : length old ≤ length sc = omega (arith, length-take (length old) sc, ap length h) in take-append-le (length old) sc _ within ∙ h
+
+items_at : (xs : List Item) (i : ℕ) (x : Item) → slice_get xs i ≡ Some x → items_view (drop i xs) ≡ t.item (item_view x) (items_view (drop (suc i) xs))
+items_at [] i x h = absurd (none-some x h)
+items_at (y ∷ xs) zero x h = ap (λ z. t.item (item_view z) (items_view xs)) (same_Some _ _ h)
+items_at (y ∷ xs) (suc i) x h = items_at xs i x h
+
+pub items_from : (xs : List Item) (i j : ℕ) (x : Item) → slice_get xs i ≡ Some x → j ≡ i + 1 → items_view (drop i xs) ≡ t.item (item_view x) (items_view (drop j xs))
+items_from xs i j x h e = let n : suc i ≡ j = omega (arith, e) in items_at xs i x h ∙ ap (λ k. t.item (item_view x) (items_view (drop k xs))) n
 
 pub map_take : {A B : Type 0} → (f : A → B) (n : ℕ) (xs : List A) → map f (take n xs) ≡ take n (map f xs)
 map_take f zero xs = refl

@@ -1,10 +1,11 @@
 -- The loops of the rules, whatever they read.
-use Rattle.std.proofs.Common.{◌≡◌, ℕ, suc, ◌-◌, ◌<◌, ◌≤◌, List, [], ◌∷◌, ◌++◌, length, Option, Some, None, Ok, Err, refl, sym, ap, ◌∙◌, arith, append_assoc, append-nil}
+use Rattle.std.proofs.Common.{◌≡◌, ℕ, suc, ◌-◌, ◌<◌, ◌≤◌, List, [], ◌∷◌, ◌++◌, length, Option, Some, None, Ok, Err, refl, sym, ap, ◌∙◌, subst, ◌⊎◌, inl, inr, arith, append_assoc, append-nil}
 use Rattle.pc_token.specs.declared.kinds.Token.{Token}
 use Rattle.pc_expr.specs.declared.stop.ParseStop.{ParseStop}
 use Rattle.pc_expr.specs.declared.stop.ParseStop.TheVariants as stop
 use Rattle.pc_expr.specs.Gives.{Stops}
 use Rattle.pc_expr.specs.Onto.{onto}
+use Rattle.pc_expr.proofs.Parts.{stops_first}
 use Rattle.pc_grammar.specs.Reading.{Fault, Outcome, Parser, and_then, pure, many, many_step, all}
 
 -- What has been read is xs, and with what the loop still reads it makes the whole.
@@ -51,3 +52,22 @@ module _ {A : Type 0} (next : List Token → Option (List Token)) (p : Parser A)
     stops_here xs tokens rest begin (stop.Unexpected n) l goes s some = (loop_fails xs rest begin _ l goes s.0 some, s.1)
     stops_here xs tokens rest begin (stop.TooDeep n) l goes s some = (loop_fails xs rest begin _ l goes s.0 some, s.1)
     stops_here xs tokens rest begin stop.Memory l goes s some = tt
+
+-- The next one begins at rest: it is the first, or one behind those that have been read.
+abbrev pub Turn : {A : Type 0} → (List Token → Option (List Token)) → Parser A → Outcome (List A) → List Token → List A → Type 0
+Turn next p whole rest xs =
+    ((xs ≡ []) × (whole ≡ and_then (p rest) (λ x. onto next p (x ∷ []))))
+    ⊎ ((ts : List Token) × Loop next p whole ts xs × (next ts ≡ Some rest) × (0 < length ts) × (length rest ≤ length ts))
+
+module _ {A : Type 0} (next : List Token → Option (List Token)) (p : Parser A) (whole : Outcome (List A)) where
+  pub turn_reads : (xs : List A) (rest after : List Token) (x : A) → Turn next p whole rest xs → p rest ≡ Ok (x, after) → length after < length rest → Loop next p whole after (xs ++ x ∷ [])
+  turn_reads xs rest after x (inl h) read less =
+      let is : whole ≡ onto next p (x ∷ []) after = h.1 ∙ ap (λ o. and_then o (λ y. onto next p (y ∷ []))) read in
+      let P : List A → Type 0 = λ ys. Loop next p whole after (ys ++ x ∷ []) in
+      let Q : Outcome (List A) → Type 0 = λ w. Loop next p w after (x ∷ []) in
+      subst P (sym h.0) (subst Q (sym is) (loop_starts next p (x ∷ []) after))
+  turn_reads xs rest after x (inr h) read less = loop_goes_on next p whole xs h.0 rest after x h.1 h.2 read (omega (arith, less, h.4))
+
+  pub turn_stops : (xs : List A) (tokens rest : List Token) (e : ParseStop) → Turn next p whole rest xs → Stops tokens e (p rest) → Stops tokens e whole
+  turn_stops xs tokens rest e (inl h) s = let P : Outcome (List A) → Type 0 = λ w. Stops tokens e w in subst P (sym h.1) (stops_first tokens e (p rest) (λ x. onto next p (x ∷ [])) s)
+  turn_stops xs tokens rest e (inr h) s = stops_here next p whole xs tokens h.0 rest e h.1 h.2 s h.3

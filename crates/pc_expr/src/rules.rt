@@ -1,6 +1,11 @@
 //! One function for each rule of the grammar. `left` is the number of levels that may still be opened.
-ghost use Rattle.std.specs.Prelude.{◌≡◌, ◌≤◌, drop, map, IfOk, IfErr};
+ghost use Rattle.std.specs.Prelude.{◌≡◌, ◌≤◌, [], ◌∷◌, drop, map, IfOk, IfErr};
+ghost use Rattle.pc_caps.specs.declared.span.Span.{Span as Place};
+ghost use Rattle.pc_token.specs.declared.signs.Sign.TheVariants.{Assign};
+ghost use Rattle.pc_token.specs.Asking as asking;
+ghost use Rattle.pc_tree.specs.Tree as t;
 ghost use Rattle.pc_tree.specs.View.{expr_view, item_view, suffix_view, arm_view, seq_view, exprs_view, other_view};
+ghost use Rattle.pc_grammar.specs.Spells as spells;
 ghost use Rattle.pc_grammar.specs.Reading as reading;
 ghost use Rattle.pc_expr.specs.Gives.{At, Moves, Gives};
 ghost use Rattle.pc_expr.specs.Onto as onto;
@@ -13,7 +18,7 @@ use crate::stop::ParseStop;
 use crate::tokens::{
     after_comma, after_op, at_elseif, at_suffix, look, next_item, take_sign, take_word,
 };
-use pc_caps::List;
+use pc_caps::{List, Span};
 use pc_grammar::op_of;
 use pc_token::{Sign, Token, TokenKind, Word, is_sign, is_word};
 use pc_tree::{Arm, Expr, Item, Op, Seq, Suffix, join, span_of};
@@ -21,41 +26,39 @@ use std::alloc::Global;
 
 /// Item {Next Item}, where so many levels may still be opened.
 #[cycle(rules)]
-#[tactic(auto, using(pc_tree::proofs::Views::view_seq, crate::proofs::Parts::seq_by_parts), unfolding(crate::specs::Onto::seq_parts, pc_grammar::specs::Reading::seq_of))]
+#[tactic(auto, using(pc_tree::proofs::Views::view_seq, crate::proofs::Parts::seq_by_items), unfolding(pc_grammar::specs::Reading::seq_of))]
 pub fn seq(alloc: Global, tokens: &[Token], at: usize, left: u16) -> Result<(Seq, usize), ParseStop>
     requires { At tokens.now at }
     ensures gives { Gives seq_view tokens.now result (reading.seq_in left (reading.inner left) (drop at tokens.now)) }
     ensures moves { IfOk result (λ r. Moves tokens.now at r.1) }
 {
-    let (first, to) = item(alloc, tokens, at, left)?;
-    let mut items = List::new(alloc);
-    items.push(first)?;
-    let (items, to) = more_items(alloc, tokens, to, left, items)?;
+    let (items, to) = items(alloc, tokens, at, left)?;
     let span = items_span(items.as_slice());
     Ok((Seq { items, span }, to))
 }
 
-/// {Next Item}, behind some items.
+/// The items of a sequence.
 #[cycle(rules)]
-fn more_items(
+fn items(
     alloc: Global,
     tokens: &[Token],
     at: usize,
     left: u16,
-    so_far: List<Item>,
 ) -> Result<(List<Item>, usize), ParseStop>
     requires { At tokens.now at }
-    ensures gives { Gives (map item_view) tokens.now result (onto.more_items left (reading.inner left) (map item_view so_far) (drop at tokens.now)) }
-    ensures moves { IfOk result (λ r. (at ≤ r.1) × At tokens.now r.1) }
+    ensures gives { Gives (map item_view) tokens.now result (reading.and_then (reading.item (reading.expr_in left (reading.inner left)) (drop at tokens.now)) (λ x. onto.more_items left (reading.inner left) (x ∷ []))) }
+    ensures moves { IfOk result (λ r. Moves tokens.now at r.1) }
 {
-    let mut items = so_far;
+    let mut items = List::new(alloc);
     let mut to = at;
-    'more: while let Some(next) = next_item(tokens, to) {
-        let (one, after) = item(alloc, tokens, next, left)?;
+    'more: loop {
+        let (one, after) = item(alloc, tokens, to, left)?;
         items.push(one)?;
-        to = after;
+        match next_item(tokens, after) {
+            Some(next) => to = next,
+            None => return Ok((items, after)),
+        }
     }
-    Ok((items, to))
 }
 
 /// ("var" | "let") Name [":" Type] "=" Expr  |  Expr
@@ -124,35 +127,66 @@ pub fn expr(
 {
     let (e, to) = infix(alloc, tokens, at, left)?;
     if assigns(look(tokens, to), &e) {
-        becomes(alloc, tokens, to, left, e)
+        match becomes(alloc, tokens, to, left) {
+            Ok((right, to)) => Ok((assigned(alloc, e, right)?, to)),
+            Err(stop) => {
+                drop(e);
+                Err(stop)
+            }
+        }
     } else {
         Ok((e, to))
     }
 }
 
-/// "=" Expr, behind a place.
+/// "=" Expr: the expression, behind a place.
 #[cycle(rules)]
-#[tactic(auto, using(pc_tree::proofs::Views::view_assign, pc_grammar::proofs::Levels::no_deeper, pc_grammar::proofs::Levels::one_deeper, pc_grammar::proofs::Levels::inner_expr), unfolding(pc_grammar::specs::Reading::becomes))]
+#[tactic(auto, using(pc_grammar::proofs::Levels::no_deeper, pc_grammar::proofs::Levels::one_deeper, pc_grammar::proofs::Levels::inner_expr))]
 fn becomes(
     alloc: Global,
     tokens: &[Token],
     at: usize,
     left: u16,
-    place: Expr,
 ) -> Result<(Expr, usize), ParseStop>
     requires { At tokens.now at }
-    ensures gives { Gives expr_view tokens.now result (reading.becomes left (reading.inner left).expr (expr_view place) (drop at tokens.now)) }
+    ensures gives { Gives expr_view tokens.now result (reading.deeper left (λ ts. reading.and_then (reading.take_if (asking.is_sign Assign) ts) (λ _. (reading.inner left).expr)) (drop at tokens.now)) }
     ensures moves { IfOk result (λ r. Moves tokens.now at r.1) }
 {
     if left == 0 {
         return Err(ParseStop::TooDeep(at));
     }
     let (_, begin) = take_sign(tokens, at, Sign::Assign)?;
-    let (right, to) = expr(alloc, tokens, begin, left - 1)?;
+    expr(alloc, tokens, begin, left - 1)
+}
+
+/// A place and the expression that is assigned to it.
+fn assigned(alloc: Global, place: Expr, right: Expr) -> Result<Expr, ParseStop>
+    ensures ok { IfOk result (λ e. expr_view e ≡ t.assign (expr_view place) (expr_view right) (spells.join (t.span_of (expr_view place)) (t.span_of (expr_view right)))) }
+    ensures err { IfErr result (λ e. e ≡ Memory) }
+{
     let span = join(span_of(&place), span_of(&right));
-    let left = Box::new(alloc, place)?;
-    let right = Box::new(alloc, right)?;
-    Ok((Expr::Assign { left, right, span }, to))
+    match Box::new(alloc, place) {
+        Ok(place) => assign(alloc, place, right, span),
+        Err(failed) => {
+            drop(right);
+            Err(ParseStop::from(failed))
+        }
+    }
+}
+
+/// A place and the expression that is assigned to it, with where they lie.
+#[tactic(auto, using(pc_tree::proofs::Views::view_assign))]
+fn assign(alloc: Global, left: Box<Expr>, right: Expr, span: Span) -> Result<Expr, ParseStop>
+    ensures ok { IfOk result (λ e. expr_view e ≡ t.assign (expr_view left.value) (expr_view right) span) }
+    ensures err { IfErr result (λ e. e ≡ Memory) }
+{
+    match Box::new(alloc, right) {
+        Ok(right) => Ok(Expr::Assign { left, right, span }),
+        Err(failed) => {
+            drop(left);
+            Err(ParseStop::from(failed))
+        }
+    }
 }
 
 /// Term {Op Term}, where so many levels may still be opened.
@@ -276,10 +310,13 @@ fn postfix(
     ensures moves { IfOk result (λ r. Moves tokens.now at r.1) }
 {
     let (head, to) = atom(alloc, tokens, at, left)?;
-    let suffixes = List::new(alloc);
-    let (suffixes, to) = more_suffixes(alloc, tokens, to, left, suffixes)?;
-    let e = chain(alloc, head, suffixes)?;
-    Ok((e, to))
+    match more_suffixes(alloc, tokens, to, left, List::new(alloc)) {
+        Ok((suffixes, to)) => Ok((chain(alloc, head, suffixes)?, to)),
+        Err(stop) => {
+            drop(head);
+            Err(stop)
+        }
+    }
 }
 
 /// An atom with its suffixes; alone, where there are none.
@@ -325,7 +362,7 @@ fn more_suffixes(
 
 /// "." Name  |  "(" [Expr {"," Expr}] ")"
 #[cycle(rules)]
-#[tactic(auto, using(pc_tree::proofs::Views::view_dot), unfolding(pc_grammar::specs::Reading::suffix, pc_grammar::specs::Reading::peek))]
+#[tactic(auto, using(pc_tree::proofs::Views::view_dot, crate::proofs::Ends::is_sign_not_end), unfolding(pc_grammar::specs::Reading::suffix, pc_grammar::specs::Reading::peek, pc_grammar::specs::Reading::take_if))]
 fn suffix(
     alloc: Global,
     tokens: &[Token],
@@ -339,8 +376,7 @@ fn suffix(
     if !is_sign(look(tokens, at), Sign::Dot) {
         return arguments(alloc, tokens, at, left);
     }
-    let (_, begin) = take_sign(tokens, at, Sign::Dot)?;
-    let (name, to) = name(alloc, tokens, begin)?;
+    let (name, to) = name(alloc, tokens, at + 1)?;
     Ok((Suffix::Dot(name), to))
 }
 
@@ -388,7 +424,6 @@ fn arg_list(
 
 /// Expr {"," Expr}
 #[cycle(rules)]
-#[tactic(auto, unfolding(crate::specs::Onto::some_args))]
 fn some_args(
     alloc: Global,
     tokens: &[Token],
@@ -399,33 +434,16 @@ fn some_args(
     ensures gives { Gives (map expr_view) tokens.now result (onto.some_args (reading.expr_in left (reading.inner left)) (drop at tokens.now)) }
     ensures moves { IfOk result (λ r. Moves tokens.now at r.1) }
 {
-    let (first, to) = expr(alloc, tokens, at, left)?;
     let mut args = List::new(alloc);
-    args.push(first)?;
-    more_args(alloc, tokens, to, left, args)
-}
-
-/// {"," Expr}, behind some arguments.
-#[cycle(rules)]
-fn more_args(
-    alloc: Global,
-    tokens: &[Token],
-    at: usize,
-    left: u16,
-    so_far: List<Expr>,
-) -> Result<(List<Expr>, usize), ParseStop>
-    requires { At tokens.now at }
-    ensures gives { Gives (map expr_view) tokens.now result (onto.more_args (reading.expr_in left (reading.inner left)) (map expr_view so_far) (drop at tokens.now)) }
-    ensures moves { IfOk result (λ r. (at ≤ r.1) × At tokens.now r.1) }
-{
-    let mut args = so_far;
     let mut to = at;
-    'more: while let Some(next) = after_comma(tokens, to) {
-        let (one, after) = expr(alloc, tokens, next, left)?;
+    'more: loop {
+        let (one, after) = expr(alloc, tokens, to, left)?;
         args.push(one)?;
-        to = after;
+        match after_comma(tokens, after) {
+            Some(next) => to = next,
+            None => return Ok((args, after)),
+        }
     }
-    Ok((args, to))
 }
 
 /// One token, or what stands between brackets.
@@ -541,7 +559,7 @@ fn more_arms(
 
 /// "if" Seq "then" Seq, or the same with another word.
 #[cycle(rules)]
-#[tactic(auto, using(pc_tree::proofs::Views::view_arm), unfolding(pc_grammar::specs::Reading::arm))]
+#[tactic(auto, using(pc_tree::proofs::Views::view_arm, crate::proofs::Parts::arm_reads))]
 fn arm(
     alloc: Global,
     tokens: &[Token],
@@ -554,16 +572,46 @@ fn arm(
     ensures moves { IfOk result (λ r. Moves tokens.now at r.1) }
 {
     let (opener, begin) = take_word(tokens, at, word)?;
-    let (cond, end) = seq(alloc, tokens, begin, left)?;
-    let (_, begin) = take_word(tokens, end, Word::ThenWord)?;
-    let (body, to) = seq(alloc, tokens, begin, left)?;
-    let span = join(opener.span, body.span);
-    Ok((Arm { cond, body, span }, to))
+    let ((cond, _), begin) = closed(alloc, tokens, begin, left, Word::ThenWord)?;
+    match seq(alloc, tokens, begin, left) {
+        Ok((body, to)) => {
+            let span = join(opener.span, body.span);
+            Ok((Arm { cond, body, span }, to))
+        }
+        Err(stop) => {
+            drop(cond);
+            Err(stop)
+        }
+    }
+}
+
+/// Seq and the word behind it, with where that word lies.
+#[cycle(rules)]
+#[tactic(auto, using(crate::proofs::Ends::is_word_not_end), unfolding(pc_grammar::specs::Reading::take_if))]
+fn closed(
+    alloc: Global,
+    tokens: &[Token],
+    at: usize,
+    left: u16,
+    word: Word,
+) -> Result<((Seq, Span), usize), ParseStop>
+    requires { At tokens.now at }
+    ensures gives { Gives {Y = t.Seq × Place} (λ p. (seq_view p.0, p.1)) tokens.now result (reading.and_then (reading.seq_in left (reading.inner left) (drop at tokens.now)) (λ body ts. reading.and_then (reading.take_if (asking.is_word word) ts) (λ close. reading.pure (body, close.span)))) }
+    ensures moves { IfOk result (λ r. Moves tokens.now at r.1) }
+{
+    let (body, end) = seq(alloc, tokens, at, left)?;
+    let token = look(tokens, end);
+    if is_word(token, word) {
+        Ok(((body, token.span), end + 1))
+    } else {
+        drop(body);
+        Err(ParseStop::Unexpected(end))
+    }
 }
 
 /// ["else" Seq]
 #[cycle(rules)]
-#[tactic(auto, unfolding(pc_grammar::specs::Reading::other, pc_grammar::specs::Reading::peek))]
+#[tactic(auto, using(crate::proofs::Ends::is_word_not_end), unfolding(pc_grammar::specs::Reading::other, pc_grammar::specs::Reading::peek, pc_grammar::specs::Reading::take_if))]
 fn otherwise(
     alloc: Global,
     tokens: &[Token],
@@ -577,14 +625,13 @@ fn otherwise(
     if !is_word(look(tokens, at), Word::ElseWord) {
         return Ok((None, at));
     }
-    let (_, begin) = take_word(tokens, at, Word::ElseWord)?;
-    let (body, to) = seq(alloc, tokens, begin, left)?;
+    let (body, to) = seq(alloc, tokens, at + 1, left)?;
     Ok((Some(Box::new(alloc, body)?), to))
 }
 
 /// "while" Seq "do" Seq "end"
 #[cycle(rules)]
-#[tactic(auto, using(pc_tree::proofs::Views::view_while, pc_grammar::proofs::Levels::no_deeper, pc_grammar::proofs::Levels::one_deeper, pc_grammar::proofs::Levels::inner_seq), unfolding(pc_grammar::specs::Reading::while_))]
+#[tactic(auto, using(crate::proofs::Parts::while_deep, crate::proofs::Parts::while_reads))]
 fn repetition(
     alloc: Global,
     tokens: &[Token],
@@ -599,19 +646,33 @@ fn repetition(
         return Err(ParseStop::TooDeep(at));
     }
     let (opener, begin) = take_word(tokens, at, Word::WhileWord)?;
-    let (cond, end) = seq(alloc, tokens, begin, left - 1)?;
-    let (_, begin) = take_word(tokens, end, Word::DoWord)?;
-    let (body, end) = seq(alloc, tokens, begin, left - 1)?;
-    let (close, to) = take_word(tokens, end, Word::EndWord)?;
-    let span = join(opener.span, close.span);
+    let ((cond, _), begin) = closed(alloc, tokens, begin, left - 1, Word::DoWord)?;
+    match closed(alloc, tokens, begin, left - 1, Word::EndWord) {
+        Ok(((body, close), to)) => {
+            let span = join(opener.span, close);
+            Ok((repeated(alloc, cond, body, span)?, to))
+        }
+        Err(stop) => {
+            drop(cond);
+            Err(stop)
+        }
+    }
+}
+
+/// What is done again as long as a condition holds.
+#[tactic(auto, using(pc_tree::proofs::Views::view_while))]
+fn repeated(alloc: Global, cond: Seq, body: Seq, span: Span) -> Result<Expr, ParseStop>
+    ensures ok { IfOk result (λ e. expr_view e ≡ t.while_ (seq_view cond) (seq_view body) span) }
+    ensures err { IfErr result (λ e. e ≡ Memory) }
+{
     let cond = Box::new(alloc, cond)?;
     let body = Box::new(alloc, body)?;
-    Ok((Expr::While { cond, body, span }, to))
+    Ok(Expr::While { cond, body, span })
 }
 
 /// "recover" [Cap] Seq "end"
 #[cycle(rules)]
-#[tactic(auto, using(pc_tree::proofs::Views::view_recover, pc_grammar::proofs::Levels::no_deeper, pc_grammar::proofs::Levels::one_deeper, pc_grammar::proofs::Levels::inner_seq), unfolding(pc_grammar::specs::Reading::recover_))]
+#[tactic(auto, using(pc_tree::proofs::Views::view_recover, crate::proofs::Parts::recover_deep, crate::proofs::Parts::recover_reads))]
 fn recovery(
     alloc: Global,
     tokens: &[Token],
@@ -627,9 +688,8 @@ fn recovery(
     }
     let (opener, begin) = take_word(tokens, at, Word::RecoverWord)?;
     let (cap, begin) = maybe_cap(tokens, begin);
-    let (body, end) = seq(alloc, tokens, begin, left - 1)?;
-    let (close, to) = take_word(tokens, end, Word::EndWord)?;
-    let span = join(opener.span, close.span);
+    let ((body, close), to) = closed(alloc, tokens, begin, left - 1, Word::EndWord)?;
+    let span = join(opener.span, close);
     let body = Box::new(alloc, body)?;
     Ok((Expr::Recover { cap, body, span }, to))
 }

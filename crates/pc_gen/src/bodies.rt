@@ -1,15 +1,19 @@
 //! What a worker does with its cell, as items of its body.
-ghost use Rattle.std.specs.Prelude.{◌≡◌, ◌++◌, map, IfOk, OnOk};
-ghost use Rattle.pc_tree.specs.View.{expr_view, item_view};
+ghost use Rattle.std.specs.Prelude.{◌≡◌, ◌++◌, [], ◌∷◌, map, true, Some, codes, IfOk, OnOk};
+ghost use Rattle.pc_caps.specs.declared.capability.Cap.TheVariants as cap;
+ghost use Rattle.pc_tree.specs.Tree as t;
+ghost use Rattle.pc_tree.specs.View.{expr_view, item_view, suffix_view, seq_view};
+ghost use Rattle.pc_tree.specs.declared.kinds.Op.TheVariants as op;
+ghost use Rattle.pc_gen.specs.Parts as part;
 ghost use Rattle.pc_gen.specs.Program as spec;
 
 use crate::parts::{
     alone, arguments, assigned, call, chained, choice, dot, entity, local, number, one, operation,
-    recovered, sequence, turns, type_of, variable,
+    param, recovered, sequence, turns, variable,
 };
 use crate::task::Task;
 use pc_caps::{Cap, List};
-use pc_tree::{Expr, Item, Op};
+use pc_tree::{Expr, Item, Op, ParamDef, Seq, Suffix};
 use std::alloc::{AllocError, Global};
 
 // `x.add(e)`
@@ -27,32 +31,60 @@ fn value(alloc: Global, name: &[u8]) -> Result<Expr, AllocError>
     call(alloc, name, b"value", List::new(alloc))
 }
 
+// `()`
+fn no_arguments(alloc: Global) -> Suffix
+    ensures { suffix_view result ≡ part.arguments [] }
+{
+    arguments(List::new(alloc))
+}
+
+// `.value().string()`
+fn shown(alloc: Global) -> Result<List<Suffix>, AllocError>
+    ensures { IfOk result (λ ss. map suffix_view ss ≡ part.dot (codes "value") ∷ part.arguments [] ∷ part.dot (codes "string") ∷ part.arguments [] ∷ []) }
+{
+    let value = dot(alloc, b"value")?;
+    let string = dot(alloc, b"string")?;
+    let first = no_arguments(alloc);
+    let second = no_arguments(alloc);
+    let suffixes = vec![in alloc; value, first, string, second]?;
+    Ok(List::from_vec(suffixes))
+}
+
 /// `out.print(x.value().string())`
 pub fn tell(alloc: Global, name: &[u8]) -> Result<Expr, AllocError>
     ensures { IfOk result (λ e. expr_view e ≡ spec.tell name.now) }
 {
+    let suffixes = shown(alloc)?;
     let head = variable(alloc, name)?;
-    let value = dot(alloc, b"value")?;
-    let string = dot(alloc, b"string")?;
-    let first = arguments(List::new(alloc));
-    let second = arguments(List::new(alloc));
-    let suffixes = vec![in alloc; value, first, string, second]?;
-    let shown = chained(alloc, head, suffixes)?;
-    let args = one(alloc, shown)?;
+    let text = chained(alloc, head, suffixes)?;
+    let args = one(alloc, text)?;
     call(alloc, b"out", b"print", args)
+}
+
+// `c.value() > k`
+fn holds_more(alloc: Global, k: u64) -> Result<Seq, AllocError>
+    ensures { IfOk result (λ seq. seq_view seq ≡ part.alone (part.operation op.Gt (spec.value (codes "c")) (part.number k))) }
+{
+    let held = value(alloc, b"c")?;
+    let more = operation(alloc, Op::Gt, held, number(k))?;
+    alone(alloc, more)
+}
+
+// `c.add(n)`, alone
+fn adding(alloc: Global, n: u64) -> Result<Seq, AllocError>
+    ensures { IfOk result (λ seq. seq_view seq ≡ part.alone (spec.add (codes "c") (part.number n))) }
+{
+    let adds = add(alloc, b"c", number(n))?;
+    alone(alloc, adds)
 }
 
 // `if c.value() > k then c.add(1) else c.add(k) end`
 fn compare(alloc: Global, k: u64) -> Result<Expr, AllocError>
     ensures { IfOk result (λ e. expr_view e ≡ spec.compare k) }
 {
-    let held = value(alloc, b"c")?;
-    let more = operation(alloc, Op::Gt, held, number(k))?;
-    let cond = alone(alloc, more)?;
-    let one_more = add(alloc, b"c", number(1))?;
-    let body = alone(alloc, one_more)?;
-    let k_more = add(alloc, b"c", number(k))?;
-    let other = alone(alloc, k_more)?;
+    let cond = holds_more(alloc, k)?;
+    let body = adding(alloc, 1)?;
+    let other = adding(alloc, k)?;
     choice(alloc, cond, body, other)
 }
 
@@ -64,6 +96,19 @@ fn turn_and(alloc: Global, n: u64) -> Result<Expr, AllocError>
     operation(alloc, Op::Add, turn, number(n))
 }
 
+// `c.add(t + k); t = t + 1`
+fn one_turn(alloc: Global, k: u64) -> Result<List<Item>, AllocError>
+    ensures { IfOk result (λ items. map item_view items ≡ t.plain (spec.add (codes "c") (spec.turn_and k)) ∷ t.plain (part.assigned (codes "t") (spec.turn_and 1)) ∷ []) }
+{
+    let amount = turn_and(alloc, k)?;
+    let adds = add(alloc, b"c", amount)?;
+    let mut items = one(alloc, Item::Plain(adds))?;
+    let next = turn_and(alloc, 1)?;
+    let counts = assigned(alloc, b"t", next)?;
+    items.push(Item::Plain(counts))?;
+    Ok(items)
+}
+
 // `while t < 3 do c.add(t + k); t = t + 1 end`
 fn repeat(alloc: Global, k: u64) -> Result<Expr, AllocError>
     ensures { IfOk result (λ e. expr_view e ≡ spec.repeat k) }
@@ -71,48 +116,78 @@ fn repeat(alloc: Global, k: u64) -> Result<Expr, AllocError>
     let turn = variable(alloc, b"t")?;
     let below = operation(alloc, Op::Lt, turn, number(3))?;
     let cond = alone(alloc, below)?;
-    let amount = turn_and(alloc, k)?;
-    let adds = add(alloc, b"c", amount)?;
-    let next = turn_and(alloc, 1)?;
-    let counts = assigned(alloc, b"t", next)?;
-    let items = vec![in alloc; Item::Plain(adds), Item::Plain(counts)]?;
-    turns(alloc, cond, sequence(List::from_vec(items)))
+    let items = one_turn(alloc, k)?;
+    turns(alloc, cond, sequence(items))
+}
+
+/// An expression behind other items.
+pub fn push_plain(items: &mut List<Item>, e: Expr) -> Result<(), AllocError>
+    ensures { OnOk result (map item_view items.new ≡ map item_view items.old ++ t.plain (expr_view e) ∷ []) }
+{
+    items.push(Item::Plain(e))
+}
+
+// `let x: T = e` behind other items, or `var` in place of `let`
+fn push_local(
+    items: &mut List<Item>,
+    fixed: bool,
+    typed: ParamDef,
+    value: Expr,
+) -> Result<(), AllocError>
+    ensures { OnOk result (map item_view items.new ≡ map item_view items.old ++ t.local fixed typed.name (Some typed.ty) (expr_view value) part.nowhere ∷ []) }
+{
+    items.push(local(fixed, typed, value))
+}
+
+// `e.add(v)`
+fn add_held(alloc: Global) -> Result<Expr, AllocError>
+    ensures { IfOk result (λ e. expr_view e ≡ spec.add (codes "e") (part.variable (codes "v"))) }
+{
+    let amount = variable(alloc, b"v")?;
+    add(alloc, b"e", amount)
+}
+
+// `let e: Cell ref = Cell; e.add(v)`, behind other items
+fn push_copy(alloc: Global, items: &mut List<Item>) -> Result<(), AllocError>
+    ensures { OnOk result (map item_view items.new ≡ map item_view items.old ++ part.local true (codes "e") (part.type_of (codes "Cell") (Some cap.Ref)) (part.entity (codes "Cell")) ∷ t.plain (spec.add (codes "e") (part.variable (codes "v"))) ∷ []) }
+{
+    let typed = param(alloc, b"e", b"Cell", Some(Cap::Ref))?;
+    let made = entity(alloc, b"Cell")?;
+    push_local(items, true, typed, made)?;
+    let adds = add_held(alloc)?;
+    push_plain(items, adds)
 }
 
 // `recover val let e: Cell ref = Cell; e.add(v); e end`
 fn freeze(alloc: Global) -> Result<Expr, AllocError>
     ensures { IfOk result (λ e. expr_view e ≡ spec.freeze) }
 {
-    let ty = type_of(alloc, b"Cell", Some(Cap::Ref))?;
-    let made = entity(alloc, b"Cell")?;
-    let local = local(alloc, true, b"e", ty, made)?;
-    let amount = variable(alloc, b"v")?;
-    let adds = add(alloc, b"e", amount)?;
+    let mut items = List::new(alloc);
+    push_copy(alloc, &mut items)?;
     let last = variable(alloc, b"e")?;
-    let items = vec![in alloc; local, Item::Plain(adds), Item::Plain(last)]?;
-    recovered(alloc, Cap::Val, sequence(List::from_vec(items)))
+    push_plain(&mut items, last)?;
+    recovered(alloc, Cap::Val, sequence(items))
 }
 
 // `var t: U64 = 0` and the loop
 fn push_repeat(alloc: Global, items: &mut List<Item>, k: u64) -> Result<(), AllocError>
     ensures { OnOk result (map item_view items.new ≡ map item_view items.old ++ spec.repeat_items k) }
 {
-    let ty = type_of(alloc, b"U64", None)?;
-    let turn = local(alloc, false, b"t", ty, number(0))?;
-    items.push(turn)?;
+    let typed = param(alloc, b"t", b"U64", None)?;
+    push_local(items, false, typed, number(0))?;
     let turns = repeat(alloc, k)?;
-    items.push(Item::Plain(turns))
+    push_plain(items, turns)
 }
 
 // `let d: Cell val = recover .. end`, `out.print(d.value().string())`
 fn push_frozen(alloc: Global, items: &mut List<Item>) -> Result<(), AllocError>
     ensures { OnOk result (map item_view items.new ≡ map item_view items.old ++ spec.frozen_items) }
 {
-    let ty = type_of(alloc, b"Cell", Some(Cap::Val))?;
+    let typed = param(alloc, b"d", b"Cell", Some(Cap::Val))?;
     let frozen = freeze(alloc)?;
-    items.push(local(alloc, true, b"d", ty, frozen)?)?;
+    push_local(items, true, typed, frozen)?;
     let told = tell(alloc, b"d")?;
-    items.push(Item::Plain(told))
+    push_plain(items, told)
 }
 
 // `c.add(k)`, `let v: U64 = c.value()`, and a copy of what is held, frozen
@@ -120,10 +195,10 @@ fn push_freeze(alloc: Global, items: &mut List<Item>, k: u64) -> Result<(), Allo
     ensures { OnOk result (map item_view items.new ≡ map item_view items.old ++ spec.freeze_items k) }
 {
     let adds = add(alloc, b"c", number(k))?;
-    items.push(Item::Plain(adds))?;
-    let ty = type_of(alloc, b"U64", None)?;
+    push_plain(items, adds)?;
+    let typed = param(alloc, b"v", b"U64", None)?;
     let held = value(alloc, b"c")?;
-    items.push(local(alloc, true, b"v", ty, held)?)?;
+    push_local(items, true, typed, held)?;
     push_frozen(alloc, items)
 }
 
@@ -139,11 +214,11 @@ pub fn push_task(
     match task {
         Task::Add => {
             let adds = add(alloc, b"c", number(k))?;
-            items.push(Item::Plain(adds))
+            push_plain(items, adds)
         }
         Task::Compare => {
             let compares = compare(alloc, k)?;
-            items.push(Item::Plain(compares))
+            push_plain(items, compares)
         }
         Task::Repeat => push_repeat(alloc, items, k),
         Task::Freeze => push_freeze(alloc, items, k),

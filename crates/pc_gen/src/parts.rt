@@ -1,5 +1,5 @@
 //! Parts of a made tree, each named as it is written.
-ghost use Rattle.std.specs.Prelude.{◌≡◌, [], ◌∷◌, map, IfOk};
+ghost use Rattle.std.specs.Prelude.{◌≡◌, [], ◌∷◌, map, Some, IfOk};
 ghost use Rattle.pc_tree.specs.View.{expr_view, suffix_view, item_view, arm_view, seq_view, method_view, entity_view};
 ghost use Rattle.pc_tree.specs.Tree as t;
 ghost use Rattle.pc_gen.specs.Parts as spec;
@@ -73,16 +73,24 @@ pub fn consumed(alloc: Global, name: &[u8]) -> Result<Expr, AllocError>
     })
 }
 
-/// `a + b`.
+/// Terms with one operator between them.
 #[tactic(auto, using(pc_tree::proofs::Views::view_infix))]
+pub fn infix(op: Op, terms: List<Expr>) -> Expr
+    ensures { expr_view result ≡ t.infix_ op (t.exprs_of (map expr_view terms)) spec.nowhere }
+{
+    Expr::Infix {
+        op,
+        terms,
+        span: NOWHERE,
+    }
+}
+
+/// `a + b`.
 pub fn operation(alloc: Global, op: Op, left: Expr, right: Expr) -> Result<Expr, AllocError>
     ensures { IfOk result (λ e. expr_view e ≡ spec.operation op (expr_view left) (expr_view right)) }
 {
-    Ok(Expr::Infix {
-        op,
-        terms: List::from_vec(vec![in alloc; left, right]?),
-        span: NOWHERE,
-    })
+    let terms = vec![in alloc; left, right]?;
+    Ok(infix(op, List::from_vec(terms)))
 }
 
 /// `x = e`.
@@ -90,8 +98,8 @@ pub fn operation(alloc: Global, op: Op, left: Expr, right: Expr) -> Result<Expr,
 pub fn assigned(alloc: Global, name: &[u8], value: Expr) -> Result<Expr, AllocError>
     ensures { IfOk result (λ e. expr_view e ≡ spec.assigned name.now (expr_view value)) }
 {
-    let left = Box::new(alloc, variable(alloc, name)?)?;
     let right = Box::new(alloc, value)?;
+    let left = Box::new(alloc, variable(alloc, name)?)?;
     Ok(Expr::Assign {
         left,
         right,
@@ -120,23 +128,31 @@ pub fn arguments(args: List<Expr>) -> Suffix
 
 /// A chain of suffixes behind an expression.
 #[tactic(auto, using(pc_tree::proofs::Views::view_chain))]
-pub fn chained(alloc: Global, head: Expr, suffixes: Vec<Suffix>) -> Result<Expr, AllocError>
-    ensures { IfOk result (λ e. expr_view e ≡ spec.chained (expr_view head) (map suffix_view suffixes.items)) }
+pub fn chained(alloc: Global, head: Expr, suffixes: List<Suffix>) -> Result<Expr, AllocError>
+    ensures { IfOk result (λ e. expr_view e ≡ spec.chained (expr_view head) (map suffix_view suffixes)) }
 {
     Ok(Expr::Chain {
         head: Box::new(alloc, head)?,
-        suffixes: List::from_vec(suffixes),
+        suffixes,
         span: NOWHERE,
     })
+}
+
+// `.m(a, b)`.
+fn called(alloc: Global, method: &[u8], args: List<Expr>) -> Result<List<Suffix>, AllocError>
+    ensures { IfOk result (λ ss. map suffix_view ss ≡ spec.dot method.now ∷ spec.arguments (map expr_view args) ∷ []) }
+{
+    let method = dot(alloc, method)?;
+    let suffixes = vec![in alloc; method, arguments(args)]?;
+    Ok(List::from_vec(suffixes))
 }
 
 /// `x.m(a, b)`.
 pub fn call(alloc: Global, name: &[u8], method: &[u8], args: List<Expr>) -> Result<Expr, AllocError>
     ensures { IfOk result (λ e. expr_view e ≡ spec.call name.now method.now (map expr_view args)) }
 {
+    let suffixes = called(alloc, method, args)?;
     let head = variable(alloc, name)?;
-    let method = dot(alloc, method)?;
-    let suffixes = vec![in alloc; method, arguments(args)]?;
     chained(alloc, head, suffixes)
 }
 
@@ -144,8 +160,8 @@ pub fn call(alloc: Global, name: &[u8], method: &[u8], args: List<Expr>) -> Resu
 pub fn construct(alloc: Global, name: &[u8], args: List<Expr>) -> Result<Expr, AllocError>
     ensures { IfOk result (λ e. expr_view e ≡ spec.construct name.now (map expr_view args)) }
 {
+    let suffixes = one(alloc, arguments(args))?;
     let head = entity(alloc, name)?;
-    let suffixes = vec![in alloc; arguments(args)]?;
     chained(alloc, head, suffixes)
 }
 
@@ -180,22 +196,16 @@ pub fn alone(alloc: Global, e: Expr) -> Result<Seq, AllocError>
 
 /// `let x: T = e`, or `var` in place of `let`.
 #[tactic(auto, using(pc_tree::proofs::Views::view_local))]
-pub fn local(
-    alloc: Global,
-    fixed: bool,
-    name: &[u8],
-    ty: TypeRef,
-    value: Expr,
-) -> Result<Item, AllocError>
-    ensures { IfOk result (λ item. item_view item ≡ spec.local fixed name.now ty (expr_view value)) }
+pub fn local(fixed: bool, typed: ParamDef, value: Expr) -> Item
+    ensures { item_view result ≡ t.local fixed typed.name (Some typed.ty) (expr_view value) spec.nowhere }
 {
-    Ok(Item::Local {
+    Item::Local {
         fixed,
-        name: named(alloc, name)?,
-        ty: Some(ty),
+        name: typed.name,
+        ty: Some(typed.ty),
         value,
         span: NOWHERE,
-    })
+    }
 }
 
 // `c then a`.
@@ -250,14 +260,18 @@ pub fn recovered(alloc: Global, cap: Cap, body: Seq) -> Result<Expr, AllocError>
     })
 }
 
-/// `x: T`.
-pub fn param(alloc: Global, name: &[u8], ty: TypeRef) -> Result<ParamDef, AllocError>
-    ensures { IfOk result (λ param. param ≡ spec.param name.now ty) }
+/// `x: C` or `x: C k`.
+pub fn param(
+    alloc: Global,
+    name: &[u8],
+    class: &[u8],
+    cap: Option<Cap>,
+) -> Result<ParamDef, AllocError>
+    ensures { IfOk result (λ param. param ≡ spec.param name.now (spec.type_of class.now cap)) }
 {
-    Ok(ParamDef {
-        name: named(alloc, name)?,
-        ty,
-    })
+    let name = named(alloc, name)?;
+    let ty = type_of(alloc, class, cap)?;
+    Ok(ParamDef { name, ty })
 }
 
 /// A method with a body.
@@ -293,8 +307,8 @@ pub fn create(alloc: Global, params: List<ParamDef>, body: Seq) -> Result<Method
 pub fn actor(alloc: Global, name: &[u8], method: MethodDef) -> Result<Entity, AllocError>
     ensures { IfOk result (λ e. entity_view e ≡ spec.actor name.now (method_view method)) }
 {
-    let name = named(alloc, name)?;
     let methods = one(alloc, method)?;
+    let name = named(alloc, name)?;
     Ok(Entity {
         kind: EntityKind::Actor,
         cap: None,

@@ -1,14 +1,16 @@
 //! The made program.
-ghost use Rattle.std.specs.Prelude.{◌≡◌, ◌++◌, ◌<◌, ◌≤◌, ◌+◌, map, IfOk, OnOk};
+ghost use Rattle.std.specs.Prelude.{◌≡◌, ◌++◌, [], ◌∷◌, ◌<◌, ◌≤◌, ◌+◌, map, codes, IfOk, OnOk};
 ghost use Rattle.pc_tree.specs.View.{expr_view, item_view, field_view, method_view, entity_view, file_view};
+ghost use Rattle.pc_tree.specs.declared.kinds.Op.TheVariants as op;
 ghost use Rattle.pc_gen.specs.Draws.{next, high};
+ghost use Rattle.pc_gen.specs.Parts as part;
 ghost use Rattle.pc_gen.specs.Program as spec;
 
-use crate::bodies::{push_task, tell};
+use crate::bodies::{push_plain, push_task, tell};
 use crate::draws::Draws;
 use crate::parts::{
-    actor, alone, assigned, chained, construct, consumed, create, dot, entity, local, method,
-    named, number, one, operation, param, sequence, type_of, variable,
+    actor, alone, assigned, chained, construct, consumed, create, dot, entity, infix, local,
+    method, named, number, one, param, sequence, type_of, variable,
 };
 use crate::task::{Task, task_of};
 use pc_caps::{Cap, List};
@@ -31,17 +33,25 @@ fn count_field(alloc: Global) -> Result<FieldDef, AllocError>
     })
 }
 
+// `_n + k`
+fn sum(alloc: Global) -> Result<Expr, AllocError>
+    ensures { IfOk result (λ e. expr_view e ≡ part.operation op.Add (part.variable (codes "_n")) (part.variable (codes "k"))) }
+{
+    let left = variable(alloc, b"_n")?;
+    let mut terms = one(alloc, left)?;
+    let right = variable(alloc, b"k")?;
+    terms.push(right)?;
+    Ok(infix(Op::Add, terms))
+}
+
 // `fun ref add(k: U64) => _n = _n + k`
 fn add_method(alloc: Global) -> Result<MethodDef, AllocError>
     ensures { IfOk result (λ m. method_view m ≡ spec.add_method) }
 {
-    let left = variable(alloc, b"_n")?;
-    let right = variable(alloc, b"k")?;
-    let sum = operation(alloc, Op::Add, left, right)?;
-    let sets = assigned(alloc, b"_n", sum)?;
+    let more = sum(alloc)?;
+    let sets = assigned(alloc, b"_n", more)?;
     let body = alone(alloc, sets)?;
-    let ty = type_of(alloc, b"U64", None)?;
-    let amount = param(alloc, b"k", ty)?;
+    let amount = param(alloc, b"k", b"U64", None)?;
     let params = one(alloc, amount)?;
     let cap = Some(Cap::Ref);
     method(alloc, MethodWord::Fun, cap, b"add", params, None, body)
@@ -58,15 +68,25 @@ fn value_method(alloc: Global) -> Result<MethodDef, AllocError>
     method(alloc, MethodWord::Fun, None, b"value", params, ty, body)
 }
 
+// The methods of `Cell`.
+fn cell_methods(alloc: Global) -> Result<List<MethodDef>, AllocError>
+    ensures { IfOk result (λ ms. map method_view ms ≡ spec.add_method ∷ spec.value_method ∷ []) }
+{
+    let add = add_method(alloc)?;
+    let mut methods = one(alloc, add)?;
+    let value = value_method(alloc)?;
+    methods.push(value)?;
+    Ok(methods)
+}
+
 // The class `Cell`.
 fn cell(alloc: Global) -> Result<Entity, AllocError>
     ensures { IfOk result (λ e. entity_view e ≡ spec.cell) }
 {
+    let count = count_field(alloc)?;
+    let fields = one(alloc, count)?;
+    let methods = cell_methods(alloc)?;
     let name = named(alloc, b"Cell")?;
-    let fields = one(alloc, count_field(alloc)?)?;
-    let add = add_method(alloc)?;
-    let value = value_method(alloc)?;
-    let methods = List::from_vec(vec![in alloc; add, value]?);
     Ok(Entity {
         kind: EntityKind::Class,
         cap: None,
@@ -91,21 +111,30 @@ fn worker_name(alloc: Global, i: u32) -> Result<List<u8>, AllocError>
 fn take_cell(alloc: Global) -> Result<Item, AllocError>
     ensures { IfOk result (λ item. item_view item ≡ spec.take_cell) }
 {
-    let ty = type_of(alloc, b"Cell", Some(Cap::Iso))?;
+    let typed = param(alloc, b"c", b"Cell", Some(Cap::Iso))?;
     let given = consumed(alloc, b"cell")?;
-    local(alloc, true, b"c", ty, given)
+    Ok(local(true, typed, given))
 }
 
 // `out: OutStream, cell: Cell iso`
 fn worker_params(alloc: Global) -> Result<List<ParamDef>, AllocError>
     ensures { IfOk result (λ params. params ≡ spec.worker_params) }
 {
-    let ty = type_of(alloc, b"OutStream", None)?;
-    let out = param(alloc, b"out", ty)?;
-    let ty = type_of(alloc, b"Cell", Some(Cap::Iso))?;
-    let cell = param(alloc, b"cell", ty)?;
+    let out = param(alloc, b"out", b"OutStream", None)?;
+    let cell = param(alloc, b"cell", b"Cell", Some(Cap::Iso))?;
     let params = vec![in alloc; out, cell]?;
     Ok(List::from_vec(params))
+}
+
+// `out, consume c`
+fn handed(alloc: Global) -> Result<List<Expr>, AllocError>
+    ensures { IfOk result (λ es. map expr_view es ≡ part.variable (codes "out") ∷ part.consumed (codes "c") ∷ []) }
+{
+    let out = variable(alloc, b"out")?;
+    let mut args = one(alloc, out)?;
+    let cell = consumed(alloc, b"c")?;
+    args.push(cell)?;
+    Ok(args)
 }
 
 // What a worker does last: the last one of all prints what the cell holds, each other hands the cell on.
@@ -117,10 +146,8 @@ fn hand_on(alloc: Global, size: u32, i: u32) -> Result<Expr, AllocError>
         return tell(alloc, b"c");
     }
     let name = worker_name(alloc, i + 1)?;
-    let out = variable(alloc, b"out")?;
-    let cell = consumed(alloc, b"c")?;
-    let args = vec![in alloc; out, cell]?;
-    construct(alloc, name.as_slice(), List::from_vec(args))
+    let args = handed(alloc)?;
+    construct(alloc, name.as_slice(), args)
 }
 
 // What a worker does.
@@ -138,8 +165,24 @@ fn work_items(
     let mut items = one(alloc, first)?;
     push_task(alloc, &mut items, task, k)?;
     let last = hand_on(alloc, size, i)?;
-    items.push(Item::Plain(last))?;
+    push_plain(&mut items, last)?;
     Ok(items)
+}
+
+// The constructor of the worker of this number.
+fn work_create(
+    alloc: Global,
+    size: u32,
+    i: u32,
+    task: Task,
+    k: u64,
+) -> Result<MethodDef, AllocError>
+    requires { i < size }
+    ensures { IfOk result (λ m. method_view m ≡ part.create spec.worker_params (part.sequence (spec.work_items size i task k))) }
+{
+    let items = work_items(alloc, size, i, task, k)?;
+    let params = worker_params(alloc)?;
+    create(alloc, params, sequence(items))
 }
 
 // The worker of this number.
@@ -147,10 +190,8 @@ fn work(alloc: Global, size: u32, i: u32, task: Task, k: u64) -> Result<Entity, 
     requires { i < size }
     ensures { IfOk result (λ e. entity_view e ≡ spec.work size i task k) }
 {
-    let items = work_items(alloc, size, i, task, k)?;
-    let params = worker_params(alloc)?;
-    let creates = create(alloc, params, sequence(items))?;
     let name = worker_name(alloc, i)?;
+    let creates = work_create(alloc, size, i, task, k)?;
     actor(alloc, name.as_slice(), creates)
 }
 
@@ -182,19 +223,34 @@ fn push_workers(
     Ok(())
 }
 
+// `env.out`
+fn stream(alloc: Global) -> Result<Expr, AllocError>
+    ensures { IfOk result (λ e. expr_view e ≡ part.chained (part.variable (codes "env")) (part.dot (codes "out") ∷ [])) }
+{
+    let out = dot(alloc, b"out")?;
+    let suffixes = one(alloc, out)?;
+    let env = variable(alloc, b"env")?;
+    chained(alloc, env, suffixes)
+}
+
+// `Work0(env.out, Cell)`
+fn begins(alloc: Global) -> Result<Expr, AllocError>
+    ensures { IfOk result (λ e. expr_view e ≡ part.construct (codes "Work0") (part.chained (part.variable (codes "env")) (part.dot (codes "out") ∷ []) ∷ part.entity (codes "Cell") ∷ [])) }
+{
+    let out = stream(alloc)?;
+    let mut args = one(alloc, out)?;
+    let cell = entity(alloc, b"Cell")?;
+    args.push(cell)?;
+    construct(alloc, b"Work0", args)
+}
+
 // The actor `Main`.
 fn main_actor(alloc: Global) -> Result<Entity, AllocError>
     ensures { IfOk result (λ e. entity_view e ≡ spec.main) }
 {
-    let env = variable(alloc, b"env")?;
-    let out = dot(alloc, b"out")?;
-    let stream = chained(alloc, env, vec![in alloc; out]?)?;
-    let cell = entity(alloc, b"Cell")?;
-    let args = List::from_vec(vec![in alloc; stream, cell]?);
-    let begins = construct(alloc, b"Work0", args)?;
-    let body = alone(alloc, begins)?;
-    let ty = type_of(alloc, b"Env", None)?;
-    let env = param(alloc, b"env", ty)?;
+    let first = begins(alloc)?;
+    let body = alone(alloc, first)?;
+    let env = param(alloc, b"env", b"Env", None)?;
     let params = one(alloc, env)?;
     let creates = create(alloc, params, body)?;
     actor(alloc, b"Main", creates)

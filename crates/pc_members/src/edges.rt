@@ -1,5 +1,5 @@
 //! The `is` lists, as edges between the numbers of entities.
-ghost use Rattle.std.specs.Prelude.{◌≡◌, ◌++◌, [], map, replicate, IfOk};
+ghost use Rattle.std.specs.Prelude.{◌≡◌, ◌++◌, [], map, replicate, IfOk, OnOk};
 ghost use Rattle.pc_tree.specs.View.{entity_view, file_view};
 ghost use Rattle.pc_members.specs.Chains as spec;
 ghost use Rattle.pc_members.specs.Words.{entity_names};
@@ -31,29 +31,43 @@ pub fn number_names(
 }
 
 // The built-in entities, which name none.
-fn built_in_edges(alloc: Global) -> Result<List<List<u32>>, AllocError>
-    ensures { IfOk result (λ l. l ≡ replicate spec.first_own []) }
+fn add_built_in(alloc: Global, edges: &mut List<List<u32>>) -> Result<(), AllocError>
+    requires { edges.old ≡ [] }
+    ensures { OnOk result (edges.new ≡ replicate spec.first_own []) }
 {
-    let mut edges = List::new(alloc);
     while edges.len() < FIRST_OWN {
         edges.push(List::new(alloc))?;
     }
-    Ok(edges)
+    Ok(())
 }
 
-// The edges of these entities, behind the others.
+// The edges of these entities go behind the others.
 fn add_edges(
     alloc: Global,
     entities: &NameTable,
-    mut edges: List<List<u32>>,
+    edges: &mut List<List<u32>>,
     all: &[Entity],
-) -> Result<List<List<u32>>, AllocError>
-    ensures { IfOk result (λ l. l ≡ edges ++ spec.own_edges entities.now (map entity_view all.now)) }
+) -> Result<(), AllocError>
+    ensures { OnOk result (edges.new ≡ edges.old ++ spec.own_edges entities.now (map entity_view all.now)) }
 {
     for entity in all {
         edges.push(number_names(alloc, entities, entity.provides.as_slice())?)?;
     }
-    Ok(edges)
+    Ok(())
+}
+
+// The edges of the built-in entities, and then those of these.
+fn add_all_edges(
+    alloc: Global,
+    entities: &NameTable,
+    edges: &mut List<List<u32>>,
+    all: &[Entity],
+) -> Result<(), AllocError>
+    requires { edges.old ≡ [] }
+    ensures { OnOk result (edges.new ≡ replicate spec.first_own [] ++ spec.own_edges entities.now (map entity_view all.now)) }
+{
+    add_built_in(alloc, edges)?;
+    add_edges(alloc, entities, edges, all)
 }
 
 /// For each entity of a file, those that its `is` list names.
@@ -65,10 +79,6 @@ pub fn list_edges(
     requires { entities.now ≡ entity_names (file_view file.now) }
     ensures { IfOk result (λ l. l ≡ spec.edges_of (file_view file.now)) }
 {
-    add_edges(
-        alloc,
-        entities,
-        built_in_edges(alloc)?,
-        file.entities.as_slice(),
-    )
+    let mut edges = List::new(alloc);
+    add_all_edges(alloc, entities, &mut edges, file.entities.as_slice()).and(Ok(edges))
 }

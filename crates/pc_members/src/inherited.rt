@@ -74,6 +74,28 @@ fn take_all_named<'a>(
     Ok(())
 }
 
+// What the entity takes over goes behind its own members.
+fn take_over<'a>(
+    alloc: Global,
+    entities: &NameTable,
+    table: &[List<Member<'a>>],
+    list: &mut List<Member<'a>>,
+    entity: &'a Entity,
+) -> Result<(), AllocError>
+    requires { members_view list.old ≡ spec.own_members (entity_view entity.now) }
+    ensures { OnOk result (members_view list.new ≡ spec.concrete entities.now (table_view table.now) (entity_view entity.now)) }
+{
+    let mut known = own_names(alloc, entity)?;
+    take_all_named(
+        entity.kind,
+        entities,
+        table,
+        &mut known,
+        list,
+        entity.provides.as_slice(),
+    )
+}
+
 // The members of a class, an actor or a primitive, where the table has the methods of the traits and interfaces.
 fn concrete_members<'a>(
     alloc: Global,
@@ -83,17 +105,8 @@ fn concrete_members<'a>(
 ) -> Result<List<Member<'a>>, AllocError>
     ensures { IfOk result (λ l. members_view l ≡ spec.concrete entities.now (table_view table.now) (entity_view entity.now)) }
 {
-    let mut known = own_names(alloc, entity)?;
     let mut list = own_members(alloc, entity)?;
-    take_all_named(
-        entity.kind,
-        entities,
-        table,
-        &mut known,
-        &mut list,
-        entity.provides.as_slice(),
-    )?;
-    Ok(list)
+    take_over(alloc, entities, table, &mut list, entity).and(Ok(list))
 }
 
 // These members without their bodies.

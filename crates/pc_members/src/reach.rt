@@ -1,5 +1,5 @@
 //! What entities lead to.
-ghost use Rattle.std.specs.Prelude.{◌≡◌, ◌<◌, [], ◌^◌, length, OnOk, IfOk, slice_get};
+ghost use Rattle.std.specs.Prelude.{◌≡◌, ◌<◌, ◌+◌, [], ◌++◌, ◌^◌, length, OnOk, IfOk, slice_get};
 ghost use Rattle.pc_members.specs.Reach as spec;
 
 use indexmap::IndexSet;
@@ -72,21 +72,29 @@ impl Found {
     }
 }
 
-// What is reached from this number.
+// From the found one at each place on, those behind its edges are added.
 #[tactic(auto, using(crate::proofs::Reaches::one_turn))]
-fn reach(alloc: Global, edges: &[List<u32>], from: usize) -> Result<Found, AllocError>
+fn grow(found: &mut Found, edges: &[List<u32>]) -> Result<(), AllocError>
     requires { length edges.now < 2 ^ 32 }
-    ensures { IfOk result (λ f. f ≡ spec.reached edges.now from) }
+    ensures { OnOk result (found.new ≡ spec.grow (length edges.now + 1) edges.now found.old 0) }
 {
-    let mut found = Found::new(alloc);
-    found.add_next(edges, from)?;
     for at in 0..edges.len() + 1 {
         let Some(number) = found.get(at) else {
-            return Ok(found);
+            return Ok(());
         };
         found.add_next(edges, number as usize)?;
     }
-    Ok(found)
+    Ok(())
+}
+
+// What is reached from this number, behind none.
+fn find(found: &mut Found, edges: &[List<u32>], from: usize) -> Result<(), AllocError>
+    requires few { length edges.now < 2 ^ 32 }
+    requires none { found.old ≡ [] }
+    ensures { OnOk result (found.new ≡ spec.reached edges.now from) }
+{
+    found.add_next(edges, from)?;
+    grow(found, edges)
 }
 
 // Those of the first numbers that were found, in ascending order.
@@ -103,16 +111,37 @@ fn sort_found(alloc: Global, found: &Found, count: u32) -> Result<List<u32>, All
     Ok(ascending)
 }
 
-/// For each number, what is reached from it along the edges, in ascending order.
+// What is reached from this number, in ascending order.
+fn reach(alloc: Global, edges: &[List<u32>], from: usize) -> Result<List<u32>, AllocError>
+    requires { length edges.now < 2 ^ 32 }
+    ensures { IfOk result (λ l. l ≡ spec.ascending (spec.reached edges.now from) 0 (length edges.now)) }
+{
+    let mut found = Found::new(alloc);
+    find(&mut found, edges, from)?;
+    sort_found(alloc, &found, edges.len() as u32)
+}
+
+// What is reached from each number goes behind the others.
 #[tactic(auto, using(crate::proofs::Reaches::above_turn))]
+fn add_reached(
+    alloc: Global,
+    lists: &mut List<List<u32>>,
+    edges: &[List<u32>],
+) -> Result<(), AllocError>
+    requires { length edges.now < 2 ^ 32 }
+    ensures { OnOk result (lists.new ≡ lists.old ++ spec.above_all edges.now) }
+{
+    for from in 0..edges.len() {
+        lists.push(reach(alloc, edges, from)?)?;
+    }
+    Ok(())
+}
+
+/// For each number, what is reached from it along the edges, in ascending order.
 pub fn close(alloc: Global, edges: &[List<u32>]) -> Result<List<List<u32>>, AllocError>
     requires { length edges.now < 2 ^ 32 }
     ensures { IfOk result (λ l. l ≡ spec.above_all edges.now) }
 {
     let mut lists = List::new(alloc);
-    for from in 0..edges.len() {
-        let found = reach(alloc, edges, from)?;
-        lists.push(sort_found(alloc, &found, edges.len() as u32)?)?;
-    }
-    Ok(lists)
+    add_reached(alloc, &mut lists, edges).and(Ok(lists))
 }

@@ -51,12 +51,19 @@ fn add_created(table: &mut NameTable, entity: &Entity) -> Result<(), AllocError>
     }
 }
 
+// The names that the entity has itself, and no others.
+fn add_own_texts(table: &mut NameTable, entity: &Entity) -> Result<(), AllocError>
+    requires { table.old ≡ [] }
+    ensures { OnOk result (table.new ≡ with_names [] (own_texts (entity_view entity.now))) }
+{
+    add_texts(table, entity)?;
+    add_created(table, entity)
+}
+
 /// The names that an entity has itself: those of its fields and methods, and of an added `create`.
 pub(crate) fn own_names(alloc: Global, entity: &Entity) -> Result<NameTable, AllocError>
     ensures { IfOk result (λ n. n ≡ with_names [] (own_texts (entity_view entity.now))) }
 {
     let mut known = NameTable::new(alloc);
-    add_texts(&mut known, entity)?;
-    add_created(&mut known, entity)?;
-    Ok(known)
+    add_own_texts(&mut known, entity).and(Ok(known))
 }

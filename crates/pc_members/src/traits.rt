@@ -1,8 +1,9 @@
 //! The methods of each trait and interface of a file, with what it takes over.
-ghost use Rattle.std.specs.Prelude.{◌≡◌, ◌++◌, ◌+◌, map, length, IfOk, OnOk};
+ghost use Rattle.std.specs.Prelude.{◌≡◌, ◌++◌, ◌+◌, [], map, length, IfOk, OnOk};
 ghost use Rattle.std.specs.Option.{option_copied};
 ghost use Rattle.pc_tree.specs.View.{entity_view, file_view};
 ghost use Rattle.pc_members.specs.Chains.{IsFounded};
+ghost use Rattle.pc_members.specs.Members.{written};
 ghost use Rattle.pc_members.specs.Tables.{find_name, with_names};
 ghost use Rattle.pc_members.specs.Words.{entity_names};
 ghost use Rattle.pc_members.specs.Rounds as spec;
@@ -81,9 +82,41 @@ fn add_all_named<'a>(
     Ok(())
 }
 
+// The same of the entity's own methods.
+fn add_own_methods<'a>(
+    alloc: Global,
+    known: &mut NameTable,
+    list: &mut List<Member<'a>>,
+    entity: &'a Entity,
+) -> Result<(), AllocError>
+    ensures list { OnOk result (members_view list.new ≡ members_view list.old ++ spec.first_members known.old (map written (entity_view entity.now).methods)) }
+    ensures known { OnOk result (known.new ≡ with_names known.old (spec.member_texts (map written (entity_view entity.now).methods))) }
+{
+    let mut own = List::new(alloc);
+    add_written(&mut own, entity.methods.as_slice())?;
+    add_firsts(known, list, own.as_slice())
+}
+
+// The same of the entity's own methods, and then of what the table has for the entities that it names.
+#[tactic(auto, using(crate::proofs::Firsts::first_parts))]
+fn add_gathered<'a>(
+    alloc: Global,
+    entities: &NameTable,
+    table: &[List<Member<'a>>],
+    known: &mut NameTable,
+    list: &mut List<Member<'a>>,
+    entity: &'a Entity,
+) -> Result<(), AllocError>
+    requires none { members_view list.old ≡ [] }
+    requires unknown { known.old ≡ [] }
+    ensures { OnOk result (members_view list.new ≡ spec.gathered entities.now (table_view table.now) (entity_view entity.now)) }
+{
+    add_own_methods(alloc, known, list, entity)?;
+    add_all_named(entities, table, known, list, entity.provides.as_slice())
+}
+
 // The methods of a trait or an interface: its own, and then those that the table has for what it names, of each name the
 // first.
-#[tactic(auto, using(crate::proofs::Firsts::first_parts))]
 fn gather<'a>(
     alloc: Global,
     entities: &NameTable,
@@ -92,19 +125,9 @@ fn gather<'a>(
 ) -> Result<List<Member<'a>>, AllocError>
     ensures { IfOk result (λ l. members_view l ≡ spec.gathered entities.now (table_view table.now) (entity_view entity.now)) }
 {
-    let mut own = List::new(alloc);
-    add_written(&mut own, entity.methods.as_slice())?;
     let mut known = NameTable::new(alloc);
     let mut list = List::new(alloc);
-    add_firsts(&mut known, &mut list, own.as_slice())?;
-    add_all_named(
-        entities,
-        table,
-        &mut known,
-        &mut list,
-        entity.provides.as_slice(),
-    )?;
-    Ok(list)
+    add_gathered(alloc, entities, table, &mut known, &mut list, entity).and(Ok(list))
 }
 
 /// How many entities are above that at this place of the file.

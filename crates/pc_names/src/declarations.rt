@@ -1,7 +1,9 @@
 //! What is wrong with the declarations of an entity.
-ghost use Rattle.std.specs.Prelude.{◌≡◌, ◌||◌, [], map, IfOk};
+ghost use Rattle.std.specs.Prelude.{◌≡◌, ◌||◌, ◌++◌, [], not, length, map, nat_lt, OnOk};
 ghost use Rattle.pc_tree.specs.View.{entity_view, field_view, method_view};
 ghost use Rattle.pc_names.specs.Faults as spec;
+ghost use Rattle.pc_names.specs.declared.fault.NameFault.TheVariants.{Double, TooMany};
+ghost use Rattle.pc_names.specs.declared.fault.Which.TheVariants.{Fields};
 ghost use Rattle.pc_members.specs.Words.{is_among, field_texts, method_texts};
 
 use crate::fault::{NameFault, Which};
@@ -38,6 +40,17 @@ fn check_provided(alloc: Global, traits: &NameTable, provides: &[Name]) -> Resul
     ensures { spec.Tells result (spec.provided_faults traits.now [] provides.now) }
 {
     let mut known = NameTable::new(alloc);
+    add_provided(traits, &mut known, provides)
+}
+
+// The same where the table has the names before these, which go behind them.
+fn add_provided(
+    traits: &NameTable,
+    known: &mut NameTable,
+    provides: &[Name],
+) -> Result<(), NameFault>
+    ensures { spec.Tells result (spec.provided_faults traits.now known.old provides.now) }
+{
     for name in provides {
         if !traits.has(name.text.as_slice()) {
             return Err(NameFault::Unknown(name.span));
@@ -50,33 +63,38 @@ fn check_provided(alloc: Global, traits: &NameTable, provides: &[Name]) -> Resul
     Ok(())
 }
 
-// The names of the fields differ, there are not too many, and their types are entities.
-#[tactic(auto, using(crate::proofs::Firsts::is_first_on))]
-fn check_fields(
-    alloc: Global,
+// The names of the fields differ from each other and from those that are known, there are not too many, and their types are
+// entities. The names go behind the others.
+fn add_fields(
     entities: &NameTable,
+    known: &mut NameTable,
     fields: &[FieldDef],
-) -> Result<NameTable, NameFault>
-    ensures tells { spec.Tells result (spec.field_faults entities.now [] (map field_view fields.now)) }
-    ensures names { IfOk result (λ t. t ≡ field_texts (map field_view fields.now)) }
+) -> Result<(), NameFault>
+    ensures tells { spec.Tells result (spec.field_faults entities.now known.old (map field_view fields.now)) }
+    ensures names { OnOk result (known.new ≡ known.old ++ field_texts (map field_view fields.now)) }
 {
-    let mut known = NameTable::new(alloc);
     for field in fields {
-        let name = &field.name;
-        if known.has(name.text.as_slice()) {
-            return Err(NameFault::Double(name.span));
-        }
-        if known.len() >= FIELD_LIMIT {
-            return Err(NameFault::TooMany(Which::Fields, name.span));
-        }
+        check_field_name(known, &field.name)?;
         check_type(entities, &field.ty)?;
-        known.add(name.text.as_slice())?;
+        known.add(field.name.text.as_slice())?;
     }
-    Ok(known)
+    Ok(())
+}
+
+// The name of a field is none of those that are known, and these are not too many.
+fn check_field_name(known: &NameTable, name: &Name) -> Result<(), NameFault>
+    ensures { spec.Tells result (spec.either (is_among name.now.text known.now) (Double name.now.span) (not (nat_lt (length known.now) spec.field_limit)) (TooMany Fields name.now.span)) }
+{
+    if known.has(name.text.as_slice()) {
+        return Err(NameFault::Double(name.span));
+    }
+    if known.len() >= FIELD_LIMIT {
+        return Err(NameFault::TooMany(Which::Fields, name.span));
+    }
+    Ok(())
 }
 
 // The names of the parameters are no fields' and differ, and their types are entities.
-#[tactic(auto, using(crate::proofs::Firsts::is_first_on))]
 fn check_params(
     alloc: Global,
     entities: &NameTable,
@@ -86,9 +104,21 @@ fn check_params(
     ensures { spec.Tells result (spec.param_faults entities.now fields.now [] params.now) }
 {
     let mut known = NameTable::new(alloc);
+    add_params(entities, fields, &mut known, params)
+}
+
+// The same where the table has the names before these, which go behind them.
+fn add_params(
+    entities: &NameTable,
+    fields: &NameTable,
+    known: &mut NameTable,
+    params: &[ParamDef],
+) -> Result<(), NameFault>
+    ensures { spec.Tells result (spec.param_faults entities.now fields.now known.old params.now) }
+{
     for param in params {
         let name = &param.name;
-        if is_in_either(fields, &known, name) {
+        if is_in_either(fields, known, name) {
             return Err(NameFault::Double(name.span));
         }
         check_type(entities, &param.ty)?;
@@ -119,7 +149,6 @@ fn check_signature(
 }
 
 // The names of the methods are no fields' and differ, and what is inside each is right.
-#[tactic(auto, using(crate::proofs::Firsts::is_first_on))]
 fn check_methods(
     alloc: Global,
     entities: &NameTable,
@@ -129,9 +158,22 @@ fn check_methods(
     ensures { spec.Tells result (spec.method_faults entities.now fields.now [] (map method_view methods.now)) }
 {
     let mut known = NameTable::new(alloc);
+    add_methods(alloc, entities, fields, &mut known, methods)
+}
+
+// The same where the table has the names before these, which go behind them.
+fn add_methods(
+    alloc: Global,
+    entities: &NameTable,
+    fields: &NameTable,
+    known: &mut NameTable,
+    methods: &[MethodDef],
+) -> Result<(), NameFault>
+    ensures { spec.Tells result (spec.method_faults entities.now fields.now known.old (map method_view methods.now)) }
+{
     for method in methods {
         let name = &method.name;
-        if is_in_either(fields, &known, name) {
+        if is_in_either(fields, known, name) {
             return Err(NameFault::Double(name.span));
         }
         check_signature(alloc, entities, fields, method)?;
@@ -180,6 +222,29 @@ fn has_method(methods: &[MethodDef], name: &[u8]) -> bool
     false
 }
 
+// The fields and methods of one entity.
+fn check_members(alloc: Global, entities: &NameTable, entity: &Entity) -> Result<(), NameFault>
+    ensures { spec.Tells result (spec.field_faults entities.now [] (entity_view entity.now).fields ++ spec.method_faults entities.now (field_texts (entity_view entity.now).fields) [] (entity_view entity.now).methods) }
+{
+    let mut fields = NameTable::new(alloc);
+    add_members(alloc, entities, &mut fields, entity)
+}
+
+// The same, where the names of the fields go into a table without names.
+#[tactic(auto, using(crate::proofs::Firsts::is_first_on))]
+fn add_members(
+    alloc: Global,
+    entities: &NameTable,
+    fields: &mut NameTable,
+    entity: &Entity,
+) -> Result<(), NameFault>
+    requires { fields.old ≡ [] }
+    ensures { spec.Tells result (spec.field_faults entities.now [] (entity_view entity.now).fields ++ spec.method_faults entities.now (field_texts (entity_view entity.now).fields) [] (entity_view entity.now).methods) }
+{
+    add_fields(entities, fields, entity.fields.as_slice())?;
+    check_methods(alloc, entities, fields, entity.methods.as_slice())
+}
+
 // The declarations of one entity.
 #[tactic(auto, using(crate::proofs::Firsts::is_first_on))]
 fn check_entity(
@@ -192,8 +257,7 @@ fn check_entity(
 {
     check_added(entity)?;
     check_provided(alloc, traits, entity.provides.as_slice())?;
-    let fields = check_fields(alloc, entities, entity.fields.as_slice())?;
-    check_methods(alloc, entities, &fields, entity.methods.as_slice())
+    check_members(alloc, entities, entity)
 }
 
 /// The declarations of these entities, one after the other.

@@ -1,5 +1,5 @@
 //! The numbers of the entities.
-ghost use Rattle.std.specs.Prelude.{◌≡◌, ◌++◌, ◌≤◌, map, length, IfOk};
+ghost use Rattle.std.specs.Prelude.{◌≡◌, ◌++◌, ◌≤◌, [], map, length, take, IfOk, OnOk};
 ghost use Rattle.pc_tree.specs.View.{entity_view, file_view};
 ghost use Rattle.pc_names.specs.Faults.{Tells, entity_name_faults, entity_limit};
 ghost use Rattle.pc_members.specs.Tables.{trait_names, with_traits};
@@ -13,25 +13,40 @@ use std::alloc::{AllocError, Global};
 /// How many entities there may be, with the six that are built in.
 const ENTITY_LIMIT: u32 = 1_006;
 
-// The entities that each program has.
-fn table_built_in(alloc: Global) -> Result<NameTable, AllocError>
-    ensures { IfOk result (λ t. t ≡ built_in_names) }
+// The names of the entities that each program has go into a table without names.
+fn add_built_in(table: &mut NameTable) -> Result<(), AllocError>
+    requires { table.old ≡ [] }
+    ensures { OnOk result (table.new ≡ built_in_names) }
 {
-    let mut table = NameTable::new(alloc);
+    add_first_built_in(table)?;
+    add_last_built_in(table)
+}
+
+// The first three of them.
+fn add_first_built_in(table: &mut NameTable) -> Result<(), AllocError>
+    requires { table.old ≡ [] }
+    ensures { OnOk result (table.new ≡ take 3 built_in_names) }
+{
     table.add(b"None")?;
     table.add(b"U64")?;
-    table.add(b"Bool")?;
+    table.add(b"Bool")
+}
+
+// The last three of them.
+fn add_last_built_in(table: &mut NameTable) -> Result<(), AllocError>
+    requires { table.old ≡ take 3 built_in_names }
+    ensures { OnOk result (table.new ≡ built_in_names) }
+{
     table.add(b"String")?;
     table.add(b"Env")?;
-    table.add(b"OutStream")?;
-    Ok(table)
+    table.add(b"OutStream")
 }
 
 // Puts the names of these entities behind the others.
-fn add_entities(mut table: NameTable, entities: &[Entity]) -> Result<NameTable, NameFault>
-    requires { length table ≤ entity_limit }
-    ensures tells { Tells result (entity_name_faults table (map entity_view entities.now)) }
-    ensures names { IfOk result (λ t. t ≡ table ++ texts_of (map entity_view entities.now)) }
+fn add_entities(table: &mut NameTable, entities: &[Entity]) -> Result<(), NameFault>
+    requires { length table.old ≤ entity_limit }
+    ensures tells { Tells result (entity_name_faults table.old (map entity_view entities.now)) }
+    ensures names { OnOk result (table.new ≡ table.old ++ texts_of (map entity_view entities.now)) }
 {
     for entity in entities {
         let name = &entity.name;
@@ -43,7 +58,17 @@ fn add_entities(mut table: NameTable, entities: &[Entity]) -> Result<NameTable, 
         }
         table.add(name.text.as_slice())?;
     }
-    Ok(table)
+    Ok(())
+}
+
+// Puts the names of all entities, the built-in ones first, into a table without names.
+fn add_all(table: &mut NameTable, entities: &[Entity]) -> Result<(), NameFault>
+    requires { table.old ≡ [] }
+    ensures tells { Tells result (entity_name_faults built_in_names (map entity_view entities.now)) }
+    ensures names { OnOk result (table.new ≡ built_in_names ++ texts_of (map entity_view entities.now)) }
+{
+    add_built_in(table)?;
+    add_entities(table, entities)
 }
 
 /// The names of all entities of a file in the order of their numbers, the built-in ones first.
@@ -51,24 +76,28 @@ pub(crate) fn table_entities(alloc: Global, file: &File) -> Result<NameTable, Na
     ensures tells { Tells result (entity_name_faults built_in_names (file_view file.now).entities) }
     ensures names { IfOk result (λ t. t ≡ entity_names (file_view file.now)) }
 {
-    add_entities(table_built_in(alloc)?, file.entities.as_slice())
+    let mut table = NameTable::new(alloc);
+    add_all(&mut table, file.entities.as_slice())?;
+    Ok(table)
 }
 
 // Puts the names of the traits and interfaces among these entities behind the others.
-fn add_traits(mut table: NameTable, entities: &[Entity]) -> Result<NameTable, AllocError>
-    ensures { IfOk result (λ t. t ≡ with_traits table (map entity_view entities.now)) }
+fn add_traits(table: &mut NameTable, entities: &[Entity]) -> Result<(), AllocError>
+    ensures { OnOk result (table.new ≡ with_traits table.old (map entity_view entities.now)) }
 {
     for entity in entities {
         if entity.kind.is_abstract() {
             table.add(entity.name.text.as_slice())?;
         }
     }
-    Ok(table)
+    Ok(())
 }
 
 /// The names of the traits and interfaces of a file.
 pub(crate) fn table_traits(alloc: Global, file: &File) -> Result<NameTable, AllocError>
     ensures { IfOk result (λ t. t ≡ trait_names (file_view file.now).entities) }
 {
-    add_traits(NameTable::new(alloc), file.entities.as_slice())
+    let mut table = NameTable::new(alloc);
+    add_traits(&mut table, file.entities.as_slice())?;
+    Ok(table)
 }

@@ -8,15 +8,13 @@ use pc_members::{NameTable, add_texts};
 use pc_tree::{Entity, File};
 use std::alloc::{AllocError, Global};
 
-// The names that each program has.
-fn table_built_in(alloc: Global) -> Result<NameTable, AllocError>
-    ensures { IfOk result (λ t. t ≡ with_names [] spec.built_in_texts) }
+// The names that each program has go behind the others.
+fn add_built_in(table: &mut NameTable) -> Result<(), AllocError>
+    ensures { OnOk result (table.new ≡ with_names table.old spec.built_in_texts) }
 {
-    let mut table = NameTable::new(alloc);
     table.add(b"out")?;
     table.add(b"print")?;
-    table.add(b"create")?;
-    Ok(table)
+    table.add(b"create")
 }
 
 /// The names of the fields and methods of these entities go behind the others, each once. After an `Err` some of them are
@@ -30,11 +28,20 @@ pub fn add_member_texts(table: &mut NameTable, entities: &[Entity]) -> Result<()
     Ok(())
 }
 
+// The names that each program has, and those of these entities' fields and methods, go into a table without names.
+fn add_all(table: &mut NameTable, entities: &[Entity]) -> Result<(), AllocError>
+    requires { table.old ≡ [] }
+    ensures { OnOk result (table.new ≡ spec.other_texts (map entity_view entities.now)) }
+{
+    add_built_in(table)?;
+    add_member_texts(table, entities)
+}
+
 /// The texts of a file that are no entities' names.
 pub(crate) fn table_texts(alloc: Global, file: &File) -> Result<NameTable, AllocError>
     ensures { IfOk result (λ t. t ≡ spec.other_texts (file_view file.now).entities) }
 {
-    let mut table = table_built_in(alloc)?;
-    add_member_texts(&mut table, file.entities.as_slice())?;
+    let mut table = NameTable::new(alloc);
+    add_all(&mut table, file.entities.as_slice())?;
     Ok(table)
 }

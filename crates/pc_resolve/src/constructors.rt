@@ -1,8 +1,8 @@
 //! The constructors of an entity, found by their names.
-ghost use Rattle.std.specs.Prelude.{◌≡◌, [], IfOk, map};
+ghost use Rattle.std.specs.Prelude.{◌≡◌, [], IfOk, OnOk, map};
 ghost use Rattle.std.specs.Str.{bytes_eq};
 ghost use Rattle.pc_body_spec.specs.Scopes as spec;
-ghost use Rattle.pc_resolve.specs.Indexes.{firsts};
+ghost use Rattle.pc_resolve.specs.Indexes.{firsts, with_firsts};
 ghost use Rattle.pc_resolve.specs.Pairs.{constructor_pair};
 
 use crate::index::Index;
@@ -89,8 +89,16 @@ fn number_methods(alloc: Global, row: &[Constructor]) -> Result<Index, AllocErro
     ensures { IfOk result (λ methods. methods ≡ firsts bytes_eq (map constructor_pair row.now)) }
 {
     let mut methods = Index::new(alloc);
+    add_methods(&mut methods, row)?;
+    Ok(methods)
+}
+
+// Those of these constructors go behind the others, unless their names are there.
+fn add_methods(methods: &mut Index, row: &[Constructor]) -> Result<(), AllocError>
+    ensures { OnOk result (methods.new ≡ with_firsts bytes_eq methods.old (map constructor_pair row.now)) }
+{
     for constructor in row {
         methods.add(constructor.name.as_slice(), constructor.method)?;
     }
-    Ok(methods)
+    Ok(())
 }

@@ -21,11 +21,33 @@ use std::marker::Model;
 /// there are.
 #[derive(Drop)]
 pub struct Context {
-    fields: NameRow,
-    methods: NameRow,
+    members: Members,
     entities: Entities,
     texts: NameTable,
     slots: LocalSlots,
+}
+
+// The names of the fields and methods of an entity.
+#[derive(Drop)]
+struct Members {
+    fields: NameRow,
+    methods: NameRow,
+}
+
+impl Members {
+    // These names. An `Err` where memory runs out.
+    fn of(
+        alloc: Global,
+        fields: List<List<u8>>,
+        methods: List<List<u8>>,
+    ) -> Result<Members, AllocError>
+        ensures fields { IfOk result (λ members. members.fields ≡ fields) }
+        ensures methods { IfOk result (λ members. members.methods ≡ methods) }
+    {
+        let fields = NameRow::of(alloc, fields)?;
+        let methods = NameRow::of(alloc, methods)?;
+        Ok(Members { fields, methods })
+    }
 }
 
 impl Model for Context {
@@ -34,7 +56,7 @@ impl Model for Context {
 
     ghost Value = { Seen };
 
-    ghost view = { λ c. record { fields = c.fields; methods = c.methods; entities = c.entities; texts = c.texts; slots = c.slots } };
+    ghost view = { λ c. record { fields = c.members.fields; methods = c.members.methods; entities = c.entities; texts = c.texts; slots = c.slots } };
 
     ghost invariant = { λ c. length c.entities < 2 ^ 32 };
 }
@@ -54,12 +76,10 @@ impl Context {
         requires { length entities < 2 ^ 32 }
         ensures { IfOk result (λ context. context ≡ record { fields = fields; methods = methods; entities = entities; texts = texts; slots = slots }) }
     {
-        let fields = NameRow::of(alloc, fields)?;
-        let methods = NameRow::of(alloc, methods)?;
+        let members = Members::of(alloc, fields, methods)?;
         let entities = Entities::of(alloc, entities)?;
         Ok(Context {
-            fields,
-            methods,
+            members,
             entities,
             texts,
             slots,
@@ -77,10 +97,7 @@ impl Context {
         ensures ok { OnOk result (self.new ≡ record { fields = fields; methods = methods; entities = self.old.entities; texts = self.old.texts; slots = self.old.slots }) }
         ensures err { OnErr result (self.new ≡ self.old) }
     {
-        let fields = NameRow::of(alloc, fields)?;
-        let methods = NameRow::of(alloc, methods)?;
-        self.fields = fields;
-        self.methods = methods;
+        self.members = Members::of(alloc, fields, methods)?;
         Ok(())
     }
 
@@ -106,10 +123,10 @@ impl Context {
         if let Some(slot) = local {
             return Meaning::Local(slot);
         }
-        if self.fields.has(name) {
+        if self.members.fields.has(name) {
             return Meaning::Field;
         }
-        if self.methods.has(name) {
+        if self.members.methods.has(name) {
             Meaning::Method
         } else {
             Meaning::Nothing

@@ -1,11 +1,11 @@
 //! The locals of a body, in the order in which their names stand in the text.
-ghost use Rattle.std.specs.Prelude.{◌≡◌, ◌++◌, IfOk, OnOk, map};
+ghost use Rattle.std.specs.Prelude.{◌≡◌, ◌∷◌, [], ◌++◌, IfOk, OnOk, map};
 ghost use Rattle.pc_tree.specs.View.{arm_view, arms_view, expr_view, exprs_view, field_view, item_view, items_view, maybe_expr, maybe_seq, method_view, other_view, seq_view, suffix_view, suffixes_view};
 ghost use Rattle.pc_body_spec.specs.Slots as spec;
 
 use crate::local::Local;
 use pc_caps::List;
-use pc_tree::{Arm, Expr, FieldDef, Item, MethodDef, MethodWord, Seq, Suffix};
+use pc_tree::{Arm, Expr, FieldDef, Item, MethodDef, MethodWord, Name, Seq, Suffix, TypeRef};
 use std::alloc::{AllocError, Global};
 
 /// The locals of a method of an entity with these fields, in the order of the text. Those of the initial values are in each
@@ -18,12 +18,24 @@ pub fn locals(
     ensures { IfOk result (λ locals. locals ≡ spec.method_locals (map field_view fields.now) (method_view method.now)) }
 {
     let mut locals = List::new(alloc);
+    add_locals(alloc, &mut locals, fields, method)?;
+    Ok(locals)
+}
+
+// They go behind the others.
+fn add_locals(
+    alloc: Global,
+    locals: &mut List<Local>,
+    fields: &[FieldDef],
+    method: &MethodDef,
+) -> Result<(), AllocError>
+    ensures { OnOk result (locals.new ≡ locals.old ++ spec.method_locals (map field_view fields.now) (method_view method.now)) }
+{
     match method.word {
-        MethodWord::New => initial_values(alloc, &mut locals, fields)?,
+        MethodWord::New => initial_values(alloc, locals, fields)?,
         MethodWord::Fun | MethodWord::Be => (),
     }
-    body(alloc, &mut locals, &method.body)?;
-    Ok(locals)
+    body(alloc, locals, &method.body)
 }
 
 /// The locals of a constructor that is added where none is written: those of the initial values of the fields.
@@ -214,9 +226,24 @@ fn item(alloc: Global, locals: &mut List<Local>, depth: u32, x: &Item) -> Result
             value,
             ..
         } => {
-            locals.push(Local::copy(alloc, *fixed, name, ty, depth)?)?;
+            add_local(alloc, locals, *fixed, name, ty, depth)?;
             expr(alloc, locals, depth, value)
         }
         Item::Plain(e) => expr(alloc, locals, depth, e),
     }
+}
+
+// A copy of what is written of a local goes behind the others.
+fn add_local(
+    alloc: Global,
+    locals: &mut List<Local>,
+    fixed: bool,
+    name: &Name,
+    ty: &Option<TypeRef>,
+    depth: u32,
+) -> Result<(), AllocError>
+    ensures { OnOk result (locals.new ≡ locals.old ++ record { fixed = fixed; name = name.now; ty = ty.now; depth = depth } ∷ []) }
+{
+    let local = Local::copy(alloc, fixed, name, ty, depth)?;
+    locals.push(local)
 }

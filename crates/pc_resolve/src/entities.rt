@@ -1,8 +1,8 @@
 //! What a body sees of the entities of the program, found by their names.
-ghost use Rattle.std.specs.Prelude.{◌≡◌, ◌<◌, ◌^◌, Some, IfOk, length};
+ghost use Rattle.std.specs.Prelude.{◌≡◌, ◌<◌, ◌^◌, Some, IfOk, OnOk, length};
 ghost use Rattle.std.specs.Option.{option_map};
 ghost use Rattle.std.specs.Str.{bytes_eq};
-ghost use Rattle.pc_resolve.specs.Indexes.{firsts};
+ghost use Rattle.pc_resolve.specs.Indexes.{firsts, with_firsts};
 ghost use Rattle.pc_resolve.specs.Pairs.{known_at, known_pairs, picked};
 
 use crate::constructors::Constructors;
@@ -103,9 +103,18 @@ fn number_entities(alloc: Global, row: &[Known]) -> Result<Index, AllocError>
     ensures { IfOk result (λ numbers. numbers ≡ firsts bytes_eq (known_pairs 0 row.now)) }
 {
     let mut numbers = Index::new(alloc);
+    add_numbers(&mut numbers, row)?;
+    Ok(numbers)
+}
+
+// Those of these entities go behind the others, unless their names are there.
+fn add_numbers(numbers: &mut Index, row: &[Known]) -> Result<(), AllocError>
+    requires { length row.now < 2 ^ 32 }
+    ensures { OnOk result (numbers.new ≡ with_firsts bytes_eq numbers.old (known_pairs 0 row.now)) }
+{
     for at in 0..row.len() {
         let known = &row[at];
         numbers.add(known.name.as_slice(), at as u32)?;
     }
-    Ok(numbers)
+    Ok(())
 }

@@ -1,7 +1,7 @@
 //! The first fault of a body, in the order of the text.
-ghost use Rattle.std.specs.Prelude.{◌≡◌, OnOk, length, map, take};
+ghost use Rattle.std.specs.Prelude.{◌≡◌, IfOk, OnOk, length, map, take};
 ghost use Rattle.pc_tree.specs.View.{arm_view, arms_view, expr_view, exprs_view, field_view, item_view, items_view, maybe_expr, maybe_seq, method_view, other_view, seq_view, suffix_view, suffixes_view};
-ghost use Rattle.pc_body_spec.specs.Scopes.{scope_after};
+ghost use Rattle.pc_body_spec.specs.Scopes.{params_scope as params_visible, scope_after};
 ghost use Rattle.pc_body_spec.specs.Faults as spec;
 ghost use Rattle.pc_body_spec.specs.Expressions.{start_of};
 ghost use Rattle.pc_resolve.specs.Checking.{Tells, args_faults, next_view, suffix_faults};
@@ -12,11 +12,10 @@ use crate::checks::{
 use crate::context::Context;
 use crate::fault::BodyFault;
 use crate::params::params_scope;
-use crate::scope::Scope;
+use crate::scope::{Scope, enter};
 use crate::starts::{Next, check_head_name, is_called, next_of};
-use pc_caps::List;
-use pc_tree::{Arm, Expr, FieldDef, Item, MethodDef, MethodWord, Seq, Suffix};
-use std::alloc::Global;
+use pc_tree::{Arm, Expr, FieldDef, Item, MethodDef, MethodWord, ParamDef, Seq, Suffix};
+use std::alloc::{AllocError, Global};
 
 /// Whether the body of a method is without a fault, in an entity with these fields; else its first fault in the order of
 /// the text. The initial values of the fields are a part of each constructor, and come first.
@@ -33,9 +32,23 @@ pub fn check(
         MethodWord::New => check_added(alloc, context, fields)?,
         MethodWord::Fun | MethodWord::Be => (),
     }
-    let params = params_scope(alloc, method.params.as_slice())?;
-    let mut scope = Scope::of(alloc, params.as_slice())?;
+    check_body(alloc, context, method)
+}
+
+// The body of a method alone, in which its parameters are visible.
+fn check_body(alloc: Global, context: &Context, method: &MethodDef) -> Result<(), BodyFault>
+    ensures { Tells result (spec.written_body_faults context.now (params_visible method.now.params) (maybe_seq method.now.body)) }
+{
+    let mut scope = param_scope(alloc, method.params.as_slice())?;
     body(alloc, context, &mut scope, &method.body)
+}
+
+// What is visible where a body begins.
+fn param_scope(alloc: Global, params: &[ParamDef]) -> Result<Scope, AllocError>
+    ensures { IfOk result (λ scope. scope ≡ params_visible params.now) }
+{
+    let row = params_scope(alloc, params)?;
+    Scope::of(alloc, row.as_slice())
 }
 
 /// Whether the body of a constructor that is added, where none is written, is without a fault, in an entity with these
@@ -258,8 +271,8 @@ fn item(alloc: Global, context: &Context, scope: &mut Scope, x: &Item) -> Result
             check_new(context, scope, name)?;
             check_written(context, ty)?;
             expr(alloc, context, scope, value)?;
-            let text = List::from_slice(alloc, name.text.as_slice())?;
-            scope.push(text, context.slot_at(name.span.start))?;
+            let slot = context.slot_at(name.span.start);
+            enter(alloc, scope, name.text.as_slice(), slot)?;
             Ok(())
         }
         Item::Plain(e) => expr(alloc, context, scope, e),

@@ -1,7 +1,7 @@
 //! The slots of locals, found by the places of their names.
 ghost use Rattle.std.specs.Prelude.{◌≡◌, [], IfOk, OnOk, map, nat_eq};
 ghost use Rattle.pc_body_spec.specs.Scopes as spec;
-ghost use Rattle.pc_resolve.specs.Indexes.{firsts, with_first};
+ghost use Rattle.pc_resolve.specs.Indexes.{firsts, with_first, with_firsts};
 ghost use Rattle.pc_resolve.specs.Pairs.{placed_pair};
 
 use indexmap::IndexMap;
@@ -89,10 +89,18 @@ fn index_starts(alloc: Global, row: &[Placed]) -> Result<IndexMap<u32, u32>, All
     ensures { IfOk result (λ m. m.entries ≡ firsts nat_eq (map placed_pair row.now)) }
 {
     let mut by_start = IndexMap::new(alloc);
-    for placed in row {
-        note(&mut by_start, placed.start, placed.slot)?;
-    }
+    note_all(&mut by_start, row)?;
     Ok(by_start)
+}
+
+// Notes the slots of all places that have none.
+fn note_all(by_start: &mut IndexMap<u32, u32>, row: &[Placed]) -> Result<(), AllocError>
+    ensures { OnOk result (by_start.new.entries ≡ with_firsts nat_eq by_start.old.entries (map placed_pair row.now)) }
+{
+    for placed in row {
+        note(by_start, placed.start, placed.slot)?;
+    }
+    Ok(())
 }
 
 // Notes the slot of a place, unless the place has one.

@@ -1,5 +1,5 @@
 //! Names in a row, and whether one is among them.
-ghost use Rattle.std.specs.Prelude.{◌≡◌, [], IfOk};
+ghost use Rattle.std.specs.Prelude.{◌≡◌, [], IfOk, OnOk};
 ghost use Rattle.pc_body_spec.specs.Scopes as spec;
 ghost use Rattle.pc_members.specs.Tables.{with_names};
 
@@ -49,8 +49,16 @@ fn table_of(alloc: Global, row: &[List<u8>]) -> Result<NameTable, AllocError>
     ensures { IfOk result (λ names. names ≡ with_names [] row.now) }
 {
     let mut names = NameTable::new(alloc);
+    add_names(&mut names, row)?;
+    Ok(names)
+}
+
+// The names go behind the others, each once.
+fn add_names(names: &mut NameTable, row: &[List<u8>]) -> Result<(), AllocError>
+    ensures { OnOk result (names.new ≡ with_names names.old row.now) }
+{
     for name in row {
         names.add(name.as_slice())?;
     }
-    Ok(names)
+    Ok(())
 }

@@ -1,10 +1,10 @@
 //! The parameters of a method, which are visible throughout its body.
-ghost use Rattle.std.specs.Prelude.{◌≡◌, IfOk};
+ghost use Rattle.std.specs.Prelude.{◌≡◌, ◌∷◌, [], ◌++◌, IfOk, OnOk};
 ghost use Rattle.pc_body_spec.specs.Scopes as spec;
 
 use crate::scope::Visible;
 use pc_caps::List;
-use pc_tree::ParamDef;
+use pc_tree::{Name, ParamDef};
 use std::alloc::{AllocError, Global};
 
 /// The parameters, whose slots come after that of `this`. An `Err` where memory runs out, or where there are so many that the
@@ -13,14 +13,38 @@ pub fn params_scope(alloc: Global, params: &[ParamDef]) -> Result<List<Visible>,
     ensures { IfOk result (λ scope. scope ≡ spec.params_scope params.now) }
 {
     let mut scope = List::new(alloc);
+    add_params(alloc, &mut scope, params)?;
+    Ok(scope)
+}
+
+// The parameters go behind the others.
+fn add_params(
+    alloc: Global,
+    scope: &mut List<Visible>,
+    params: &[ParamDef],
+) -> Result<(), AllocError>
+    ensures { OnOk result (scope.new ≡ scope.old ++ spec.params_scope params.now) }
+{
     let mut slot: u32 = 1;
     for param in params {
-        let name = List::from_slice(alloc, param.name.text.as_slice())?;
-        scope.push(Visible::new(name, slot))?;
+        push_name(alloc, scope, &param.name, slot)?;
         let Some(next) = slot.checked_add(1) else {
             return Err(AllocError);
         };
         slot = next;
     }
-    Ok(scope)
+    Ok(())
+}
+
+// The name goes behind the others, in the slot of this index.
+fn push_name(
+    alloc: Global,
+    scope: &mut List<Visible>,
+    name: &Name,
+    slot: u32,
+) -> Result<(), AllocError>
+    ensures { OnOk result (scope.new ≡ scope.old ++ record { name = name.now.text; slot = slot } ∷ []) }
+{
+    let text = List::from_slice(alloc, name.text.as_slice())?;
+    scope.push(Visible::new(text, slot))
 }

@@ -1,5 +1,5 @@
 //! The slots of locals.
-ghost use Rattle.std.specs.Prelude.{◌≡◌, IfOk};
+ghost use Rattle.std.specs.Prelude.{◌≡◌, ◌++◌, IfOk, OnOk};
 ghost use Rattle.pc_body_spec.specs.Slots.{placed_from};
 
 use crate::local::Local;
@@ -13,6 +13,14 @@ pub fn slots(alloc: Global, first: u32, locals: &[Local]) -> Result<LocalSlots, 
     ensures { IfOk result (λ placed. placed ≡ placed_from first locals.now) }
 {
     let mut placed = List::new(alloc);
+    add_placed(&mut placed, first, locals)?;
+    LocalSlots::of(alloc, placed)
+}
+
+// These locals with the slots from this one on go behind the others.
+fn add_placed(placed: &mut List<Placed>, first: u32, locals: &[Local]) -> Result<(), AllocError>
+    ensures { OnOk result (placed.new ≡ placed.old ++ placed_from first locals.now) }
+{
     let mut slot = first;
     for local in locals {
         placed.push(Placed::new(local.name().span.start, slot))?;
@@ -21,5 +29,5 @@ pub fn slots(alloc: Global, first: u32, locals: &[Local]) -> Result<LocalSlots, 
         };
         slot = next;
     }
-    LocalSlots::of(alloc, placed)
+    Ok(())
 }

@@ -88,10 +88,7 @@ impl Scope {
         ensures { IfOk result (λ scope. scope ≡ row.now) }
     {
         let mut scope = Scope::new(alloc);
-        for visible in row {
-            let name = List::from_slice(alloc, visible.name.as_slice())?;
-            scope.push(name, visible.slot)?;
-        }
+        enter_all(alloc, &mut scope, row)?;
         Ok(scope)
     }
 
@@ -138,4 +135,27 @@ impl Scope {
             self.row.truncate(len);
         }
     }
+}
+
+// These become visible too.
+fn enter_all(alloc: Global, scope: &mut Scope, row: &[Visible]) -> Result<(), AllocError>
+    ensures { OnOk result (scope.new ≡ scope.old ++ row.now) }
+{
+    for visible in row {
+        enter(alloc, scope, visible.name.as_slice(), visible.slot)?;
+    }
+    Ok(())
+}
+
+/// The local of this name, in the slot of this index, becomes visible.
+pub(crate) fn enter(
+    alloc: Global,
+    scope: &mut Scope,
+    name: &[u8],
+    slot: u32,
+) -> Result<(), AllocError>
+    ensures { OnOk result (scope.new ≡ scope.old ++ record { name = name.now; slot = slot } ∷ []) }
+{
+    let name = List::from_slice(alloc, name)?;
+    scope.push(name, slot)
 }

@@ -14,7 +14,7 @@ use pc_io::{Bytes, Files};
 use std::alloc::Global;
 
 /// A source that all stages let pass, with its core's valid annotation.
-#[derive(Debug, Drop)]
+#[derive(Drop)]
 pub struct Accepted {
     pub source: Source,
     pub ann: Ann,

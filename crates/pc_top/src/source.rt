@@ -28,7 +28,7 @@ use std::alloc::Global;
 pub const SOURCE_LIMIT: u32 = 1_048_576;
 
 /// A source that all stages let pass.
-#[derive(Debug, Drop)]
+#[derive(Drop)]
 pub struct Source {
     /// Its bytes, in which refusals name places.
     pub bytes: Bytes,

@@ -6,7 +6,7 @@ use pc_io::Bytes;
 use std::alloc::AllocError;
 
 /// Why a command ends before it is done.
-#[derive(Debug, Drop)]
+#[derive(Drop)]
 pub enum Stop {
     /// A refusal, with its status and its line on err, which is empty where there is none.
     Refused { status: u8, line: Bytes },

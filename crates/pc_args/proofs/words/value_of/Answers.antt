@@ -4,8 +4,5 @@ use Rattle.clap.specs.Words.{Text, found_of}
 use Rattle.clap.proofs.WalkLemmas.{first_value-rows}
 use Rattle.pc_args.proofs.words.value_of.Goals as goal
 
-pub returns-in-Some : goal.returns-in-Some
-returns-in-Some c = ap (λ (o : Option Text). unwrap_or o []) (c.in-Some.ensures ∙ first_value-rows (found_of c.args.matches.now) c.args.id.now)
-
-pub returns-in-None : goal.returns-in-None
-returns-in-None c = ap (λ (o : Option Text). unwrap_or o []) (c.in-None.ensures ∙ first_value-rows (found_of c.args.matches.now) c.args.id.now)
+pub returns : goal.returns
+returns c = c.first_text.ensures ∙ ap (λ (o : Option Text). unwrap_or o []) (first_value-rows (found_of c.args.matches.now) c.args.id.now)

@@ -2,20 +2,23 @@ use Rattle.std.proofs.Common.{drop, Err, ◌≡◌, ◌≤◌, length, take, map
 use Rattle.std.proofs.lemmas.Result.{err_from_is_err_and}
 use Rattle.std.proofs.lemmas.Option.{slice_get_read}
 use Rattle.pc_caps.specs.declared.span.Span.{Span}
-use Rattle.pc_tree.proofs.Views.{view_assign, view_args, view_name}
+use Rattle.pc_tree.proofs.Views.{view_assign, view_args, view_if, view_name, view_while}
 use Rattle.pc_tree.specs.Tree as tree
-use Rattle.pc_tree.specs.View.{expr_view, suffix_view, seq_view, exprs_view, arms_view, items_view}
-use Rattle.pc_body_spec.specs.Scopes.{Visible, resolve}
+use Rattle.pc_tree.specs.declared.expression.Item.{Item}
+use Rattle.pc_tree.specs.View.{expr_view, suffix_view, seq_view, exprs_view, arms_view, item_view, items_view, other_view}
+use Rattle.pc_body_spec.specs.Scopes.{Visible, resolve, scope_after}
 use Rattle.pc_body_spec.specs.Expressions as spec
-use Rattle.pc_body_spec.specs.Roses.{leaf, put, puts, push, and_then}
+use Rattle.pc_body_spec.specs.Roses.{leaf, rose, two, put, puts, push, three, and_then}
 use Rattle.pc_core.specs.declared.nodes.NodeKind.{NodeKind}
 use Rattle.pc_core.specs.declared.nodes.NodeKind.TheVariants as kinds
 use Rattle.pc_emit.specs.declared.waiting.OpenArm.{OpenArm}
 use Rattle.pc_emit.specs.Giving.{Gives}
-use Rattle.pc_emit.specs.Closing.{closing, arm_closes, link_closes, this_closes, name_closes, names_none, link_of, first_of, begun, begun_by, rest_of, taken, Opens, OpensOne}
+use Rattle.pc_emit.specs.Closing.{closing, arm_closes, seq_closes, link_closes, this_closes, name_closes, names_none, link_of, first_of, begun, begun_by, rest_of, taken, behind_tops, Opens, OpensOne}
 use Rattle.pc_emit.specs.Closing.{is_missing as misses}
 use Rattle.pc_emit.proofs.Suffixes.{chain_opens, write_opens, begun_first, begun_value, cut_behind}
-use Rattle.pc_emit.proofs.Walks.{arm_parts, seq_parts, sequence_is, inner_stops, inner_gives, links_stop, beginning_stops, begins_with_atom, begins_with_first, chain_stops, write_start, name_written, assign_none, wait_on, arms_from, stops, stops_one, stops_still, operands_none, right_none, push_none, exprs_from, called_is, arm_is}
+use Rattle.pc_emit.proofs.Walks.{arm_parts, seq_parts, sequence_is, inner_stops, inner_gives, links_stop, beginning_stops, begins_with_atom, begins_with_first, chain_stops, write_start, name_written, assign_none, wait_on, arms_from, stops, stops_one, stops_still, operands_none, right_none, push_none, exprs_from, called_is, arm_is, cond_none, body_none, arm_stops, opens_stop, scope_kept, items_from}
+use Rattle.pc_lists.proofs.Cuts.{take_whole}
+use Rattle.pc_emit.proofs.Wholes.{behind_more, behind_none}
 use Rattle.pc_emit.proofs.walk.+walk.Goals as goal
 
 pub open_arms-loop-a-preserved : goal.open_arms-loop-a-preserved
@@ -325,4 +328,234 @@ links-back-preserved t c =
           let gave = subst (λ sc. put m (link_of c.args.setting.now.context.now sc c.args.setting.now.depth c.args.span c.cut-text.result.0 (suffix_view x) rest) c.back.nodes ≡ and_then (put m rest c.link.new.nodes) (link_closes m c.args.setting.now.depth c.in_ok-last.last)) c.back.invariant.scope (c.in_ok-last.ensures.gives rest) in
           wait_on (link_closes m c.args.setting.now.depth) c.back.links c.push.new.self c.in_ok-last.last _ _ (put m rest c.link.new.nodes) (c.back.invariant.going origin) (ap (λ r. put m r c.back.nodes) same ∙ gave) c.in_ok-push.ensures.ok;
       scope = c.in_ok-last.ensures.scope ∙ c.back.invariant.scope;
+    }
+
+pub open_arms-returns-in_err-cond-clause-gives : goal.open_arms-returns-in_err-cond-clause-gives
+open_arms-returns-in_err-cond-clause-gives t c = λ last.
+    let p = err_from_is_err_and c.from_residual.result c.from_residual.ensures.1 in
+    let m = c.args.setting.now.number in
+    let d = c.args.setting.now.depth in
+    let sc = c.args.scope.now in
+    let cx = c.args.setting.now.context.now in
+    let a = c.a-item.result in
+    let at = slice_get_read c.args.arms.now _ c.loop-a.a-index a refl (omega (arith, c.loop-a-test.true)) c.a-item.is in
+    let as2 = arms_from c.args.arms.now c.loop-a.a-index (c.loop-a.a-index + 1) a at refl in
+    let after = arms_view (drop (c.loop-a.a-index + 1) c.args.arms.now) in
+    let x = spec.whole_of cx sc d (seq_view a.cond) in
+    let y = spec.whole_of cx sc d (seq_view a.body) in
+    let z = spec.arms_of cx sc d c.args.span false after last in
+    let place : Span = spec.arm_place c.loop-a.first c.args.span a.span in
+    let e = c.in_err-cond.field-0.0 in
+    let n1 = c.whole.new.nodes in
+    let stopped : Gives {A = ℕ} (Err e) n1 (put m x c.loop-a.nodes) = subst (λ s. Gives {A = ℕ} (Err e) n1 (put m (spec.whole_of cx s d (seq_view a.cond)) c.loop-a.nodes)) c.loop-a.invariant.scope c.in_err-cond.ensures.gives in
+    rw (p.1, p.2) (arm_stops e n1 n1 (arm_closes m d) c.loop-a.waiting (put m last) (put m x c.loop-a.nodes) (put m (spec.if_of c.loop-a.first place d (three x y z)) c.loop-a.nodes) _
+    (c.loop-a.invariant.going last ∙ ap (λ l. and_then (put m (spec.arms_of cx sc d c.args.span c.loop-a.first l last) c.loop-a.nodes) (closing (arm_closes m d) c.loop-a.waiting)) (as2 ∙ ap (λ l. tree.arm l after) (arm_parts a)))
+    stopped (cond_none m d c.loop-a.first place x y z c.loop-a.nodes))
+
+pub open_arms-returns-in_err-body-clause-gives : goal.open_arms-returns-in_err-body-clause-gives
+open_arms-returns-in_err-body-clause-gives t c = λ last.
+    let p = err_from_is_err_and c.from_residual-in_err-body.result c.from_residual-in_err-body.ensures.1 in
+    let m = c.args.setting.now.number in
+    let d = c.args.setting.now.depth in
+    let sc = c.args.scope.now in
+    let cx = c.args.setting.now.context.now in
+    let a = c.a-item.result in
+    let at = slice_get_read c.args.arms.now _ c.loop-a.a-index a refl (omega (arith, c.loop-a-test.true)) c.a-item.is in
+    let as2 = arms_from c.args.arms.now c.loop-a.a-index (c.loop-a.a-index + 1) a at refl in
+    let after = arms_view (drop (c.loop-a.a-index + 1) c.args.arms.now) in
+    let x = spec.whole_of cx sc d (seq_view a.cond) in
+    let y = spec.whole_of cx sc d (seq_view a.body) in
+    let z = spec.arms_of cx sc d c.args.span false after last in
+    let place : Span = spec.arm_place c.loop-a.first c.args.span a.span in
+    let e = c.in_err-body.field-0.0 in
+    let n1 = c.whole.new.nodes in
+    let n2 = c.whole-in-loop-a.new.nodes in
+    let cond : put m x c.loop-a.nodes ≡ Some (c.in_ok-cond.cond, n1) = subst (λ s. put m (spec.whole_of cx s d (seq_view a.cond)) c.loop-a.nodes ≡ Some (c.in_ok-cond.cond, n1)) c.loop-a.invariant.scope c.in_ok-cond.ensures.gives in
+    let stopped : Gives {A = ℕ} (Err e) n2 (put m y n1) = subst (λ s. Gives {A = ℕ} (Err e) n2 (put m (spec.whole_of cx s d (seq_view a.body)) n1)) (c.in_ok-cond.ensures.scope ∙ c.loop-a.invariant.scope) c.in_err-body.ensures.gives in
+    rw (p.1, p.2) (arm_stops e n2 n2 (arm_closes m d) c.loop-a.waiting (put m last) (put m y n1) (put m (spec.if_of c.loop-a.first place d (three x y z)) c.loop-a.nodes) _
+    (c.loop-a.invariant.going last ∙ ap (λ l. and_then (put m (spec.arms_of cx sc d c.args.span c.loop-a.first l last) c.loop-a.nodes) (closing (arm_closes m d) c.loop-a.waiting)) (as2 ∙ ap (λ l. tree.arm l after) (arm_parts a)))
+    stopped (body_none m d c.loop-a.first place x y z c.in_ok-cond.cond c.loop-a.nodes n1 cond))
+
+pub exprs-loop-x-preserved : goal.exprs-loop-x-preserved
+exprs-loop-x-preserved t c =
+    let m = c.args.setting.now.number in
+    let d = c.args.setting.now.depth in
+    let sc = c.args.scope.now in
+    let cx = c.args.setting.now.context.now in
+    let x = c.x-item.result in
+    let at = slice_get_read c.args.xs.now _ c.loop-x.x-index x refl (omega (arith, c.loop-x-test.true)) c.x-item.is in
+    let es = exprs_from c.args.xs.now c.loop-x.x-index (c.loop-x.x-index + 1) x at refl in
+    let n1 = c.expr.new.nodes in
+    let gave : put m (spec.expr_of cx sc d (expr_view x)) c.loop-x.nodes ≡ Some (c.in_ok-top.top, n1) = subst (λ s. put m (spec.expr_of cx s d (expr_view x)) c.loop-x.nodes ≡ Some (c.in_ok-top.top, n1)) c.loop-x.invariant.scope c.in_ok-top.ensures.gives in
+    record {
+      going = c.loop-x.invariant.going ∙ ap (λ l. behind_tops c.loop-x.tops (puts m (spec.exprs_of cx sc d l) c.loop-x.nodes)) es ∙ behind_more m (spec.expr_of cx sc d (expr_view x)) (spec.exprs_of cx sc d (exprs_view (drop (c.loop-x.x-index + 1) c.args.xs.now))) c.loop-x.tops c.push.new.self c.in_ok-top.top c.loop-x.nodes n1 gave c.in_ok-push.ensures.ok;
+      scope = c.in_ok-top.ensures.scope ∙ c.loop-x.invariant.scope;
+    }
+
+pub block-returns-in_err-waiting-in-If-clause-gives : goal.block-returns-in_err-waiting-in-If-clause-gives
+block-returns-in_err-waiting-in-If-clause-gives t c =
+    let p = err_from_is_err_and c.from_residual.result c.from_residual.ensures.1 in
+    let m = c.args.setting.now.number in
+    let d = c.args.setting.now.depth in
+    let last = spec.other_of c.args.setting.now.context.now c.args.scope.now d c.in-If.span (other_view c.in-If.other) in
+    let n1 = c.open_arms.new.nodes in
+    rw (p.1, p.2, c.in-If.is, view_if c.in-If.arms c.in-If.other c.in-If.span, sym c.as_slice.ensures) (opens_stop c.in_err-waiting-in-If.field-0.0 n1 n1 (arm_closes m d) (put m last) _ (c.in_err-waiting-in-If.ensures.gives last))
+
+pub exprs-loop-x-init : goal.exprs-loop-x-init
+exprs-loop-x-init t c =
+    let all = puts c.args.setting.now.number (spec.exprs_of c.args.setting.now.context.now c.args.scope.now c.args.setting.now.depth (exprs_view c.args.xs.now)) c.args.nodes.now in
+    record {
+      going = sym (behind_none all) ∙ ap (λ l. behind_tops l all) (sym c.new-tops.ensures);
+      scope = refl;
+    }
+
+pub block-returns-in_err-last-in-If-clause-gives : goal.block-returns-in_err-last-in-If-clause-gives
+block-returns-in_err-last-in-If-clause-gives t c =
+    let p = err_from_is_err_and c.from_residual-in_err-last-in-If.result c.from_residual-in_err-last-in-If.ensures.1 in
+    let m = c.args.setting.now.number in
+    let d = c.args.setting.now.depth in
+    let sc = c.args.scope.now in
+    let cx = c.args.setting.now.context.now in
+    let last = λ (s : List Visible). spec.other_of cx s d c.in-If.span (other_view c.in-If.other) in
+    let n1 = c.open_arms.new.nodes in
+    let n2 = c.otherwise.new.nodes in
+    let e = c.in_err-last-in-If.field-0.0 in
+    let stopped : Gives {A = ℕ} (Err e) n2 (put m (last sc) n1) = subst (λ s. Gives {A = ℕ} (Err e) n2 (put m (last s) n1)) c.in_ok-waiting-in-If.ensures.scope c.in_err-last-in-If.ensures.gives in
+    rw (p.1, p.2, c.in-If.is, view_if c.in-If.arms c.in-If.other c.in-If.span, sym c.as_slice.ensures) (inner_stops e n2 n2 (put m (last sc) n1) (closing (arm_closes m d) c.in_ok-waiting-in-If.waiting) _ (c.in_ok-waiting-in-If.ensures.gives (last sc)) stopped)
+
+pub block-returns-in_ok-last-in-If-clause-gives : goal.block-returns-in_ok-last-in-If-clause-gives
+block-returns-in_ok-last-in-If-clause-gives t c =
+    let m = c.args.setting.now.number in
+    let d = c.args.setting.now.depth in
+    let sc = c.args.scope.now in
+    let cx = c.args.setting.now.context.now in
+    let last = λ (s : List Visible). spec.other_of cx s d c.in-If.span (other_view c.in-If.other) in
+    let n1 = c.open_arms.new.nodes in
+    let n2 = c.otherwise.new.nodes in
+    let there : put m (last sc) n1 ≡ Some (c.in_ok-last-in-If.last, n2) = subst (λ s. put m (last s) n1 ≡ Some (c.in_ok-last-in-If.last, n2)) c.in_ok-waiting-in-If.ensures.scope c.in_ok-last-in-If.ensures.gives in
+    rw (c.in-If.is, view_if c.in-If.arms c.in-If.other c.in-If.span, sym c.as_slice.ensures) (inner_gives c.close_arms.result n2 c.close_arms.new.nodes c.in_ok-last-in-If.last (put m (last sc) n1) (closing (arm_closes m d) c.in_ok-waiting-in-If.waiting) _ (c.in_ok-waiting-in-If.ensures.gives (last sc)) there c.close_arms.ensures)
+
+pub block-returns-in_err-test-in-While-clause-gives : goal.block-returns-in_err-test-in-While-clause-gives
+block-returns-in_err-test-in-While-clause-gives t c =
+    let p = err_from_is_err_and c.from_residual-in_err-test-in-While.result c.from_residual-in_err-test-in-While.ensures.1 in
+    let m = c.args.setting.now.number in
+    let d = c.args.setting.now.depth in
+    let sc = c.args.scope.now in
+    let cx = c.args.setting.now.context.now in
+    let n1 = c.whole.new.nodes in
+    rw (p.1, p.2, c.in-While.is, view_while c.in-While.cond c.in-While.body c.in-While.span, sym c.deref-in-While.ensures) (stops c.in_err-test-in-While.field-0.0 n1 n1 (put m (spec.whole_of cx sc d (seq_view c.deref-in-While.result.now)) c.args.nodes.now) _ c.in_err-test-in-While.ensures.gives (λ h. rw h refl))
+
+pub sequence-returns-in_err-tops-clause-gives : goal.sequence-returns-in_err-tops-clause-gives
+sequence-returns-in_err-tops-clause-gives t c =
+    let p = err_from_is_err_and c.from_residual.result c.from_residual.ensures.1 in
+    let m = c.args.setting.now.number in
+    let d = c.args.setting.now.depth in
+    let sc = c.args.scope.now in
+    let cx = c.args.setting.now.context.now in
+    let items = λ (l : List Item). spec.items_of cx sc d (items_view l) in
+    let is = c.args.seq.now.items in
+    let e = c.in_err-tops.field-0.0 in
+    let n1 = c.items.new.nodes in
+    let stopped : Gives {A = List ℕ} (Err e) n1 (puts m (items is) c.args.nodes.now) = subst (λ l. Gives {A = List ℕ} (Err e) n1 (puts m (items l) c.args.nodes.now)) c.as_slice.ensures c.in_err-tops.ensures.gives in
+    rw (p.1, p.2, seq_parts c.args.seq.now) (inner_stops e n1 n1 (puts m (items is) c.args.nodes.now) (seq_closes m d c.args.span) _ (sequence_is m d c.args.span (items is) c.args.nodes.now) stopped)
+
+pub infix-loop-i-init : goal.infix-loop-i-init
+infix-loop-i-init t c =
+    let m = c.args.setting.now.number in
+    let d = c.args.setting.now.depth in
+    let sc = c.args.scope.now in
+    let cx = c.args.setting.now.context.now in
+    let x = c.in-Some.first.now in
+    record {
+      going = record {
+        left = spec.expr_of cx sc d (expr_view x);
+        there = c.in_ok-left.ensures.gives;
+        same = ap (λ l. put m (spec.infix_of cx sc d c.args.op c.args.span l) c.args.nodes.now) (exprs_from c.args.terms.now 0 1 x (sym c.in-Some.ensures.value) refl);
+      };
+      scope = c.in_ok-left.ensures.scope;
+    }
+
+pub infix-loop-i-preserved : goal.infix-loop-i-preserved
+infix-loop-i-preserved t c =
+    let m = c.args.setting.now.number in
+    let d = c.args.setting.now.depth in
+    let sc = c.args.scope.now in
+    let cx = c.args.setting.now.context.now in
+    let g = c.loop-i.invariant.going in
+    let x = c.index-terms-i.result in
+    let at = slice_get_read c.args.terms.now _ c.loop-i.i x refl (omega (arith, c.loop-i-test.true)) c.index-terms-i.is in
+    let es = exprs_from c.args.terms.now c.loop-i.i (c.loop-i.i + 1) x at refl in
+    let n1 = c.expr-in-loop-i.new.nodes in
+    let n2 = c.double.new.nodes in
+    let part = λ (k : NodeKind) (s : Span). push m k s d (c.loop-i.left ∷ c.in_ok-right.right ∷ []) n1 in
+    let place : Span = spec.join c.args.span (tree.span_of (expr_view x)) in
+    let reach : c.join-reach.result ≡ place = c.join-reach.ensures ∙ ap (spec.join c.args.span) c.span_of.ensures in
+    let made : part (spec.operation c.args.op) place ≡ Some (c.in_ok-left-2.left, n2) = subst (λ k. part k place ≡ Some (c.in_ok-left-2.left, n2)) c.operation-kind.ensures (subst (λ s. part c.operation-kind.result s ≡ Some (c.in_ok-left-2.left, n2)) reach c.in_ok-left-2.ensures) in
+    let there : put m (spec.expr_of cx sc d (expr_view x)) c.loop-i.nodes ≡ Some (c.in_ok-right.right, n1) = subst (λ s. put m (spec.expr_of cx s d (expr_view x)) c.loop-i.nodes ≡ Some (c.in_ok-right.right, n1)) c.loop-i.invariant.scope c.in_ok-right.ensures.gives in
+    record {
+      going = record {
+        left = rose (spec.operation c.args.op) place d (two g.left (spec.expr_of cx sc d (expr_view x)));
+        there = rw (g.there, there) made;
+        same = g.same ∙ ap (λ l. put m (spec.operands_of cx sc d c.args.op c.args.span g.left l) c.args.nodes.now) es;
+      };
+      scope = c.in_ok-right.ensures.scope ∙ c.loop-i.invariant.scope;
+    }
+
+pub block-returns-in_err-turn-in-While-clause-gives : goal.block-returns-in_err-turn-in-While-clause-gives
+block-returns-in_err-turn-in-While-clause-gives t c =
+    let p = err_from_is_err_and c.from_residual-in_err-turn-in-While.result c.from_residual-in_err-turn-in-While.ensures.1 in
+    let m = c.args.setting.now.number in
+    let d = c.args.setting.now.depth in
+    let sc = c.args.scope.now in
+    let cx = c.args.setting.now.context.now in
+    let turn = λ (s : List Visible). spec.whole_of cx s d (seq_view c.deref-in-While-2.result.now) in
+    let n1 = c.whole.new.nodes in
+    let n2 = c.whole-in-While.new.nodes in
+    let e = c.in_err-turn-in-While.field-0.0 in
+    let stopped : Gives {A = ℕ} (Err e) n2 (put m (turn sc) n1) = subst (λ s. Gives {A = ℕ} (Err e) n2 (put m (turn s) n1)) c.in_ok-test-in-While.ensures.scope c.in_err-turn-in-While.ensures.gives in
+    rw (p.1, p.2, c.in-While.is, view_while c.in-While.cond c.in-While.body c.in-While.span, sym c.deref-in-While.ensures, sym c.deref-in-While-2.ensures) (stops e n2 n2 (put m (turn sc) n1) _ stopped (λ h. rw (c.in_ok-test-in-While.ensures.gives, h) refl))
+
+pub block-returns-in_ok-turn-in-While-clause-gives : goal.block-returns-in_ok-turn-in-While-clause-gives
+block-returns-in_ok-turn-in-While-clause-gives t c =
+    let m = c.args.setting.now.number in
+    let d = c.args.setting.now.depth in
+    let sc = c.args.scope.now in
+    let cx = c.args.setting.now.context.now in
+    let turn = λ (s : List Visible). spec.whole_of cx s d (seq_view c.deref-in-While-2.result.now) in
+    let n1 = c.whole.new.nodes in
+    let there : put m (turn sc) n1 ≡ Some (c.in_ok-turn-in-While.turn, c.whole-in-While.new.nodes) = subst (λ s. put m (turn s) n1 ≡ Some (c.in_ok-turn-in-While.turn, c.whole-in-While.new.nodes)) c.in_ok-test-in-While.ensures.scope c.in_ok-turn-in-While.ensures.gives in
+    rw (c.in-While.is, view_while c.in-While.cond c.in-While.body c.in-While.span, sym c.deref-in-While.ensures, sym c.deref-in-While-2.ensures, c.in_ok-test-in-While.ensures.gives, there) c.double.ensures
+
+pub links-returns-clause-gives : goal.links-returns-clause-gives
+links-returns-clause-gives t c = λ origin.
+    let m = c.args.setting.now.number in
+    let d = c.args.setting.now.depth in
+    let sc = c.args.scope.now in
+    let cx = c.args.setting.now.context.now in
+    let none : c.back.left ≡ 0 = omega (arith, c.back-test.false) in
+    let want = λ (k : ℕ). put m (rest_of cx sc d c.args.span origin (map suffix_view (take k (drop c.args.first c.args.suffixes.now)))) c.back.nodes in
+    c.back.invariant.going origin ∙ ap (λ k. and_then (want k) (closing (link_closes m d) c.back.links)) none
+
+pub items-loop-x-init : goal.items-loop-x-init
+items-loop-x-init t c =
+    let all = puts c.args.setting.now.number (spec.items_of c.args.setting.now.context.now c.args.scope.now c.args.setting.now.depth (items_view c.args.xs.now)) c.args.nodes.now in
+    record {
+      going = sym (behind_none all) ∙ ap (λ l. behind_tops l all) (sym c.new-tops.ensures);
+      scope = take_whole c.args.scope.now;
+    }
+
+pub items-loop-x-preserved : goal.items-loop-x-preserved
+items-loop-x-preserved t c =
+    let m = c.args.setting.now.number in
+    let d = c.args.setting.now.depth in
+    let cx = c.args.setting.now.context.now in
+    let sc = c.loop-x.scope in
+    let x = c.x-item.result in
+    let at = slice_get_read c.args.xs.now _ c.loop-x.x-index x refl (omega (arith, c.loop-x-test.true)) c.x-item.is in
+    let is = items_from c.args.xs.now c.loop-x.x-index (c.loop-x.x-index + 1) x at refl in
+    let rest = λ (s : List Visible). spec.items_of cx s d (items_view (drop (c.loop-x.x-index + 1) c.args.xs.now)) in
+    let n1 = c.item.new.nodes in
+    record {
+      going = c.loop-x.invariant.going ∙ ap (λ l. behind_tops c.loop-x.tops (puts m (spec.items_of cx sc d l) c.loop-x.nodes)) is ∙ behind_more m (spec.item_of cx sc d (item_view x)) (rest (scope_after cx sc (item_view x))) c.loop-x.tops c.push.new.self c.in_ok-top.top c.loop-x.nodes n1 c.in_ok-top.ensures.gives c.in_ok-push.ensures.ok ∙ ap (λ s. behind_tops c.push.new.self (puts m (rest s) n1)) (sym c.in_ok-top.ensures.scope);
+      scope = subst (λ s. take (length c.args.scope.now) s ≡ c.args.scope.now) (sym c.in_ok-top.ensures.scope) (scope_kept cx sc c.args.scope.now (item_view x) c.loop-x.invariant.scope);
     }

@@ -1,4 +1,4 @@
-use Rattle.std.proofs.Common.{◌+◌, ◌-◌, ◌*◌, ◌≤◌, length, drop, map}
+use Rattle.std.proofs.Common.{◌+◌, ◌-◌, ◌*◌, ◌≤◌, [], ◌∷◌, length, drop, map}
 use Rattle.pc_tree.specs.View.{expr_view, item_view, suffix_view, arm_view}
 use Rattle.pc_token.specs.declared.words.Word.TheVariants as w
 use Rattle.pc_token.specs.declared.signs.Sign.TheVariants as s
@@ -6,7 +6,7 @@ use Rattle.pc_token.specs.Asking.{is_sign, is_word}
 use Rattle.pc_grammar.specs.Reading as r
 use Rattle.pc_expr.specs.Gives.{At}
 use Rattle.pc_expr.specs.Onto as onto
-use Rattle.pc_expr.proofs.Loops.{Loop}
+use Rattle.pc_expr.proofs.Loops.{Loop, Turn}
 use Rattle.pc_expr.proofs.rules.+rules.Given as goal
 
 abbrev pub decreases-arg_list : goal.decreases-arg_list
@@ -30,6 +30,9 @@ decreases-becomes l = 16 * (length l.tokens.now - l.at) + 1
 abbrev pub decreases-choice : goal.decreases-choice
 decreases-choice l = 16 * (length l.tokens.now - l.at) + 3
 
+abbrev pub decreases-closed : goal.decreases-closed
+decreases-closed l = 16 * (length l.tokens.now - l.at) + 14
+
 abbrev pub decreases-expr : goal.decreases-expr
 decreases-expr l = 16 * (length l.tokens.now - l.at) + 10
 
@@ -45,14 +48,11 @@ decreases-item l = 16 * (length l.tokens.now - l.at) + 11
 abbrev pub decreases-local : goal.decreases-local
 decreases-local l = 16 * (length l.tokens.now - l.at) + 1
 
-abbrev pub decreases-more_args : goal.decreases-more_args
-decreases-more_args l = 16 * (length l.tokens.now - l.at) + 11
-
 abbrev pub decreases-more_arms : goal.decreases-more_arms
 decreases-more_arms l = 16 * (length l.tokens.now - l.at) + 2
 
-abbrev pub decreases-more_items : goal.decreases-more_items
-decreases-more_items l = 16 * (length l.tokens.now - l.at) + 12
+abbrev pub decreases-items : goal.decreases-items
+decreases-items l = 16 * (length l.tokens.now - l.at) + 12
 
 abbrev pub decreases-more_suffixes : goal.decreases-more_suffixes
 decreases-more_suffixes l = 16 * (length l.tokens.now - l.at) + 3
@@ -79,7 +79,7 @@ abbrev pub decreases-repetition : goal.decreases-repetition
 decreases-repetition l = 16 * (length l.tokens.now - l.at) + 2
 
 abbrev pub decreases-seq : goal.decreases-seq
-decreases-seq l = 16 * (length l.tokens.now - l.at) + 12
+decreases-seq l = 16 * (length l.tokens.now - l.at) + 13
 
 abbrev pub decreases-some_args : goal.decreases-some_args
 decreases-some_args l = 16 * (length l.tokens.now - l.at) + 12
@@ -90,15 +90,15 @@ decreases-suffix l = 16 * (length l.tokens.now - l.at) + 2
 abbrev pub decreases-term : goal.decreases-term
 decreases-term l = 16 * (length l.tokens.now - l.at) + 6
 
-abbrev pub invariant-more_args-more : goal.invariant-more_args-more
-invariant-more_args-more l = record {
+abbrev pub invariant-some_args-more : goal.invariant-some_args-more
+invariant-some_args-more l = record {
   past : l.at ≤ l.to;
   there : At l.tokens l.to;
-  reads : Loop (r.after (is_sign s.Comma)) (r.expr_in l.left (r.inner l.left)) (onto.more_args (r.expr_in l.left (r.inner l.left)) (map expr_view l.fn.so_far) (drop l.at l.tokens)) (drop l.to l.tokens) (map expr_view l.args);
+  reads : Turn (r.after (is_sign s.Comma)) (r.expr_in l.left (r.inner l.left)) (onto.some_args (r.expr_in l.left (r.inner l.left)) (drop l.at l.tokens)) (drop l.to l.tokens) (map expr_view l.args);
 }
 
-abbrev pub decreases-more_args-more : goal.decreases-more_args-more
-decreases-more_args-more l = length l.tokens - l.to
+abbrev pub decreases-some_args-more : goal.decreases-some_args-more
+decreases-some_args-more l = length l.tokens - l.to
 
 abbrev pub invariant-more_arms-more : goal.invariant-more_arms-more
 invariant-more_arms-more l = record {
@@ -110,15 +110,15 @@ invariant-more_arms-more l = record {
 abbrev pub decreases-more_arms-more : goal.decreases-more_arms-more
 decreases-more_arms-more l = length l.tokens - l.to
 
-abbrev pub invariant-more_items-more : goal.invariant-more_items-more
-invariant-more_items-more l = record {
+abbrev pub invariant-items-more : goal.invariant-items-more
+invariant-items-more l = record {
   past : l.at ≤ l.to;
   there : At l.tokens l.to;
-  reads : Loop (r.next_item) (r.item (r.expr_in l.left (r.inner l.left))) (onto.more_items l.left (r.inner l.left) (map item_view l.fn.so_far) (drop l.at l.tokens)) (drop l.to l.tokens) (map item_view l.items);
+  reads : Turn r.next_item (r.item (r.expr_in l.left (r.inner l.left))) (r.and_then (r.item (r.expr_in l.left (r.inner l.left)) (drop l.at l.tokens)) (λ x. onto.more_items l.left (r.inner l.left) (x ∷ []))) (drop l.to l.tokens) (map item_view l.items);
 }
 
-abbrev pub decreases-more_items-more : goal.decreases-more_items-more
-decreases-more_items-more l = length l.tokens - l.to
+abbrev pub decreases-items-more : goal.decreases-items-more
+decreases-items-more l = length l.tokens - l.to
 
 abbrev pub invariant-more_suffixes-more : goal.invariant-more_suffixes-more
 invariant-more_suffixes-more l = record {

@@ -1,0 +1,13 @@
+use Rattle.std.proofs.Common.{◌≡◌, take, map}
+use Rattle.std.specs.Prelude.{false}
+use Rattle.clap.specs.Simple.{new_shape, shape_of}
+use Rattle.clap.specs.declared.builder.command.Command.TheViews.{out-Command as fields_of}
+use Rattle.pc_args.specs.Asked.{texts}
+use Rattle.pc_args.specs.Line.{positional}
+use Rattle.pc_args.proofs.line.make_leaf.Given as goal
+
+abbrev pub invariant-loop-id : goal.invariant-loop-id
+invariant-loop-id l = record {
+  shape : shape_of l.leaf ≡ record (new_shape l.name) { rules = map positional (texts (take l.id-index l.ids)) };
+  local : (fields_of l.leaf).has_globals ≡ false;
+}

@@ -1,0 +1,21 @@
+use Rattle.std.proofs.Common.{◌∙◌, ap}
+use Rattle.std.proofs.lemmas.Result.{IfOk-weaker}
+use Rattle.clap.specs.Simple.{Shape}
+use Rattle.clap.specs.Words.{App, with_subcommand}
+use Rattle.pc_args.specs.Line as line
+use Rattle.pc_args.proofs.line.make_rcap.Goals as goal
+
+abbrev on : Shape → App → App
+on leaf a = with_subcommand a leaf
+
+pub returns : goal.returns
+returns c =
+    let check = c.in_ok-check.ensures ∙ ap (on line.check.top) c.make_bare.ensures in
+    let judge = c.in_ok-judge.ensures ∙ ap (on line.judge.top) check in
+    let run = c.in_ok-run.ensures ∙ ap (on line.run.top) judge in
+    let show = c.in_ok-show.ensures ∙ ap (on line.show.top) run in
+    let make = c.in_ok-make.ensures ∙ ap (on line.make.top) show in
+    let swap = c.in_ok-swap.ensures ∙ ap (on line.swap.top) make in
+    let trace = c.in_ok-trace.ensures ∙ ap (on line.trace.top) swap in
+    let sends = c.in_ok-sends.ensures ∙ ap (on line.sends.top) trace in
+    IfOk-weaker c.with_leaf-9.result _ _ (λ r added. added ∙ ap (on line.upgrade.top) sends) c.with_leaf-9.ensures

@@ -1,6 +1,0 @@
-use Rattle.std.proofs.Common.{◌≡◌, ◌++◌, drop}
-use Rattle.pc_members.specs.Chains.{numbers_of}
-use Rattle.pc_elab.proofs.entities.number_names.Given as goal
-
-abbrev pub invariant-loop-name : goal.invariant-loop-name
-invariant-loop-name l = numbers_of l.names.entities l.provides ≡ l.numbers ++ numbers_of l.names.entities (drop l.name-index l.provides)

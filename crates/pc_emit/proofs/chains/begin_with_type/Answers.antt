@@ -1,0 +1,16 @@
+use Rattle.std.proofs.Common.{◌≡◌, map, sym, ap, ◌∙◌, subst}
+use Rattle.pc_tree.specs.View.{suffix_view}
+use Rattle.pc_resolve.specs.Meanings.{type_view}
+use Rattle.pc_body_spec.specs.Scopes.{no_value, type_meaning}
+use Rattle.pc_body_spec.specs.Expressions.{with_type}
+use Rattle.pc_emit.specs.declared.chains.Beginning.TheVariants as begins
+use Rattle.pc_emit.specs.Closing.{Begins}
+use Rattle.pc_emit.proofs.Suffixes.{begins_with_nothing}
+use Rattle.pc_emit.proofs.chains.begin_with_type.Goals as goal
+
+pub returns-in-NoValue-clause-begins : goal.returns-in-NoValue-clause-begins
+returns-in-NoValue-clause-begins c =
+    let cx = c.args.context.now in
+    let ss = map suffix_view c.args.suffixes.now in
+    let none : type_meaning cx c.args.name.now.text ≡ no_value = ap (type_meaning cx) (sym c.as_slice.ensures) ∙ sym c.type_meaning.ensures ∙ ap type_view c.in-NoValue.is in
+    subst (λ w. Begins cx (with_type w) ss begins.Value) (sym none) (begins_with_nothing cx ss)

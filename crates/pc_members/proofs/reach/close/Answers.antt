@@ -1,9 +1,0 @@
-use Rattle.std.proofs.Common.{ap, ◌∙◌, arith, length}
-use Rattle.pc_members.specs.Reach.{above_all, ascending}
-use Rattle.pc_members.proofs.Reaches.{above_goes}
-use Rattle.pc_members.proofs.reach.close.Goals as goal
-
-pub loop-from-preserved : goal.loop-from-preserved
-loop-from-preserved c =
-    above_goes c.args.edges.now (above_all c.args.edges.now) c.loop-from.lists c.push.new.self c.loop-from.from (length c.args.edges.now) c.in_ok-sort_found.field-0 (omega (arith, c.loop-from-test.true))
-    c.loop-from.invariant (c.in_ok-sort_found.ensures ∙ ap (λ f. ascending f 0 (length c.args.edges.now)) c.in_ok-found.ensures) c.in_ok-push.ensures.ok

@@ -1,7 +1,0 @@
-use Rattle.std.proofs.Common.{◌≡◌, ◌++◌, ◌-◌, length}
-use Rattle.pc_members.specs.Reach.{above_from, above_all}
-use Rattle.pc_members.proofs.reach.close.Given as goal
-
-abbrev pub invariant-loop-from : goal.invariant-loop-from
-invariant-loop-from l =
-    above_all l.edges ≡ l.lists ++ above_from l.edges l.from (length l.edges - l.from)

@@ -1,8 +1,0 @@
-use Rattle.std.proofs.Common.{◌≡◌, drop}
-use Rattle.std.specs.Str.{bytes_eq}
-use Rattle.pc_resolve.specs.Indexes.{firsts, with_firsts}
-use Rattle.pc_resolve.specs.Pairs.{known_pairs}
-use Rattle.pc_resolve.proofs.entities.number_entities.Given as goal
-
-abbrev pub invariant-loop-at : goal.invariant-loop-at
-invariant-loop-at l = firsts bytes_eq (known_pairs 0 l.row) ≡ with_firsts bytes_eq l.numbers (known_pairs l.at (drop l.at l.row))

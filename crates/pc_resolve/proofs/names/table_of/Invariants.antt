@@ -1,6 +1,0 @@
-use Rattle.std.proofs.Common.{◌≡◌, [], drop}
-use Rattle.pc_members.specs.Tables.{with_names}
-use Rattle.pc_resolve.proofs.names.table_of.Given as goal
-
-abbrev pub invariant-loop-name : goal.invariant-loop-name
-invariant-loop-name l = with_names [] l.row ≡ with_names l.names (drop l.name-index l.row)
