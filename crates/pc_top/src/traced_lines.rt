@@ -2,39 +2,39 @@
 ghost use Rattle.std.specs.Prelude.{◌≡◌, ◌++◌, IfOk, OnOk, decimal};
 ghost use Rattle.pc_top.specs.Trace as spec;
 
+use itoa::Buffer;
 use pc_caps::List;
 use pc_trace::Touch;
 use std::alloc::{AllocError, Global};
 
 // Puts a number behind a text.
-fn push_number(alloc: Global, text: &mut Vec<u8>, number: u64) -> Result<(), AllocError>
+fn push_number(text: &mut Vec<u8>, number: u64) -> Result<(), AllocError>
     ensures { OnOk result (text.new.items ≡ text.old.items ++ decimal number) }
 {
-    let word = format!(in alloc; "{number}")?;
-    text.extend_from_slice(word.as_bytes())?;
-    Ok(())
+    let mut buffer = Buffer::new();
+    text.extend_from_slice(buffer.format(number).as_bytes())
 }
 
 // Puts numbers behind a text, each behind a comma.
-fn push_behind(alloc: Global, text: &mut Vec<u8>, numbers: &[u64]) -> Result<(), AllocError>
+fn push_behind(text: &mut Vec<u8>, numbers: &[u64]) -> Result<(), AllocError>
     ensures { OnOk result (text.new.items ≡ text.old.items ++ spec.behind_text numbers.now) }
 {
     for number in numbers {
         text.push(b',')?;
-        push_number(alloc, text, *number)?;
+        push_number(text, *number)?;
     }
     Ok(())
 }
 
 // Puts the numbers of a clock behind a text, with one comma between two.
-fn push_clock(alloc: Global, text: &mut Vec<u8>, clock: &[u64]) -> Result<(), AllocError>
+fn push_clock(text: &mut Vec<u8>, clock: &[u64]) -> Result<(), AllocError>
     ensures { OnOk result (text.new.items ≡ text.old.items ++ spec.clock_text clock.now) }
 {
     match clock {
         [] => Ok(()),
         [first, rest @ ..] => {
-            push_number(alloc, text, *first)?;
-            push_behind(alloc, text, rest)
+            push_number(text, *first)?;
+            push_behind(text, rest)
         }
     }
 }
@@ -64,7 +64,7 @@ fn push_touch(alloc: Global, text: &mut Vec<u8>, touch: &Touch) -> Result<(), Al
     ensures { OnOk result (text.new.items ≡ text.old.items ++ spec.touch_line touch.now) }
 {
     push_access(alloc, text, touch)?;
-    push_clock(alloc, text, touch.clock.as_slice())?;
+    push_clock(text, touch.clock.as_slice())?;
     text.push(b'\n')?;
     Ok(())
 }
