@@ -9,6 +9,7 @@ import shapes
 ACCEPTED = 0
 BAD_LINE = 5
 NOT_VALID = 6
+LIMIT = 8
 
 # The most turns of a schedule, and the most words of it, with a digit and a blank each.
 TURNS = 1_000_000
@@ -20,11 +21,13 @@ DERIVATIONS = []
 
 @dataclasses.dataclass
 class Run:
-    """A program with its schedule: what it is called, its source, and, at a part, the pieces of the schedule and its turns."""
+    """A program with its schedule: what it is called, its source, and, at a part, the pieces of the schedule and its turns; with
+    the status of `trace`."""
 
     title: str
     source: typing.Callable
     schedule: typing.Callable
+    traced: int
 
 
 @dataclasses.dataclass
@@ -36,11 +39,11 @@ class Derivation:
     judged: int
 
 
-def turns_of(actor, most=TURNS):
+def turns_of(actor):
     """The schedule that gives all turns to one actor."""
 
     def schedule(part):
-        turns = int(part * most)
+        turns = int(part * TURNS)
         return [f"{actor}*{turns}\n"], turns
 
     return schedule
@@ -73,11 +76,11 @@ def many_makers(part):
     return pieces, made * 22
 
 
-def run(title, schedule):
+def run(title, schedule, traced=ACCEPTED):
     """Puts a program among the runs."""
 
     def put(source):
-        RUNS.append(Run(title, source, schedule))
+        RUNS.append(Run(title, source, schedule, traced))
         return source
 
     return put
@@ -116,7 +119,7 @@ def two_actors():
     return "actor Other\n  be take(other: Other) => other.take(this)\n" + repeating("o.take(o)", before="let o: Other = Other\n")
 
 
-@run("many actors, each with its turns", many_makers)
+@run("many actors, each with its turns", many_makers, traced=LIMIT)
 def many_actors():
     return "actor Other\n" + repeating("Other")
 
@@ -152,10 +155,16 @@ def calls_with_items():
     return repeating("m()", ["  fun m() =>\n    m()\n", *shapes.lines(100, "0")])
 
 
-# A call's first step takes memory for all items of the body, so that more turns of this soon take all there is.
-@run("calls in calls, bodies of 190,000 items, 1,000 turns", turns_of(1, 1_000))
+@run("calls in calls, bodies of 190,000 items", turns_of(1))
 def calls_with_many_items():
     return repeating("m()", ["  fun m() =>\n    m()\n", "0\n" * 190_000])
+
+
+@run("calls in calls, each before 61 other arguments", turns_of(1))
+def calls_before_arguments():
+    parameters = ", ".join(f"a{n}: U64" for n in range(62))
+    zeros = ", ".join("0" for _ in range(61))
+    return repeating("m()", [f"  fun f({parameters}): U64 => 0\n", f"  fun m(): U64 => f(m(), {zeros})\n"])
 
 
 @run("reads of the last of 64 fields", turns_of(1))
@@ -163,12 +172,17 @@ def reads_of_the_last():
     return repeating("_f63", [f"  var _f{n}: U64 = 0\n" for n in range(64)])
 
 
+@run("reads of a field where there are 64 actors", turns_of(1))
+def reads_among_many():
+    return "actor Other\n" + repeating("_f", ["  var _f: U64 = 0\n"], "Other\n" * 62)
+
+
 @run("objects", turns_of(1))
 def objects():
     return "class C\n  var _f: U64 = 0\n" + repeating("C")
 
 
-@run("actors", turns_of(1))
+@run("actors", turns_of(1), traced=LIMIT)
 def actors():
     return "actor Other\n" + repeating("Other")
 
@@ -199,6 +213,23 @@ def joined_texts():
 @run("texts of 4,096 bytes that are printed", turns_in_two_halves(1, 0))
 def printed_texts():
     return repeating("env.out.print(t)", before=f'let t: String = "{"a" * 4_096}"\n')
+
+
+@run("texts of 4,096 bytes that are handed from call to call", turns_of(1))
+def handed_texts():
+    return repeating("m(t)", ["  fun m(t: String) =>\n    m(t)\n"], f'let t: String = "{"a" * 4_096}"\n')
+
+
+@run("texts of 4,096 bytes that are joined in each call and kept", turns_of(1))
+def kept_texts():
+    body = "  fun m(t: String) =>\n    let u: String = t + \"a\"\n    m(t)\n"
+    return repeating("m(t)", [body], f'let t: String = "{"a" * 4_095}"\n')
+
+
+@run("texts of 4,096 bytes in messages that wait", turns_of(1))
+def sent_texts():
+    before = f'let o: Other = Other\nlet t: String = "{"a" * 4_096}"\n'
+    return "actor Other\n  be take(t: String) => t\n" + repeating("o.take(t)", before=before)
 
 
 # Derivations.
