@@ -226,6 +226,24 @@ def kept_texts():
     return repeating("m(t)", [body], f'let t: String = "{"a" * 4_095}"\n')
 
 
+# A text that grows by 20 pieces. Pieces of less than some hundred bytes would become one.
+def grown(name, byte):
+    piece = f'"{byte * 200}"'
+    return f'var {name}: String = {piece}\n' + f"{name} = {name} + {piece}\n" * 19
+
+
+@run("texts of many pieces that are compared", turns_of(1))
+def compared_pieces():
+    other = 'var u: String = "' + "a" * 100 + '"\n' + f'u = u + "{"a" * 195}"\n' * 20
+    return repeating("t == u", before=grown("t", "a") + other)
+
+
+@run("texts of many pieces that are joined in each call and kept", turns_of(1))
+def kept_pieces():
+    body = "  fun m(t: String) =>\n    let u: String = t + \"a\"\n    m(t)\n"
+    return repeating("m(t)", [body], grown("t", "a"))
+
+
 @run("texts of 4,096 bytes in messages that wait", turns_of(1))
 def sent_texts():
     before = f'let o: Other = Other\nlet t: String = "{"a" * 4_096}"\n'

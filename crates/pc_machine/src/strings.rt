@@ -8,7 +8,7 @@ ghost use Rattle.pc_semantics.specs.declared.frames.Frame.{Frame};
 use crate::plan::{Change, Plan};
 use pc_caps::{List, SharedList};
 use pc_core::Core;
-use pc_heap::Value;
+use pc_heap::{Text, Value};
 use pc_semantics::Lack;
 use std::alloc::{AllocError, Global};
 
@@ -73,7 +73,7 @@ pub fn plan_string(
     match text_of(alloc, this)? {
         Some(text) => Ok(Plan::Changes(Change::Gives {
             count: arguments.len() + 1,
-            value: Value::Text(SharedList::from_list(alloc, text)?),
+            value: Value::Text(Text::new(SharedList::from_list(alloc, text)?)),
         })),
         None => Ok(Plan::Lacks(Lack::Method)),
     }

@@ -18,7 +18,7 @@ fn text_in(alloc: Global, message: &Message) -> Result<Option<List<u8>>, AllocEr
     ensures { IfOk result (λ text. text ≡ only_text message.now.arguments) }
 {
     match message.arguments.as_slice() {
-        [Value::Text(text)] => Ok(Some(List::from_slice(alloc, text.as_slice())?)),
+        [Value::Text(text)] => Ok(Some(text.to_list(alloc)?)),
         _ => Ok(None),
     }
 }

@@ -1,5 +1,5 @@
 //! A few objects, made and written by hand.
-use crate::held::{Held, holds, written};
+use crate::held::{Held, holds, is_written};
 use pc_heap::{Address, Heap, Value};
 use std::alloc::Global;
 
@@ -63,7 +63,7 @@ fn takes(
 fn comes_back(answer: Result<Option<Value>, Value>, sent: Held<'_>) -> bool {
     match answer {
         Ok(_) => false,
-        Err(back) => written(&back) == sent,
+        Err(back) => is_written(&back, sent),
     }
 }
 

@@ -1,5 +1,5 @@
 //! Values as the tables of tests write them.
-use pc_heap::{Address, Value};
+use pc_heap::{Address, Text, Value};
 
 /// A value that a field or a slot holds.
 #[derive(Clone, Copy, PartialEq)]
@@ -12,21 +12,28 @@ pub enum Held<'t> {
     Object(Address),
 }
 
-/// How a table writes a value.
-pub fn written(value: &Value) -> Held<'_> {
+/// Whether a table writes the value so.
+pub fn is_written(value: &Value, held: Held<'_>) -> bool {
     match value {
-        Value::Num(number) => Held::Number(*number),
-        Value::Truth(truth) => Held::Truth(*truth),
-        Value::Text(text) => Held::Text(text.as_slice()),
-        Value::Prim(entity) => Held::Prim(*entity),
-        Value::At(address) => Held::Object(*address),
+        Value::Num(number) => held == Held::Number(*number),
+        Value::Truth(truth) => held == Held::Truth(*truth),
+        Value::Text(text) => is_text(text, held),
+        Value::Prim(entity) => held == Held::Prim(*entity),
+        Value::At(address) => held == Held::Object(*address),
+    }
+}
+
+fn is_text(text: &Text, held: Held<'_>) -> bool {
+    match held {
+        Held::Text(bytes) => text.has_bytes(bytes),
+        Held::Number(_) | Held::Truth(_) | Held::Prim(_) | Held::Object(_) => false,
     }
 }
 
 /// Whether a place holds a value that is written so, or none.
 pub fn holds(place: Option<&Value>, wanted: Option<Held<'_>>) -> bool {
     match (place, wanted) {
-        (Some(value), Some(held)) => written(value) == held,
+        (Some(value), Some(held)) => is_written(value, held),
         (None, None) => true,
         (Some(_), None) | (None, Some(_)) => false,
     }

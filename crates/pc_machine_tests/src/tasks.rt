@@ -120,6 +120,43 @@ const DOUBLES: &[u8] = b"actor Main
     end
     let u = t + \"b\"";
 
+// Texts of 514 bytes that were joined at other places.
+const SEAMS: &[u8] = b"actor Main
+  new create(env: Env) =>
+    var same = false
+    var longer = true
+    var other = true
+    var differ = false
+    var identical = false
+    var t = \"ab\"
+    var s = \"ba\"
+    var i = 0
+    while i < 8 do
+      t = t + t
+      s = s + s
+      i = i + 1
+    end
+    t = t + \"ab\"
+    let u = (\"a\" + s) + \"b\"
+    same = t == u
+    longer = t == (u + \"a\")
+    other = (t + \"a\") == (u + \"b\")
+    differ = (t + \"a\") != (u + \"b\")
+    identical = t is u";
+
+const SEAMS_LOCALS: [Held<'static>; 5] = [
+    Held::Truth(true),
+    Held::Truth(false),
+    Held::Truth(false),
+    Held::Truth(true),
+    Held::Truth(true),
+];
+
+#[test]
+fn texts_are_equal_wherever_they_were_joined(rt: HostRuntime) {
+    assert!(rt; leaves(rt.alloc(), SEAMS, 0, &SEAMS_LOCALS));
+}
+
 const UNSET: &[u8] = b"actor Main
   var f: U64
   new create(env: Env) =>

@@ -26,7 +26,8 @@ use Rattle.pc_semantics.specs.declared.frames.Frame.{Frame}
 use Rattle.pc_semantics.specs.declared.frames.Task.{Task}
 use Rattle.pc_semantics.specs.declared.frames.Task.TheVariants as task
 use Rattle.pc_semantics.specs.Around.{Around, Goes, doing}
-use Rattle.pc_semantics.specs.Evaluation.{evaluations, children_first, first_then, items}
+use Rattle.pc_semantics.specs.Children.{evaluations}
+use Rattle.pc_semantics.specs.Evaluation.{children_first, first_then, items}
 use Rattle.pc_rules.specs.Parts.{Ty, Masks, lower, before, after, through, type_of, last_child}
 use Rattle.pc_rules.specs.Control.{joined, gives, result_ok}
 use Rattle.pc_rules.proofs.Homes.{home, home_body, home_method, children_before}

@@ -1,5 +1,5 @@
 -- The evaluation of a node.
-use Rattle.std.specs.Prelude.{ℕ, List, [], ◌∷◌, ◌++◌, map, Option, Some, None, slice_get}
+use Rattle.std.specs.Prelude.{ℕ, List, [], ◌∷◌, ◌++◌, Option, Some, None, slice_get}
 use Rattle.pc_heap.specs.declared.value.Value.{Value}
 use Rattle.pc_heap.specs.declared.value.Value.TheVariants.{Num, Truth, Text, Prim}
 use Rattle.pc_core.specs.declared.nodes.Node.{Node}
@@ -9,6 +9,7 @@ use Rattle.pc_semantics.specs.declared.frames.Frame.{Frame}
 use Rattle.pc_semantics.specs.declared.frames.Task.{Task}
 use Rattle.pc_semantics.specs.declared.frames.Task.TheVariants as task
 use Rattle.pc_semantics.specs.declared.outcome.Lack.TheVariants as lack
+use Rattle.pc_semantics.specs.Children.{evaluations}
 use Rattle.pc_semantics.specs.Around.{Move, Stuck, Goes, pushed, with_slot, doing}
 
 -- ---- slots
@@ -24,9 +25,6 @@ take_slot f s (Some (Some v)) = Goes (pushed (with_slot f s None) v)
 take_slot f s o = Stuck lack.Slot
 
 -- ---- children
-
-abbrev pub evaluations : List ℕ → List Task
-evaluations children = map (λ c. task.Eval c) children
 
 -- All children, and then this task.
 abbrev pub children_first : Frame → List ℕ → Task → Move

@@ -1,6 +1,7 @@
 pub mod Configurations
 pub mod Around
 pub mod Operators
+pub mod Children
 pub mod Evaluation
 pub mod Fields
 pub mod Calls

@@ -1,15 +1,12 @@
 -- Which tasks the entries of a frame stand for.
-use Rattle.std.specs.Prelude.{ℕ, List, [], ◌∷◌, map, drop}
+use Rattle.std.specs.Prelude.{ℕ, List, [], ◌∷◌, drop}
 use Rattle.std.specs.List.{flat_map}
 use Rattle.pc_semantics.specs.declared.frames.Task.{Task}
 use Rattle.pc_semantics.specs.declared.frames.Task.TheVariants as task
+use Rattle.pc_semantics.specs.Children.{evaluations}
 use Rattle.pc_semantics.specs.declared.tasks.Behind.{Behind}
 use Rattle.pc_semantics.specs.declared.tasks.Behind.TheVariants as behind
 use Rattle.pc_semantics.specs.declared.tasks.Entry.{Entry}
-
--- Each child is evaluated.
-abbrev pub evaluated : List ℕ → List Task
-evaluated children = map (λ c. task.Eval c) children
 
 -- Before each child is evaluated, a value is dropped.
 abbrev pub as_items : List ℕ → List Task
@@ -17,7 +14,7 @@ as_items children = flat_map (λ c. task.Discard ∷ task.Eval c ∷ []) childre
 
 abbrev pub behind_tasks : Behind → List Task
 behind_tasks behind.Nothing = []
-behind_tasks (behind.Evaluations children place) = evaluated (drop place children)
+behind_tasks (behind.Evaluations children place) = evaluations (drop place children)
 behind_tasks (behind.Items children place) = as_items (drop place children)
 behind_tasks (behind.Dropped children place) = drop 1 (as_items (drop place children))
 

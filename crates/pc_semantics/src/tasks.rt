@@ -1,7 +1,8 @@
 //! The tasks of a frame.
 ghost use Rattle.std.specs.Prelude.{◌≡◌, ◌<◌, ◌∷◌, ◌++◌, [], length, take, drop, slice_get, Some, MatchOption, OnOk, OnErr};
-ghost use Rattle.pc_semantics.specs.Evaluation.{evaluations, items};
-ghost use Rattle.pc_semantics.specs.Pending.{all_tasks, as_items, behind_tasks, entry_tasks, evaluated, single};
+ghost use Rattle.pc_semantics.specs.Children.{evaluations};
+ghost use Rattle.pc_semantics.specs.Evaluation.{items};
+ghost use Rattle.pc_semantics.specs.Pending.{all_tasks, as_items, behind_tasks, entry_tasks, single};
 
 use crate::frames::Task;
 use crate::stack::Stack;
@@ -164,7 +165,7 @@ fn alone(task: Task) -> Entry
 
 // The evaluation of the child at a place, and then of those behind it.
 fn evaluation_at(children: SharedList<u32>, place: usize) -> Option<Entry>
-    ensures { MatchOption result (evaluated (drop place children) ≡ []) (λ e. entry_tasks e ≡ evaluated (drop place children)) }
+    ensures { MatchOption result (evaluations (drop place children) ≡ []) (λ e. entry_tasks e ≡ evaluations (drop place children)) }
 {
     let child = *children.as_slice().get(place)?;
     Some(Entry {

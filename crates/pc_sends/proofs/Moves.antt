@@ -8,7 +8,8 @@ use Rattle.pc_semantics.specs.declared.frames.Frame.{Frame}
 use Rattle.pc_semantics.specs.declared.frames.Task.{Task}
 use Rattle.pc_semantics.specs.declared.frames.Task.TheVariants as task
 use Rattle.pc_semantics.specs.Around.{Move, Stuck, Overflows, Goes, Writes, Makes, Spawns, Enters, Sends, Leaves, with_top, with_stack, with_popped}
-use Rattle.pc_semantics.specs.Evaluation.{evaluations, items}
+use Rattle.pc_semantics.specs.Children.{evaluations}
+use Rattle.pc_semantics.specs.Evaluation.{items}
 use Rattle.pc_sends.specs.Uses.{Uses}
 use Rattle.pc_sends.specs.Reach.{Posts}
 use Rattle.pc_sends.proofs.Homes.{NodeIn}

@@ -29,7 +29,8 @@ use Rattle.pc_semantics.specs.declared.mailbox.Message.{Message}
 use Rattle.pc_semantics.specs.declared.outcome.Lack.TheVariants as lack
 use Rattle.pc_semantics.specs.Configurations.{own_address, blank_object}
 use Rattle.pc_semantics.specs.Around.{Around, Move, Stuck, Overflows, Goes, Spawns, Sends, with_stack, pushed, none, popped}
-use Rattle.pc_semantics.specs.Evaluation.{push_slot, take_slot, evaluations, items, first_then, evaluate, evaluate_node}
+use Rattle.pc_semantics.specs.Children.{evaluations}
+use Rattle.pc_semantics.specs.Evaluation.{push_slot, take_slot, items, first_then, evaluate, evaluate_node}
 use Rattle.pc_semantics.specs.Fields.{get_value, get_field, get_of, get_from, get_task, put_value, put_field, put_of, put_into, put_task, store, store_task}
 use Rattle.pc_semantics.specs.Operators.{text_limit, gives, of_numbers, of_truths, of_texts, binary, negated}
 use Rattle.pc_semantics.specs.Choices.{truth, apply_task, right_side, test_and, test_or, test_task, branch, turn}

@@ -15,10 +15,10 @@ ghost use Rattle.std.specs.Prelude.{List as Sequence};
 ghost use Rattle.pc_tasks.specs.Fielded.{Fielded};
 ghost use Rattle.pc_tasks.specs.Inside.{IsInside, amid, first_move, relieved, seeing};
 
-use crate::operators::{TEXT_LIMIT, of_numbers, of_truths};
+use crate::operators::{is_too_long, of_numbers, of_truths};
 use pc_ahead::Ahead;
 use pc_core::{Core, NodeKind};
-use pc_heap::{Heap, Value};
+use pc_heap::{Heap, Text, Value};
 use pc_semantics::{Frame, Task};
 use pc_tree::Op;
 
@@ -188,12 +188,12 @@ fn given(value: Option<Value>) -> Ahead
 }
 
 // An operator on two texts.
-fn of_texts(op: Op, left: &[u8], right: &[u8]) -> Ahead
+fn of_texts(op: Op, left: &Text, right: &Text) -> Ahead
     ensures { (f : Frame) → result ≡ by_move (operators.of_texts f op left.now right.now) }
 {
     match op {
         Op::Add => {
-            if left.len() + right.len() > TEXT_LIMIT {
+            if is_too_long(left, right) {
                 Ahead::TooLong
             } else {
                 Ahead::Task
@@ -212,7 +212,7 @@ fn binary(op: Op, left: &Value, right: &Value) -> Ahead
     match (left, right) {
         (Value::Num(left), Value::Num(right)) => given(of_numbers(op, *left, *right)),
         (Value::Truth(left), Value::Truth(right)) => given(of_truths(op, *left, *right)),
-        (Value::Text(left), Value::Text(right)) => of_texts(op, left.as_slice(), right.as_slice()),
+        (Value::Text(left), Value::Text(right)) => of_texts(op, left, right),
         (_, _) => Ahead::Lacks,
     }
 }

@@ -8,7 +8,7 @@ use crate::frames::{go_on_with, push_value};
 use crate::values::none;
 use pc_caps::SharedList;
 use pc_core::{Core, NodeKind};
-use pc_heap::Value;
+use pc_heap::{Text, Value};
 use pc_semantics::{Frame, Lack, Outcome, Task};
 use std::alloc::AllocError;
 
@@ -106,7 +106,7 @@ fn evaluate(
     match kind {
         NodeKind::Number(number) => push_value(frame, Value::Num(*number)),
         NodeKind::Truth(truth) => push_value(frame, Value::Truth(*truth)),
-        NodeKind::Text(text) => push_value(frame, Value::Text(text.share()?)),
+        NodeKind::Text(text) => push_value(frame, Value::Text(Text::new(text.share()?))),
         NodeKind::Prim(entity) => push_value(frame, Value::Prim(*entity)),
         NodeKind::This => push_slot(frame, 0),
         NodeKind::Local(slot) => push_slot(frame, *slot),

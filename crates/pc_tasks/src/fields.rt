@@ -113,9 +113,9 @@ fn write(core: &Core, heap: &mut Heap, frame: &mut Frame, name: u32) -> Outcome
     let value = frame.stack.replace(1, none());
     match heap.set(address, field, value) {
         Ok(before) => {
-            let _ = frame.stack.pop();
+            drop(frame.stack.pop());
             if let Some(before) = before {
-                let _ = frame.stack.replace_top(before);
+                drop(frame.stack.replace_top(before));
             }
             let _ = frame.tasks.pop();
             Outcome::Moved

@@ -28,7 +28,7 @@ pub fn same_value(left: &Value, right: &Value) -> bool
     match (left, right) {
         (Value::Num(left), Value::Num(right)) => *left == *right,
         (Value::Truth(left), Value::Truth(right)) => same_truth(*left, *right),
-        (Value::Text(left), Value::Text(right)) => left.as_slice() == right.as_slice(),
+        (Value::Text(left), Value::Text(right)) => left.is_equal(right),
         (Value::Prim(left), Value::Prim(right)) => *left == *right,
         (Value::At(left), Value::At(right)) => same_address(*left, *right),
         (_, _) => false,

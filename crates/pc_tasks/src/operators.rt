@@ -1,17 +1,16 @@
 //! What operators give.
-ghost use Rattle.std.specs.Prelude.{◌≡◌, ◌/◌, ◌%◌, ◌++◌, IfOk};
+ghost use Rattle.std.specs.Prelude.{◌≡◌, ◌/◌, ◌%◌, ◌++◌, length, nat_lt, IfOk};
 ghost use Rattle.pc_semantics.specs.declared.frames.Frame.{Frame};
 ghost use Rattle.pc_semantics.specs.Operators as spec;
 ghost use Rattle.pc_tasks.specs.Applied.{applied_to};
 
 use crate::identity::same_truth;
-use pc_caps::{List, SharedList};
-use pc_heap::Value;
+use pc_heap::{Text, Value};
 use pc_tree::Op;
 use std::alloc::{AllocError, Global};
 
 /// How many bytes a text may have.
-pub const TEXT_LIMIT: usize = 4096;
+const TEXT_LIMIT: usize = 4096;
 
 /// What an operator makes of its operands.
 #[derive(Drop)]
@@ -68,29 +67,35 @@ pub fn of_truths(op: Op, left: bool, right: bool) -> Option<Value>
     }
 }
 
+/// Whether the text of both would be longer than a text may be.
+pub fn is_too_long(left: &Text, right: &Text) -> bool
+    ensures { result ≡ nat_lt spec.text_limit (length (left.now ++ right.now)) }
+{
+    match left.room_behind(TEXT_LIMIT) {
+        Some(room) => right.room_behind(room).is_none(),
+        None => true,
+    }
+}
+
 // Both texts in one.
-fn joined(alloc: Global, left: &[u8], right: &[u8]) -> Result<Applied, AllocError>
+fn joined(alloc: Global, left: &Text, right: &Text) -> Result<Applied, AllocError>
     ensures { IfOk result (λ r. (f : Frame) → applied_to f r ≡ spec.joined f (left.now ++ right.now)) }
 {
-    let length = left.len() + right.len();
-    if length > TEXT_LIMIT {
-        return Ok(Applied::TooLong);
+    if is_too_long(left, right) {
+        Ok(Applied::TooLong)
+    } else {
+        Ok(Applied::Gives(Value::Text(Text::join(alloc, left, right)?)))
     }
-    let mut bytes = Vec::with_capacity(alloc, length)?;
-    bytes.extend_from_slice(left)?;
-    bytes.extend_from_slice(right)?;
-    let text = SharedList::from_list(alloc, List::from_vec(bytes))?;
-    Ok(Applied::Gives(Value::Text(text)))
 }
 
 // An operator on two texts.
-fn of_texts(alloc: Global, op: Op, left: &[u8], right: &[u8]) -> Result<Applied, AllocError>
+fn of_texts(alloc: Global, op: Op, left: &Text, right: &Text) -> Result<Applied, AllocError>
     ensures { IfOk result (λ r. (f : Frame) → applied_to f r ≡ spec.of_texts f op left.now right.now) }
 {
     match op {
         Op::Add => joined(alloc, left, right),
-        Op::Eq => Ok(Applied::Gives(Value::Truth(left == right))),
-        Op::Ne => Ok(Applied::Gives(Value::Truth(left != right))),
+        Op::Eq => Ok(Applied::Gives(Value::Truth(left.is_equal(right)))),
+        Op::Ne => Ok(Applied::Gives(Value::Truth(!left.is_equal(right)))),
         _ => Ok(Applied::OtherKind),
     }
 }
@@ -112,9 +117,7 @@ pub fn binary(alloc: Global, op: Op, left: &Value, right: &Value) -> Result<Appl
     match (left, right) {
         (Value::Num(left), Value::Num(right)) => Ok(given(of_numbers(op, *left, *right))),
         (Value::Truth(left), Value::Truth(right)) => Ok(given(of_truths(op, *left, *right))),
-        (Value::Text(left), Value::Text(right)) => {
-            of_texts(alloc, op, left.as_slice(), right.as_slice())
-        }
+        (Value::Text(left), Value::Text(right)) => of_texts(alloc, op, left, right),
         (_, _) => Ok(Applied::OtherKind),
     }
 }

@@ -15,7 +15,8 @@ use Rattle.pc_ann.specs.Masks.{IsIn}
 use Rattle.pc_ann.specs.MaskLaws.{without_number_bits}
 use Rattle.pc_semantics.specs.declared.frames.Task.{Task}
 use Rattle.pc_semantics.specs.declared.frames.Task.TheVariants as task
-use Rattle.pc_semantics.specs.Evaluation.{evaluations, items}
+use Rattle.pc_semantics.specs.Children.{evaluations}
+use Rattle.pc_semantics.specs.Evaluation.{items}
 use Rattle.pc_rules.specs.Parts.{Ty, Masks, starts, before, after, through, type_of, last_child}
 use Rattle.pc_rules.specs.Control.{without_definition, without_item, without_items}
 use Rattle.pc_rules.proofs.Threads.{starts_so}

@@ -1,0 +1,9 @@
+-- Which bytes a text has.
+use Rattle.std.specs.Prelude.{ℕ, List}
+use Rattle.std.specs.List.{concat}
+use Rattle.pc_heap.specs.declared.text.Form.{Form}
+use Rattle.pc_heap.specs.declared.text.Form.TheVariants.{Whole, Pieces}
+
+abbrev pub bytes_of : Form → List ℕ
+bytes_of (Whole bytes) = bytes
+bytes_of (Pieces pieces) = concat pieces

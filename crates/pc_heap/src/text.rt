@@ -1,0 +1,133 @@
+//! Texts.
+ghost use Rattle.std.specs.List.{concat};
+ghost use Rattle.std.specs.Prelude.{◌≡◌, ◌<◌, ◌+◌, ◌++◌, length, IfOk, MatchOption};
+ghost use Rattle.std.specs.Str.{bytes_eq};
+ghost use Rattle.pc_heap.specs.Texts.{bytes_of};
+
+use crate::pieces::{Rest, are_equal, collected, is_small, joined, joined_piece, room_behind, two};
+use pc_caps::{List, SharedList};
+use std::alloc::{AllocError, Global};
+use std::marker::Model;
+use std::slice;
+
+/// A text, seen as its bytes, which never change. All copies of a text have its bytes in common; so have a text that was
+/// joined of two others and these, but for a few bytes at the seam.
+#[derive(Debug, Drop)]
+pub struct Text {
+    form: Form,
+}
+
+// How the bytes are held.
+#[derive(Debug, Drop)]
+enum Form {
+    // In one piece.
+    Whole(SharedList<u8>),
+    // In several pieces, one behind the other.
+    Pieces(SharedList<SharedList<u8>>),
+}
+
+impl Model for Text {
+    ghost use Rattle.std.specs.Prelude.{List as Sequence, ℕ};
+    ghost use Rattle.pc_heap.specs.Texts.{bytes_of};
+
+    ghost Value = { Sequence ℕ };
+
+    ghost view = { λ text. bytes_of text.form };
+}
+
+impl Text {
+    /// The text of these bytes. It takes no memory.
+    pub fn new(bytes: SharedList<u8>) -> Text
+        ensures { result ≡ bytes }
+    {
+        Text {
+            form: Form::Whole(bytes),
+        }
+    }
+
+    /// The same text once more. It takes no memory: the `Err` says that the text has too many owners to be counted.
+    pub fn share(&self) -> Result<Text, AllocError>
+        ensures { IfOk result (λ copy. copy ≡ self.now) }
+    {
+        let form = match &self.form {
+            Form::Whole(bytes) => Form::Whole(bytes.share()?),
+            Form::Pieces(pieces) => Form::Pieces(pieces.share()?),
+        };
+        Ok(Text { form })
+    }
+
+    /// Both texts in one, the left one first.
+    ///
+    /// It takes memory for the numbers of its pieces and not for their bytes: no two pieces that follow each other have
+    /// together less than some hundred bytes, however often texts were joined.
+    pub fn join(alloc: Global, left: &Text, right: &Text) -> Result<Text, AllocError>
+        ensures { IfOk result (λ text. text ≡ left.now ++ right.now) }
+    {
+        let form = match (&left.form, &right.form) {
+            (Form::Whole(left), Form::Whole(right)) => join_whole(alloc, left, right)?,
+            (_, _) => Form::Pieces(joined(alloc, left.pieces(), right.pieces())?),
+        };
+        Ok(Text { form })
+    }
+
+    /// The bytes, in order.
+    pub fn to_list(&self, alloc: Global) -> Result<List<u8>, AllocError>
+        ensures { IfOk result (λ bytes. bytes ≡ self.now) }
+    {
+        Ok(List::from_vec(collected(alloc, self.pieces())?))
+    }
+
+    /// How many of so many bytes are left where this text takes its own. `None` exactly where it has more.
+    pub fn room_behind(&self, room: usize) -> Option<usize>
+        ensures { MatchOption result (room < length self.now) (λ left. left + length self.now ≡ room) }
+    {
+        room_behind(self.pieces(), room)
+    }
+
+    /// Whether the other text has the same bytes.
+    pub fn is_equal(&self, other: &Text) -> bool
+        ensures { result ≡ bytes_eq self.now other.now }
+    {
+        let other = Rest {
+            piece: &[],
+            behind: other.pieces(),
+        };
+        are_equal(self.pieces(), other)
+    }
+
+    /// Whether the text has these bytes.
+    pub fn has_bytes(&self, bytes: &[u8]) -> bool
+        ensures { result ≡ bytes_eq self.now bytes.now }
+    {
+        let other = Rest {
+            piece: bytes,
+            behind: &[],
+        };
+        are_equal(self.pieces(), other)
+    }
+
+    // The pieces, one behind the other.
+    fn pieces(&self) -> &[SharedList<u8>]
+        ensures { concat result.now ≡ self.now }
+    {
+        match &self.form {
+            Form::Whole(bytes) => slice::from_ref(bytes),
+            Form::Pieces(pieces) => pieces.as_slice(),
+        }
+    }
+}
+
+// Two texts of one piece each in one.
+fn join_whole(
+    alloc: Global,
+    left: &SharedList<u8>,
+    right: &SharedList<u8>,
+) -> Result<Form, AllocError>
+    ensures { IfOk result (λ form. bytes_of form ≡ left.now ++ right.now) }
+{
+    if is_small(left, right) {
+        Ok(Form::Whole(joined_piece(alloc, left, right)?))
+    } else {
+        Ok(Form::Pieces(two(alloc, left, right)?))
+    }
+}
