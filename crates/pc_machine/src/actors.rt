@@ -128,6 +128,7 @@ impl Actors {
     {
         if let Some(last) = self.all.pop() {
             self.waiting -= last.mailbox.len() as u32;
+            drop(last);
         }
     }
 }
@@ -169,7 +170,7 @@ fn take_from(all: &mut Vec<Actor>, actor: usize)
     ensures { all.new.items ≡ changed all.old.items actor unmailed }
 {
     let from = &mut all[actor];
-    let _ = from.mailbox.take();
+    drop(from.mailbox.take());
 }
 
 // Other frames for an actor of these.

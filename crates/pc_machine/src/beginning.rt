@@ -1,7 +1,7 @@
 //! Where the program of a core begins.
-ghost use Rattle.std.specs.Prelude.{◌≡◌, ◌<◌, ◌∷◌, [], position, Some, IsSome, IfOk};
+ghost use Rattle.std.specs.Prelude.{◌≡◌, ◌<◌, ◌∷◌, [], position, Some, IsSome, IfOk, OnOk};
 ghost use Rattle.pc_heap.specs.declared.value.Value.TheVariants.{At};
-ghost use Rattle.std.specs.FinMap.{insert, len};
+ghost use Rattle.std.specs.FinMap.{empty, insert, len};
 ghost use Rattle.std.specs.Str.{bytes_eq};
 ghost use Rattle.pc_heap.specs.Heaps.{object_limit};
 ghost use Rattle.pc_heap.specs.Objects.{field_at, next_address, with_value};
@@ -88,16 +88,25 @@ fn set_out(heap: &mut Heap, environment: Address, stream: Address)
     }
 }
 
-// The objects of the stream, of the environment and of Main, by the number of its entity.
+// The objects of the stream, of the environment and of Main, by the number of its entity, come where there is none.
+fn add_objects(core: &Core, heap: &mut Heap, main: u32) -> Result<(), AllocError>
+    requires { heap.old.objects ≡ empty }
+    ensures { OnOk result (heap.new.objects ≡ (spec.start_of core.now (Some (main, 0))).objects) }
+{
+    core.formed();
+    let stream = add_object(core, heap, 0, STREAM)?;
+    let environment = add_object(core, heap, 0, ENVIRONMENT)?;
+    set_out(heap, environment, stream);
+    add_object(core, heap, 1, main)?;
+    Ok(())
+}
+
+// The same objects, and no others.
 fn start_objects(alloc: Global, core: &Core, main: u32) -> Result<Heap, AllocError>
     ensures { IfOk result (λ heap. heap.objects ≡ (spec.start_of core.now (Some (main, 0))).objects) }
 {
-    core.formed();
     let mut heap = Heap::new(alloc);
-    let stream = add_object(core, &mut heap, 0, STREAM)?;
-    let environment = add_object(core, &mut heap, 0, ENVIRONMENT)?;
-    set_out(&mut heap, environment, stream);
-    add_object(core, &mut heap, 1, main)?;
+    add_objects(core, &mut heap, main)?;
     Ok(heap)
 }
 
@@ -129,8 +138,8 @@ pub fn start_state(alloc: Global, core: &Core) -> Result<State, AllocError>
             printed: List::new(alloc),
         });
     };
-    let heap = start_objects(alloc, core, main)?;
     let actors = start_actors(alloc, create)?;
+    let heap = start_objects(alloc, core, main)?;
     Ok(State {
         heap,
         actors,

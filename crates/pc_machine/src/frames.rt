@@ -1,6 +1,7 @@
 //! The frames of an actor.
-ghost use Rattle.std.specs.Prelude.{◌≡◌, ◌-◌, ◌<◌, ◌≤◌, ◌++◌, ◌∷◌, length, map, replicate, slice_get, Some, None, IfSome, IfOk, OnOk, OnErr};
+ghost use Rattle.std.specs.Prelude.{◌≡◌, ◌-◌, ◌<◌, ◌≤◌, ◌++◌, ◌∷◌, [], length, map, replicate, slice_get, Some, None, IfSome, IfOk, OnOk, OnErr};
 ghost use Rattle.pc_semantics.specs.Around.{first_frame, pushed};
+ghost use Rattle.pc_semantics.specs.declared.frames.Task.TheVariants.{Eval};
 ghost use Rattle.pc_machine.specs.Plans.{after_call, given, entered, ended, frames_changed, Suits};
 
 use crate::plan::Change;
@@ -19,6 +20,16 @@ fn blank(alloc: Global) -> Frame {
     }
 }
 
+// Copies of the arguments, each in a slot behind those that are filled.
+fn fill_arguments(filled: &mut Vec<Option<Value>>, arguments: &[Value]) -> Result<(), AllocError>
+    ensures { OnOk result (filled.new.items ≡ filled.old.items ++ map Some arguments.now) }
+{
+    for argument in arguments {
+        filled.push(Some(argument.copy()?))?;
+    }
+    Ok(())
+}
+
 // The values of `this` and of the arguments, each in a slot.
 fn argument_slots(
     alloc: Global,
@@ -29,10 +40,17 @@ fn argument_slots(
 {
     let mut filled = Vec::with_capacity(alloc, arguments.len().saturating_add(1))?;
     filled.push(Some(this))?;
-    for argument in arguments {
-        filled.push(Some(argument.copy()?))?;
-    }
+    fill_arguments(&mut filled, arguments)?;
     Ok(filled)
+}
+
+// The one task of a method that begins: its body is evaluated.
+fn body_first(alloc: Global, body: u32) -> Result<Tasks, AllocError>
+    ensures { IfOk result (λ tasks. tasks ≡ Eval body ∷ []) }
+{
+    let mut tasks = Tasks::new(alloc);
+    tasks.push(Task::Eval(body))?;
+    Ok(tasks)
 }
 
 /// The frame of a method that begins, by its number and its body, with `this` and the arguments.
@@ -49,11 +67,11 @@ pub fn begin_frame(
     let empty = (method.slots as usize)
         .saturating_sub(1)
         .saturating_sub(arguments.len());
-    let mut tasks = Tasks::new(alloc);
-    tasks.push(Task::Eval(body))?;
+    let filled = argument_slots(alloc, this, arguments)?;
+    let tasks = body_first(alloc, body)?;
     Ok(Frame {
         method: number,
-        slots: Slots::new(argument_slots(alloc, this, arguments)?, empty),
+        slots: Slots::new(filled, empty),
         stack: Stack::new(alloc),
         tasks,
     })
@@ -75,7 +93,7 @@ fn place_value(frame: &mut Frame, count: usize, value: Value)
     ensures { frame.new ≡ pushed (after_call count frame.old) value }
 {
     finish(frame, count - 1);
-    let _ = frame.stack.replace_top(value);
+    drop(frame.stack.replace_top(value));
 }
 
 /// The running frame goes on with a value in the place of the topmost ones. It takes no memory.
@@ -127,7 +145,7 @@ fn enter(
     frames.push(callee)?;
     let mut caller = frames.replace(1, blank(alloc));
     finish(&mut caller, count);
-    let _ = frames.replace(1, caller);
+    drop(frames.replace(1, caller));
     Ok(())
 }
 
@@ -148,18 +166,18 @@ fn leave(alloc: Global, frames: &mut Stack<Frame>, value: Value) -> Result<(), A
     ensures err { OnErr result (frames.new ≡ frames.old) }
 {
     if frames.len() == 1 {
-        let _ = frames.pop();
+        drop(frames.pop());
         return Ok(());
     }
     let mut below = frames.replace(1, blank(alloc));
     match push_on(&mut below, value) {
         Ok(()) => {
-            let _ = frames.pop();
-            let _ = frames.replace_top(below);
+            drop(frames.pop());
+            drop(frames.replace_top(below));
             Ok(())
         }
         Err(error) => {
-            let _ = frames.replace(1, below);
+            drop(frames.replace(1, below));
             Err(error)
         }
     }
@@ -181,7 +199,7 @@ pub fn change_frames(
         Change::Enters { count, frame } => enter(alloc, frames, count, frame),
         Change::Leaves(Some(value)) => leave(alloc, frames, value),
         Change::Leaves(None) => {
-            let _ = frames.pop();
+            drop(frames.pop());
             Ok(())
         }
     }

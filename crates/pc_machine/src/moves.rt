@@ -114,7 +114,7 @@ fn make(
     state.heap.reserve(actor, fields)?;
     let mut callee = frame;
     let this = Value::At(state.heap.reserved());
-    let _ = callee.slots.put(0, this)?;
+    drop(callee.slots.put(0, this)?);
     let change = Change::Enters {
         count,
         frame: callee,

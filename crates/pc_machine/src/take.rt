@@ -90,7 +90,7 @@ fn begin_oldest(
     let mut frames = Stack::new(alloc);
     frames.push(frame)?;
     state.actors.take(actor as usize);
-    let _ = state.actors.swap_frames(actor as usize, frames);
+    drop(state.actors.swap_frames(actor as usize, frames));
     Ok(Outcome::Moved)
 }
 

@@ -23,7 +23,7 @@ fn replace_one(frame: &mut Frame, applied: Applied) -> Outcome
 {
     match applied {
         Applied::Gives(value) => {
-            let _ = frame.stack.replace_top(value);
+            drop(frame.stack.replace_top(value));
             let _ = frame.tasks.pop();
             Outcome::Moved
         }
@@ -40,8 +40,8 @@ fn replace_two(frame: &mut Frame, applied: Applied) -> Outcome
 {
     match applied {
         Applied::Gives(value) => {
-            let _ = frame.stack.pop();
-            let _ = frame.stack.replace_top(value);
+            drop(frame.stack.pop());
+            drop(frame.stack.replace_top(value));
             let _ = frame.tasks.pop();
             Outcome::Moved
         }

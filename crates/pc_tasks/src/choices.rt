@@ -51,7 +51,7 @@ fn right_side(frame: &mut Frame, children: &[u32]) -> Outcome
     let [_, right] = children else {
         return Outcome::Lacks(Lack::Value);
     };
-    let _ = frame.stack.pop();
+    drop(frame.stack.pop());
     let _ = frame.tasks.replace_top(Task::Eval(*right));
     Outcome::Moved
 }
@@ -94,7 +94,7 @@ fn take_branch(frame: &mut Frame, children: &[u32]) -> Outcome
         return Outcome::Lacks(Lack::Value);
     };
     let next = if *truth { *then } else { *otherwise };
-    let _ = frame.stack.pop();
+    drop(frame.stack.pop());
     let _ = frame.tasks.replace_top(Task::Eval(next));
     Outcome::Moved
 }
@@ -126,9 +126,9 @@ fn turn(frame: &mut Frame, n: u32, children: &[u32]) -> Result<Outcome, AllocErr
     };
     if *truth {
         go_on_with(frame, &[Task::Eval(*body), Task::Discard, Task::Eval(n)])?;
-        let _ = frame.stack.pop();
+        drop(frame.stack.pop());
     } else {
-        let _ = frame.stack.replace_top(none());
+        drop(frame.stack.replace_top(none()));
         let _ = frame.tasks.pop();
     }
     Ok(Outcome::Moved)
@@ -139,9 +139,10 @@ pub fn discard(frame: &mut Frame) -> Outcome
     requires { 0 < length frame.old.tasks }
     ensures { within frame.old (pop (relieved frame.old) (λ v g. Goes g)) ≡ Some (result, frame.new) }
 {
-    if frame.stack.pop().is_none() {
+    let Some(value) = frame.stack.pop() else {
         return Outcome::Lacks(Lack::Value);
-    }
+    };
+    drop(value);
     let _ = frame.tasks.pop();
     Outcome::Moved
 }

@@ -37,7 +37,7 @@ fn take_slot(frame: &mut Frame, slot: u32) -> Result<Outcome, AllocError>
     }
     frame.stack.push(none())?;
     if let Some(value) = frame.slots.take(place) {
-        let _ = frame.stack.replace_top(value);
+        drop(frame.stack.replace_top(value));
     }
     let _ = frame.tasks.pop();
     Ok(Outcome::Moved)

@@ -32,7 +32,7 @@ fn read(core: &Core, heap: &Heap, frame: &mut Frame, name: u32) -> Result<Outcom
         return Ok(Outcome::Lacks(Lack::Field));
     };
     let value = value.copy()?;
-    let _ = frame.stack.replace_top(value);
+    drop(frame.stack.replace_top(value));
     let _ = frame.tasks.pop();
     Ok(Outcome::Moved)
 }
@@ -64,11 +64,11 @@ fn store_in(frame: &mut Frame, slot: u32) -> Result<Outcome, AllocError>
     let value = frame.stack.replace_top(none());
     match frame.slots.put(slot as usize, value) {
         Ok(Some(before)) => {
-            let _ = frame.stack.replace_top(before);
+            drop(frame.stack.replace_top(before));
         }
         Ok(None) => {}
         Err(refused) => {
-            let _ = frame.stack.replace_top(refused.value);
+            drop(frame.stack.replace_top(refused.value));
             return Err(AllocError);
         }
     }
@@ -121,7 +121,7 @@ fn write(core: &Core, heap: &mut Heap, frame: &mut Frame, name: u32) -> Outcome
             Outcome::Moved
         }
         Err(value) => {
-            let _ = frame.stack.replace(1, value);
+            drop(frame.stack.replace(1, value));
             Outcome::Lacks(Lack::Field)
         }
     }
