@@ -19,7 +19,7 @@ use Rattle.pc_tree.specs.Tree as t
 use Rattle.pc_core.specs.declared.nodes.NodeKind.TheVariants as node
 use Rattle.pc_body_spec.specs.Roses.{Rose}
 use Rattle.pc_body_spec.specs.Scopes.{Context, Scope, Constructor, primitive, created, no_value, constructor_named, text_of}
-use Rattle.pc_body_spec.specs.Expressions.{expr_of, assign_of, start_of, chain_of, named_of, exprs_of, join, apply, call, call_named, read_field, use_field, use_other, create_name, apply_name, Use, read, write, Start, with_value, with_method, with_type}
+use Rattle.pc_body_spec.specs.Expressions.{expr_of, assign_of, start_of, chain_of, named_of, exprs_of, join, apply, call, call_named, new_object, read_field, use_field, use_other, create_name, apply_name, Use, read, write, Start, with_value, with_method, with_type}
 use Rattle.pc_emit.specs.declared.chains.First.TheVariants as first
 use Rattle.pc_emit.specs.declared.chains.Beginning.{Beginning}
 use Rattle.pc_emit.specs.declared.chains.Beginning.TheVariants as begins
@@ -146,19 +146,30 @@ begins_with_primitive c e (t.dot m ∷ []) h = λ sc d s u origin. refl
 begins_with_primitive c e (t.dot m ∷ t.dot k ∷ ss) h = λ sc d s u origin. refl
 begins_with_primitive c e (t.dot m ∷ t.args es sp ∷ ss) h = λ sc d s u origin. refl
 
+-- A chain goes on behind a new object.
+object_begins : (c : Context) (a : Bool) (o : Option ℕ) (es : t.Exprs) (sp : Span) (ss : List t.Suffix) (sc : Scope) (d : ℕ) (s : Span) (u : Use) (origin : Rose)
+    → chain_of c sc d s u with_value (new_object a (join s sp) d (exprs_of c sc d es) o) (t.suffixes_of ss) ≡ chain_of c sc d s u with_value (begun c sc d s (object a o 0) (t.args es sp ∷ ss) origin) (t.suffixes_of (drop (taken (object a o 0)) (t.args es sp ∷ ss)))
+object_begins c true (Some m) es sp ss sc d s u origin = refl
+object_begins c true None es sp ss sc d s u origin = refl
+object_begins c false (Some m) es sp ss sc d s u origin = refl
+object_begins c false None es sp ss sc d s u origin = refl
+
+named_begins : (c : Context) (a : Bool) (o : Option ℕ) (n : Name) (es : t.Exprs) (sp : Span) (ss : List t.Suffix) (sc : Scope) (d : ℕ) (s : Span) (u : Use) (origin : Rose)
+    → chain_of c sc d s u with_value (new_object a (join s sp) d (exprs_of c sc d es) o) (t.suffixes_of ss) ≡ chain_of c sc d s u with_value (begun c sc d s (object a o 1) (t.dot n ∷ t.args es sp ∷ ss) origin) (t.suffixes_of (drop (taken (object a o 1)) (t.dot n ∷ t.args es sp ∷ ss)))
+named_begins c true (Some m) n es sp ss sc d s u origin = refl
+named_begins c true None n es sp ss sc d s u origin = refl
+named_begins c false (Some m) n es sp ss sc d s u origin = refl
+named_begins c false None n es sp ss sc d s u origin = refl
+
 begins_created : (c : Context) (a : Bool) (o : Option ℕ) (cs : List Constructor) (es : t.Exprs) (sp : Span) (ss : List t.Suffix) → constructor_named cs create_name ≡ o
     → Begins c (with_type (created a cs)) (t.args es sp ∷ ss) (object a o 0)
-begins_created c true (Some m) cs es sp ss h = λ sc d s u origin. rw h refl
-begins_created c true None cs es sp ss h = λ sc d s u origin. rw h refl
-begins_created c false (Some m) cs es sp ss h = λ sc d s u origin. rw h refl
-begins_created c false None cs es sp ss h = λ sc d s u origin. rw h refl
+begins_created c a o cs es sp ss h = λ sc d s u origin.
+    ap (λ p. chain_of c sc d s u with_value (new_object a (join s sp) d (exprs_of c sc d es) p) (t.suffixes_of ss)) h ∙ object_begins c a o es sp ss sc d s u origin
 
 begins_named : (c : Context) (a : Bool) (o : Option ℕ) (cs : List Constructor) (n : Name) (es : t.Exprs) (sp : Span) (ss : List t.Suffix) → constructor_named cs n.text ≡ o
     → Begins c (with_type (created a cs)) (t.dot n ∷ t.args es sp ∷ ss) (object a o 1)
-begins_named c true (Some m) cs n es sp ss h = λ sc d s u origin. rw h refl
-begins_named c true None cs n es sp ss h = λ sc d s u origin. rw h refl
-begins_named c false (Some m) cs n es sp ss h = λ sc d s u origin. rw h refl
-begins_named c false None cs n es sp ss h = λ sc d s u origin. rw h refl
+begins_named c a o cs n es sp ss h = λ sc d s u origin.
+    ap (λ p. chain_of c sc d s u with_value (new_object a (join s sp) d (exprs_of c sc d es) p) (t.suffixes_of ss)) h ∙ named_begins c a o n es sp ss sc d s u origin
 
 pub begins_with_create : (c : Context) (a : Bool) (cs : List Constructor) (ss : List t.Suffix) → is_args (slice_get ss 0) ≡ true → Begins c (with_type (created a cs)) ss (object a (constructor_named cs create_name) 0)
 begins_with_create c a cs [] h = absurd (false≢true h)
@@ -190,9 +201,35 @@ pub begins_bare : (c : Context) (a : Bool) (cs : List Constructor) (ss : List t.
 begins_bare c a cs [] h = λ sc d s u origin. refl
 begins_bare c a cs (x ∷ ss) h = absurd (none-some x (sym h))
 
+-- A test of what stands at a place.
+pub tested_some : (f : Option t.Suffix → Bool) (xs : List Suffix) (i : ℕ) (x : Suffix) → slice_get xs i ≡ Some x → f (Some (suffix_view x)) ≡ f (slice_get (map suffix_view xs) i)
+tested_some f xs i x h = ap f (sym (slice_get-map suffix_view xs i ∙ ap (option_map suffix_view) h))
+
+pub tested_none : (f : Option t.Suffix → Bool) (xs : List Suffix) (i : ℕ) → slice_get xs i ≡ None → f None ≡ f (slice_get (map suffix_view xs) i)
+tested_none f xs i h = ap f (sym (slice_get-map suffix_view xs i ∙ ap (option_map suffix_view) h))
+
+pub past_none : (xs : List Suffix) (i : ℕ) → length xs ≤ i → slice_get xs i ≡ None
+past_none [] i h = refl
+past_none (x ∷ xs) zero h = absurd (omega (arith, h))
+past_none (x ∷ xs) (suc i) h = past_none xs i (omega (arith, h))
+
+-- Where the first suffix passes, there is one.
+pub one_taken : (f : Option t.Suffix → Bool) (xs : List Suffix) → f None ≡ false → f (slice_get (map suffix_view xs) 0) ≡ true → 1 ≤ length xs
+one_taken f [] n h = absurd (false≢true (sym n ∙ h))
+one_taken f (x ∷ xs) n h = omega arith
+
 pub object_takes : (a : Bool) (o : Option ℕ) (at : ℕ) → taken (object a o at) ≡ at + 1
 object_takes a (Some m) at = refl
 object_takes a None at = refl
+
+pub two_taken : (a : Bool) (o : Option ℕ) (xs : List Suffix) → taken (if is_args (slice_get (map suffix_view xs) 1) then object a o 1 else begins.Value) ≤ length xs
+two_taken a o [] = omega arith
+two_taken a o (x ∷ []) = omega arith
+two_taken a o (x ∷ y ∷ xs) = by (is_args (Some (suffix_view y)))
+  where
+    by : (b : Bool) → taken (if b then object a o 1 else begins.Value) ≤ length (x ∷ y ∷ xs)
+    by true = rw (object_takes a o 1) (omega arith)
+    by false = omega arith
 
 all_but : (ss : List t.Suffix) (n : ℕ) (x : t.Suffix) → n ≡ length ss → 0 < n → slice_get ss (n - 1) ≡ Some x → ss ≡ take (n - 1) ss ++ x ∷ []
 all_but ss n x e l h = sym (take_whole ss) ∙ ap (λ k. take k ss) (sym e) ∙ take_last ss n x l h

@@ -1,6 +1,7 @@
 -- Laws of the walk's loops.
-use Rattle.std.proofs.Common.{◌≡◌, rules, ℕ, zero, suc, ◌+◌, ◌<◌, ◌≤◌, drop, take, map, length, Bool, true, false, Option, List, [], ◌∷◌, ◌++◌, Some, None, refl, ap, ◌∙◌, sym, Result, Err, arith}
+use Rattle.std.proofs.Common.{◌≡◌, rules, ℕ, zero, suc, ◌+◌, ◌<◌, ◌≤◌, drop, take, map, length, Bool, true, false, Option, List, [], ◌∷◌, ◌++◌, Some, None, refl, ap, ◌∙◌, sym, Result, Ok, Err, arith}
 use Rattle.std.specs.Prelude.{slice_get, slice_index_or, option_map}
+use Rattle.std.specs.Result.{OnOk}
 use Rattle.std.proofs.lemmas.Option.{same_Some, none-some, slice_get_read, slice_get-map}
 use Rattle.pc_caps.specs.declared.span.Span.{Span}
 use Rattle.pc_core.specs.declared.nodes.Node.{Node}
@@ -13,7 +14,7 @@ use Rattle.pc_tree.specs.View.{expr_view, exprs_view, arm_view, arms_view, seq_v
 use Rattle.pc_tree.specs.declared.expression.Expr.{Expr, the_lemmas}
 use Rattle.pc_tree.specs.declared.expression.Arm.{Arm}
 use Rattle.pc_tree.specs.declared.expression.Item.{Item}
-use Rattle.std.proofs.lemmas.List.{length-take, take-append-le}
+use Rattle.std.proofs.lemmas.List.{length-append, length-take, take-append-le}
 use Rattle.pc_tree.specs.declared.expression.Seq.{Seq}
 use Rattle.std.proofs.lemmas.Bool.{true≢false}
 use Rattle.pc_body_spec.specs.Roses.{Rose, Roses, rose, more, no_roses, two, three, and_last, Numbered, and_then, put, puts, push}
@@ -24,6 +25,10 @@ use Rattle.pc_emit.specs.declared.stop.EmitStop.TheVariants as stop
 use Rattle.pc_emit.specs.declared.waiting.Link.{Link}
 use Rattle.pc_emit.specs.Giving.{Gives}
 use Rattle.pc_emit.specs.Closing.{closing, arm_after, arm_closes, none_closes, seq_closes, name_closes, names_none, is_missing, written_end, written_kind, begun_by, Opens, OpensChain, OpensOne}
+
+pub on_ok : {A P : Type 0} (r : Result A EmitStop) → P → OnOk r P
+on_ok (Ok a) h = h
+on_ok (Err e) h = tt
 
 -- The children so far have their nodes.
 abbrev pub Going : ℕ → Numbered (List ℕ) → Roses → List ℕ → List Node → Type 0
@@ -47,6 +52,13 @@ just (Some r) = refl
 pub closing_last : {P : Type 0} (step : P → ℕ → List Node → Numbered ℕ) (ps : List P) (p : P) (n : ℕ) (ns : List Node) → closing step (ps ++ p ∷ []) n ns ≡ and_then (step p n ns) (closing step ps)
 closing_last step [] p n ns = just (step p n ns)
 closing_last step (q ∷ ps) p n ns = ap (λ o. and_then o (step q)) (closing_last step ps p n ns) ∙ assoc (step p n ns) (closing step ps) (step q)
+
+-- So closing it leaves the others to be closed.
+pub closed_last : {P : Type 0} (step : P → ℕ → List Node → Numbered ℕ) (xs ps : List P) (p : P) (n n2 : ℕ) (ns ns2 : List Node) → xs ≡ ps ++ p ∷ [] → step p n ns ≡ Some (n2, ns2) → closing step ps n2 ns2 ≡ closing step xs n ns
+closed_last step xs ps p n n2 ns ns2 h g = sym (ap (λ l. closing step l n ns) h ∙ closing_last step ps p n ns ∙ ap (λ o. and_then o (closing step ps)) g)
+
+pub shorter : {P : Type 0} (xs ps : List P) (p : P) → xs ≡ ps ++ p ∷ [] → length ps < length xs
+shorter xs ps p h = omega (arith, ap length h, length-append ps (p ∷ []))
 
 -- The node that waits for an inner part is added to those that wait.
 pub waits : {P : Type 0} (step : P → ℕ → List Node → Numbered ℕ) (ps : List P) (p : P) (o : Numbered ℕ) → and_then (and_then o (step p)) (closing step ps) ≡ and_then o (closing step (ps ++ p ∷ []))

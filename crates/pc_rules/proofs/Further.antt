@@ -1,15 +1,20 @@
 -- One child further, of the children from a place on.
-use Rattle.std.specs.Prelude.{◌≡◌, ℕ, zero, suc, ◌+◌, ◌<◌, ◌≤◌, length, take, true, false, cond, ◌&&◌, List, [], ◌∷◌, drop, Option, Some, None, slice_get}
-use Rattle.std.proofs.Common.{ap, sym, ◌∙◌, arith}
-use Rattle.std.proofs.lemmas.Option.{same_Some, none-some}
+use Rattle.std.specs.Prelude.{◌≡◌, ℕ, zero, suc, ◌+◌, ◌<◌, ◌≤◌, length, take, Bool, true, false, cond, ◌&&◌, List, [], ◌∷◌, drop, Option, Some, None, slice_get}
+use Rattle.std.proofs.Common.{ap, sym, subst, ◌∙◌, arith}
+use Rattle.std.proofs.lemmas.List.{drop_all, length-take-le}
+use Rattle.pc_lists.proofs.Cuts.{take_whole}
+use Rattle.std.proofs.lemmas.Option.{same_Some, none-some, slice_get-get_or}
+use Rattle.std.specs.Prelude.{get_or}
 use Rattle.pc_core.specs.declared.declarations.ParamInfo.{ParamInfo}
 use Rattle.pc_core.specs.CoreData.{CoreData}
 use Rattle.pc_lists.specs.Options.{◌>>=◌}
 use Rattle.pc_lists.proofs.Gets.{take_get}
+use Rattle.pc_ann.specs.declared.mask.Mask.{Mask}
 use Rattle.pc_ann.specs.declared.annotation.Note.{Note}
 use Rattle.pc_rules.specs.Parts.{Masks, starts, after, through_notes}
 use Rattle.pc_rules.specs.Calls.{argument_goes, argument_sendable, arguments_go, arguments_sendable}
-use Rattle.pc_rules.specs.Children.{goes_at, goes_to_param, sendable_at, sendable_to_param}
+use Rattle.pc_rules.specs.Children.{is_there, each_has, goes_at, goes_to_param, sendable_at, sendable_to_param}
+use Rattle.pc_rules.specs.Control.{without_item, without_items}
 use Rattle.pc_rules.proofs.Gathered.{note_within}
 
 drop_suc : {A : Type 0} → (ts : List A) (i : ℕ) (t : A) → slice_get ts i ≡ Some t → drop i ts ≡ t ∷ drop (suc i) ts
@@ -45,3 +50,38 @@ sendable_step ns ps k i e l b =
     ap (λ ts. arguments_sendable ts (drop i ps)) (drop_step (take k ns) i t.0 (take_get ns k i t.0 b t.1))
     ∙ ap (λ qs. arguments_sendable (t.0 ∷ drop (i + 1) (take k ns)) qs) (drop_step ps i p.0 p.1)
     ∙ ap (λ g. g && arguments_sendable (drop (i + 1) (take k ns)) (drop (i + 1) ps)) (sym same)
+
+here : (notes : List Note) (cs : List ℕ) (i : ℕ) (b c : Bool) → i < length cs → b ≡ is_there (slice_get notes (get_or cs i 0)) → b ≡ c → each_has notes (drop i cs) ≡ (c && each_has notes (drop (i + 1) cs))
+here notes cs i b c l e f = ap (each_has notes) (drop_step cs i (get_or cs i 0) (slice_get-get_or cs i 0 l)) ∙ ap (λ g. g && each_has notes (drop (i + 1) cs)) (sym e ∙ f)
+
+pub one_more_has : (notes : List Note) (cs : List ℕ) (i : ℕ) (b : Bool) → i < length cs → b ≡ is_there (slice_get notes (get_or cs i 0)) → b ≡ true → each_has notes (drop (i + 1) cs) ≡ each_has notes (drop i cs)
+one_more_has notes cs i b l e f = sym (here notes cs i b true l e f)
+
+pub this_lacks : (notes : List Note) (cs : List ℕ) (i : ℕ) (b : Bool) → i < length cs → b ≡ is_there (slice_get notes (get_or cs i 0)) → b ≡ false → false ≡ each_has notes (drop i cs)
+this_lacks notes cs i b l e f = sym (here notes cs i b false l e f)
+
+pub one_more_without : (core : CoreData) (cs : List ℕ) (i : ℕ) (l m : Mask) → i < length cs → m ≡ without_item (slice_get core.nodes (get_or cs i 0)) l → without_items core (drop (i + 1) cs) m ≡ without_items core (drop i cs) l
+one_more_without core cs i l m b e = ap (without_items core (drop (i + 1) cs)) e ∙ sym (ap (λ ds. without_items core ds l) (drop_step cs i (get_or cs i 0) (slice_get-get_or cs i 0 b)))
+
+-- ---- behind the last child
+
+pub all_through : (ns : List Note) (i : ℕ) (m : Masks) → length ns ≤ i → Some m ≡ through_notes (drop i ns) m
+all_through ns i m l = sym (ap (λ ts. through_notes ts m) (drop_all i ns l))
+
+pub all_have : (notes : List Note) (cs : List ℕ) (i : ℕ) → length cs ≤ i → true ≡ each_has notes (drop i cs)
+all_have notes cs i l = sym (ap (each_has notes) (drop_all i cs l))
+
+none_taken : (ns : List Note) (k i : ℕ) → k ≤ length ns → k ≤ i → drop i (take k ns) ≡ []
+none_taken ns k i l b = drop_all i (take k ns) (subst (λ n. n ≤ i) (sym (length-take-le k ns l)) b)
+
+none_asked : (ps : List ParamInfo) (k i : ℕ) → length ps ≡ k → k ≤ i → drop i ps ≡ []
+none_asked ps k i e b = drop_all i ps (subst (λ n. n ≤ i) (sym e) b)
+
+pub all_went : (core : CoreData) (ns : List Note) (ps : List ParamInfo) (k i : ℕ) → length ps ≡ k → k ≤ length ns → k ≤ i → true ≡ arguments_go core (drop i (take k ns)) (drop i ps)
+all_went core ns ps k i e l b = sym (ap (λ ts. arguments_go core ts (drop i ps)) (none_taken ns k i l b) ∙ ap (arguments_go core []) (none_asked ps k i e b))
+
+pub all_sendable : (ns : List Note) (ps : List ParamInfo) (k i : ℕ) → length ps ≡ k → k ≤ length ns → k ≤ i → true ≡ arguments_sendable (drop i (take k ns)) (drop i ps)
+all_sendable ns ps k i e l b = sym (ap (λ ts. arguments_sendable ts (drop i ps)) (none_taken ns k i l b) ∙ ap (arguments_sendable []) (none_asked ps k i e b))
+
+pub each_goes : (core : CoreData) (ns : List Note) (ps : List ParamInfo) (k : ℕ) → k ≡ length ns → arguments_go core (take k ns) ps ≡ arguments_go core ns ps
+each_goes core ns ps k e = ap (λ n. arguments_go core (take n ns) ps) e ∙ ap (λ ts. arguments_go core ts ps) (take_whole ns)

@@ -1,4 +1,6 @@
+pub mod Found
 pub mod Gathered
+pub mod Deciding
 pub mod Further
 pub mod Arguments
 pub mod ByNumber

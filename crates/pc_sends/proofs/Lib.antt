@@ -1,4 +1,5 @@
 pub mod Grows
+pub mod Tests
 pub mod Sorted
 pub mod Filtered
 pub mod Listed

@@ -1,5 +1,5 @@
 -- What a walk over methods finds, step by step.
-use Rattle.std.specs.Prelude.{◌≡◌, ◌⊎◌, ◌↔◌, ℕ, ◌+◌, ◌-◌, Bool, List, Option, Some, None, slice_get, if◌then◌else◌}
+use Rattle.std.specs.Prelude.{◌≡◌, ◌⊎◌, ◌↔◌, ℕ, ◌+◌, ◌-◌, Bool, List, [], Option, Some, None, slice_get, if◌then◌else◌}
 use Rattle.std.proofs.Common.{inl, inr, ap, sym, subst, ◌∙◌, arith}
 use Rattle.std.proofs.lemmas.Option.{same_Some, none-some}
 use Rattle.pc_core.specs.declared.declarations.Method.{Method}
@@ -67,6 +67,10 @@ targets_none core lists name e a l is =
 
 pub known_grown : (core : CoreData) (calls : List (ℕ × ℕ)) (P : ℕ → Type 0) (a b : List ℕ) → Grown P a b → Known core calls a → Known core calls b
 known_grown core calls P a b g k name e t h m = grown_kept P a b t g (k name e t h m)
+
+-- No call was looked at.
+pub known_none : (core : CoreData) (calls : List (ℕ × ℕ)) (found : List ℕ) → calls ≡ [] → Known core calls found
+known_none core calls found is name e t h m = let k = subst (λ (ps : List (ℕ × ℕ)). Has ps (name, e)) is h in absurd (none-some (name, e) k.1)
 
 -- One call more.
 pub known_call : (core : CoreData) (old new : List (ℕ × ℕ)) (name e : ℕ) (a b : List ℕ) → Grown (MayCall core name e) a b → Known core old a → ((call : ℕ × ℕ) → Has new call → Has old call ⊎ (call ≡ (name, e))) → Known core new b

@@ -1,10 +1,13 @@
 //! The table of who sends what.
 ghost use Rattle.std.specs.Prelude.{◌≡◌, ℕ, length, IfOk, List as Sequence};
 ghost use Rattle.pc_semantics.specs.Runs.{after};
+ghost use Rattle.pc_sends.specs.Entities.{ListsMayBe};
 ghost use Rattle.pc_sends.specs.Held.{Held};
+ghost use Rattle.pc_sends.specs.Reached.{IsReach};
 ghost use Rattle.pc_sends.specs.Tables as spec;
 
 use crate::conforming::list_all;
+use crate::found::Found;
 use crate::laws::held_covers;
 use crate::never::list_never;
 use crate::reaching::reach;
@@ -14,6 +17,22 @@ use crate::table::Table;
 use crate::walk::Noted;
 use pc_core::Core;
 use std::alloc::{AllocError, Global};
+
+// The table, from the methods in Reach.
+fn table_of(alloc: Global, noted: &Noted, found: &Found) -> Result<Table, AllocError>
+    requires lists { ListsMayBe noted.now.core.now noted.now.lists.now }
+    requires reached { IsReach noted.now.core.now noted.now.entities.now found.now }
+    ensures { IfOk result (λ table. spec.IsTable noted.now.core.now noted.now.entities.now table) }
+{
+    let rows = list_rows(alloc, noted, found)?;
+    let never = list_never(alloc, noted.core, rows.as_slice())?;
+    let reached = ascending(alloc, found)?;
+    Ok(Table {
+        rows,
+        never,
+        reached,
+    })
+}
 
 /// Which entity's methods may send which message, over every run at once. For each node `entities` has the entity that is
 /// noted of its value, or none; and what is noted of the receivers of calls is held by every run.
@@ -40,12 +59,5 @@ pub fn sends(alloc: Global, core: &Core, entities: &[Option<u32>]) -> Result<Tab
         lists: lists.as_slice(),
     };
     let found = reach(alloc, &noted)?;
-    let rows = list_rows(alloc, &noted, &found)?;
-    let never = list_never(alloc, core, rows.as_slice())?;
-    let reached = ascending(alloc, &found)?;
-    Ok(Table {
-        rows,
-        never,
-        reached,
-    })
+    table_of(alloc, &noted, &found)
 }

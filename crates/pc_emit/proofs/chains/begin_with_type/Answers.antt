@@ -14,3 +14,15 @@ returns-in-NoValue-clause-begins c =
     let ss = map suffix_view c.args.suffixes.now in
     let none : type_meaning cx c.args.name.now.text ≡ no_value = ap (type_meaning cx) (sym c.as_slice.ensures) ∙ sym c.type_meaning.ensures ∙ ap type_view c.in-NoValue.is in
     subst (λ w. Begins cx (with_type w) ss begins.Value) (sym none) (begins_with_nothing cx ss)
+
+pub returns-in-Created-clause-begins : goal.returns-in-Created-clause-begins
+returns-in-Created-clause-begins c =
+    let cx = c.args.context.now in
+    let is = ap (type_meaning cx) (sym c.as_slice.ensures) ∙ sym c.type_meaning.ensures ∙ ap type_view c.in-Created.is in
+    subst (λ w. Begins cx (with_type w) (map suffix_view c.args.suffixes.now) c.begin_with_object.result) (sym is) c.begin_with_object.ensures.begins
+
+pub returns-in-Primitive-clause-begins : goal.returns-in-Primitive-clause-begins
+returns-in-Primitive-clause-begins c =
+    let cx = c.args.context.now in
+    let is = ap (type_meaning cx) (sym c.as_slice.ensures) ∙ sym c.type_meaning.ensures ∙ ap type_view c.in-Primitive.is in
+    subst (λ w. Begins cx (with_type w) (map suffix_view c.args.suffixes.now) c.begin_with_primitive.result) (sym is) c.begin_with_primitive.ensures.begins

@@ -2,7 +2,7 @@ use Rattle.std.proofs.Common.{◌<◌, ◌-◌, length, arith, ap, ◌∙◌, ma
 use Rattle.pc_tree.specs.View.{suffix_view}
 use Rattle.pc_tree.proofs.Views.{view_dot, view_args}
 use Rattle.pc_emit.proofs.Walks.{at_view}
-use Rattle.pc_emit.proofs.Suffixes.{before_dot, before_args}
+use Rattle.pc_emit.proofs.Suffixes.{before_none, before_dot, before_args}
 use Rattle.pc_emit.proofs.chains.cut_args.Goals as goal
 
 pub returns-in-Dot-clause-cut : goal.returns-in-Dot-clause-cut
@@ -20,3 +20,6 @@ returns-in-Args-clause-cut c =
     rw c.text_of-in-Args.ensures
     (before_args c.args.context.now (map suffix_view c.args.suffixes.now) c.args.left _ _ some
     (at_view suffix_view c.args.suffixes.now (c.args.left - 1) c.index-suffixes-left.result _ within c.index-suffixes-left.is (ap suffix_view c.in-Args.is ∙ view_args _ _)))
+
+pub returns-then-left-eq0-clause-cut : goal.returns-then-left-eq0-clause-cut
+returns-then-left-eq0-clause-cut c = rw (c.text_of.ensures, c.if-left-eq0.true) (before_none c.args.context.now (map suffix_view c.args.suffixes.now))

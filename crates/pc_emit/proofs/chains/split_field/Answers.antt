@@ -3,7 +3,7 @@ use Rattle.pc_tree.specs.View.{suffix_view}
 use Rattle.pc_tree.proofs.Views.{view_dot, view_args}
 use Rattle.std.proofs.lemmas.List.{length-map}
 use Rattle.pc_emit.proofs.Walks.{at_view}
-use Rattle.pc_emit.proofs.Suffixes.{split_dot, split_args}
+use Rattle.pc_emit.proofs.Suffixes.{split_none, split_dot, split_args}
 use Rattle.pc_emit.proofs.chains.split_field.Goals as goal
 
 pub returns-in-Dot-clause-split : goal.returns-in-Dot-clause-split
@@ -22,3 +22,6 @@ returns-in-Args-clause-split c =
     let within : n - 1 < n = omega (arith, some) in
     split_args c.args.context.now (map suffix_view c.args.suffixes.now) n _ _ (sym (length-map c.args.suffixes.now suffix_view)) some
     (at_view suffix_view c.args.suffixes.now (n - 1) c.index-suffixes-count.result _ within c.index-suffixes-count.is (ap suffix_view c.in-Args.is ∙ view_args _ _))
+
+pub returns-then-count-eq0-clause-split : goal.returns-then-count-eq0-clause-split
+returns-then-count-eq0-clause-split c = split_none c.args.context.now (map suffix_view c.args.suffixes.now) (length-map c.args.suffixes.now suffix_view ∙ c.if-count-eq0.true)

@@ -1,8 +1,9 @@
 use Rattle.std.proofs.Common.{drop, Err, ◌≡◌, ◌≤◌, length, take, map, ℕ, ◌+◌, false, List, [], ◌∷◌, ◌++◌, Some, sym, ap, ◌∙◌, subst, arith, refl}
-use Rattle.std.proofs.lemmas.Result.{err_from_is_err_and}
+use Rattle.std.proofs.lemmas.Result.{err_from_is_err_and, on_ok_weaker}
+use Rattle.std.proofs.lemmas.List.{drop_all, append-nil}
 use Rattle.std.proofs.lemmas.Option.{slice_get_read}
 use Rattle.pc_caps.specs.declared.span.Span.{Span}
-use Rattle.pc_tree.proofs.Views.{view_assign, view_args, view_if, view_name, view_while}
+use Rattle.pc_tree.proofs.Views.{view_assign, view_args, view_infix, view_not, view_if, view_name, view_while}
 use Rattle.pc_tree.specs.Tree as tree
 use Rattle.pc_tree.specs.declared.expression.Item.{Item}
 use Rattle.pc_tree.specs.View.{expr_view, suffix_view, seq_view, exprs_view, arms_view, item_view, items_view, other_view}
@@ -16,7 +17,7 @@ use Rattle.pc_emit.specs.Giving.{Gives}
 use Rattle.pc_emit.specs.Closing.{closing, arm_closes, seq_closes, link_closes, this_closes, name_closes, names_none, link_of, first_of, begun, begun_by, rest_of, taken, behind_tops, Opens, OpensOne}
 use Rattle.pc_emit.specs.Closing.{is_missing as misses}
 use Rattle.pc_emit.proofs.Suffixes.{chain_opens, write_opens, begun_first, begun_value, cut_behind}
-use Rattle.pc_emit.proofs.Walks.{arm_parts, seq_parts, sequence_is, inner_stops, inner_gives, links_stop, beginning_stops, begins_with_atom, begins_with_first, chain_stops, write_start, name_written, assign_none, wait_on, arms_from, stops, stops_one, stops_still, operands_none, right_none, push_none, exprs_from, called_is, arm_is, cond_none, body_none, arm_stops, opens_stop, scope_kept, items_from}
+use Rattle.pc_emit.proofs.Walks.{arm_parts, seq_parts, sequence_is, inner_stops, inner_gives, links_stop, beginning_stops, begins_with_atom, begins_with_first, chain_stops, write_start, name_written, assign_none, wait_on, arms_from, stops, stops_one, stops_still, operands_none, right_none, push_none, exprs_from, called_is, arm_is, cond_none, body_none, arm_stops, opens_stop, scope_kept, items_from, on_ok}
 use Rattle.pc_lists.proofs.Cuts.{take_whole}
 use Rattle.pc_emit.proofs.Wholes.{behind_more, behind_none}
 use Rattle.pc_emit.proofs.walk.+walk.Goals as goal
@@ -559,3 +560,130 @@ items-loop-x-preserved t c =
       going = c.loop-x.invariant.going ∙ ap (λ l. behind_tops c.loop-x.tops (puts m (spec.items_of cx sc d l) c.loop-x.nodes)) is ∙ behind_more m (spec.item_of cx sc d (item_view x)) (rest (scope_after cx sc (item_view x))) c.loop-x.tops c.push.new.self c.in_ok-top.top c.loop-x.nodes n1 c.in_ok-top.ensures.gives c.in_ok-push.ensures.ok ∙ ap (λ s. behind_tops c.push.new.self (puts m (rest s) n1)) (sym c.in_ok-top.ensures.scope);
       scope = subst (λ s. take (length c.args.scope.now) s ≡ c.args.scope.now) (sym c.in_ok-top.ensures.scope) (scope_kept cx sc c.args.scope.now (item_view x) c.loop-x.invariant.scope);
     }
+
+pub expr-returns-in-Infix-clause-scope : goal.expr-returns-in-Infix-clause-scope
+expr-returns-in-Infix-clause-scope t c = c.infix.ensures.scope
+
+pub expr-returns-in-Chain-clause-scope : goal.expr-returns-in-Chain-clause-scope
+expr-returns-in-Chain-clause-scope t c = c.chain.ensures.scope
+
+pub expr-returns-in-Group-clause-scope : goal.expr-returns-in-Group-clause-scope
+expr-returns-in-Group-clause-scope t c = c.block.ensures.scope
+
+pub expr-returns-in_ok-operand-in-Not-clause-scope : goal.expr-returns-in_ok-operand-in-Not-clause-scope
+expr-returns-in_ok-operand-in-Not-clause-scope t c = on_ok c.single.result c.in_ok-operand-in-Not.ensures.scope
+
+pub expr-returns-in_ok-value-in-Assign-clause-scope : goal.expr-returns-in_ok-value-in-Assign-clause-scope
+expr-returns-in_ok-value-in-Assign-clause-scope t c = on_ok_weaker c.store.result (λ h. h ∙ c.in_ok-value-in-Assign.ensures.scope) c.store.ensures.scope
+
+pub chain-returns-clause-scope : goal.chain-returns-clause-scope
+chain-returns-clause-scope t c = on_ok c.close_links.result (c.in_ok-origin.ensures.scope ∙ c.in_ok-opened.ensures.scope)
+
+pub store-returns-clause-scope : goal.store-returns-clause-scope
+store-returns-clause-scope t c = on_ok c.close_write.result (c.in_ok-origin.ensures.scope ∙ c.in_ok-opened.ensures.scope)
+
+pub block-returns-in_ok-turn-in-While-clause-scope : goal.block-returns-in_ok-turn-in-While-clause-scope
+block-returns-in_ok-turn-in-While-clause-scope t c = on_ok c.double.result (c.in_ok-turn-in-While.ensures.scope ∙ c.in_ok-test-in-While.ensures.scope)
+
+pub block-returns-in_ok-inner-in-Recover-clause-scope : goal.block-returns-in_ok-inner-in-Recover-clause-scope
+block-returns-in_ok-inner-in-Recover-clause-scope t c = on_ok c.single.result c.in_ok-inner-in-Recover.ensures.scope
+
+pub block-returns-in_ok-last-in-If-clause-scope : goal.block-returns-in_ok-last-in-If-clause-scope
+block-returns-in_ok-last-in-If-clause-scope t c = on_ok c.close_arms.result (c.in_ok-last-in-If.ensures.scope ∙ c.in_ok-waiting-in-If.ensures.scope)
+
+pub first_args-returns-in_ok-children-in-Made-clause-scope : goal.first_args-returns-in_ok-children-in-Made-clause-scope
+first_args-returns-in_ok-children-in-Made-clause-scope t c = on_ok c.push.result c.in_ok-children-in-Made.ensures.scope
+
+pub first_args-returns-in_ok-children-in-OnThis-clause-scope : goal.first_args-returns-in_ok-children-in-OnThis-clause-scope
+first_args-returns-in_ok-children-in-OnThis-clause-scope t c = on_ok c.call_this.result c.in_ok-children-in-OnThis.ensures.scope
+
+pub store_alone-returns-in_ok-last-in-Number-clause-scope : goal.store_alone-returns-in_ok-last-in-Number-clause-scope
+store_alone-returns-in_ok-last-in-Number-clause-scope t c = on_ok c.double.result c.in_ok-last-in-Number.ensures.scope
+
+pub exprs-returns-clause-gives : goal.exprs-returns-clause-gives
+exprs-returns-clause-gives t c =
+    let m = c.args.setting.now.number in
+    let d = c.args.setting.now.depth in
+    let sc = c.args.scope.now in
+    let cx = c.args.setting.now.context.now in
+    let none = drop_all c.loop-x.x-index c.args.xs.now c.loop-x-test.false in
+    c.loop-x.invariant.going ∙ ap (λ l. behind_tops c.loop-x.tops (puts m (spec.exprs_of cx sc d (exprs_view l)) c.loop-x.nodes)) none ∙ ap (λ l. Some (l, c.loop-x.nodes)) (append-nil c.loop-x.tops)
+
+pub items-returns-clause-gives : goal.items-returns-clause-gives
+items-returns-clause-gives t c =
+    let m = c.args.setting.now.number in
+    let d = c.args.setting.now.depth in
+    let cx = c.args.setting.now.context.now in
+    let none = drop_all c.loop-x.x-index c.args.xs.now c.loop-x-test.false in
+    c.loop-x.invariant.going ∙ ap (λ l. behind_tops c.loop-x.tops (puts m (spec.items_of cx c.loop-x.scope d (items_view l)) c.loop-x.nodes)) none ∙ ap (λ l. Some (l, c.loop-x.nodes)) (append-nil c.loop-x.tops)
+
+pub exprs-returns-in_err-top-clause-gives : goal.exprs-returns-in_err-top-clause-gives
+exprs-returns-in_err-top-clause-gives t c =
+    let p = err_from_is_err_and c.from_residual.result c.from_residual.ensures.1 in
+    let m = c.args.setting.now.number in
+    let d = c.args.setting.now.depth in
+    let sc = c.args.scope.now in
+    let cx = c.args.setting.now.context.now in
+    let x = c.x-item.result in
+    let at = slice_get_read c.args.xs.now _ c.loop-x.x-index x refl (omega (arith, c.loop-x-test.true)) c.x-item.is in
+    let es = exprs_from c.args.xs.now c.loop-x.x-index (c.loop-x.x-index + 1) x at refl in
+    let part = λ (s : List Visible). put m (spec.expr_of cx s d (expr_view x)) c.loop-x.nodes in
+    let e = c.in_err-top.field-0.0 in
+    let n1 = c.expr.new.nodes in
+    let stopped : Gives {A = ℕ} (Err e) n1 (part sc) = subst (λ s. Gives {A = ℕ} (Err e) n1 (part s)) c.loop-x.invariant.scope c.in_err-top.ensures.gives in
+    rw (p.1, p.2, c.loop-x.invariant.going, es) (stops e n1 n1 (part sc) _ stopped (λ h. rw h refl))
+
+pub items-returns-in_err-top-clause-gives : goal.items-returns-in_err-top-clause-gives
+items-returns-in_err-top-clause-gives t c =
+    let p = err_from_is_err_and c.from_residual.result c.from_residual.ensures.1 in
+    let m = c.args.setting.now.number in
+    let d = c.args.setting.now.depth in
+    let cx = c.args.setting.now.context.now in
+    let x = c.x-item.result in
+    let at = slice_get_read c.args.xs.now _ c.loop-x.x-index x refl (omega (arith, c.loop-x-test.true)) c.x-item.is in
+    let es = items_from c.args.xs.now c.loop-x.x-index (c.loop-x.x-index + 1) x at refl in
+    let part = put m (spec.item_of cx c.loop-x.scope d (item_view x)) c.loop-x.nodes in
+    let n1 = c.item.new.nodes in
+    rw (p.1, p.2, c.loop-x.invariant.going, es) (stops c.in_err-top.field-0.0 n1 n1 part _ c.in_err-top.ensures.gives (λ h. rw h refl))
+
+pub expr-returns-in_ok-operand-in-Not-clause-gives : goal.expr-returns-in_ok-operand-in-Not-clause-gives
+expr-returns-in_ok-operand-in-Not-clause-gives t c = rw (c.in-Not.is, view_not c.in-Not.inner c.in-Not.span, sym c.deref.ensures, c.in_ok-operand-in-Not.ensures.gives) c.single.ensures
+
+pub expr-returns-in_err-operand-in-Not-clause-gives : goal.expr-returns-in_err-operand-in-Not-clause-gives
+expr-returns-in_err-operand-in-Not-clause-gives t c =
+    let p = err_from_is_err_and c.from_residual.result c.from_residual.ensures.1 in
+    let n1 = c.expr.new.nodes in
+    rw (p.1, p.2, c.in-Not.is, view_not c.in-Not.inner c.in-Not.span, sym c.deref.ensures) (stops c.in_err-operand-in-Not.field-0.0 n1 n1 (put c.args.setting.now.number (spec.expr_of c.args.setting.now.context.now c.args.scope.now c.args.setting.now.depth (expr_view c.deref.result.now)) c.args.nodes.now) _ c.in_err-operand-in-Not.ensures.gives (λ h. rw h refl))
+
+pub expr-returns-in-Infix-clause-gives : goal.expr-returns-in-Infix-clause-gives
+expr-returns-in-Infix-clause-gives t c = rw (c.in-Infix.is, view_infix c.in-Infix.op c.in-Infix.terms c.in-Infix.span, sym c.as_slice-in-Infix.ensures) c.infix.ensures.gives
+
+pub infix-returns-clause-gives : goal.infix-returns-clause-gives
+infix-returns-clause-gives t c =
+    let m = c.args.setting.now.number in
+    let d = c.args.setting.now.depth in
+    let sc = c.args.scope.now in
+    let cx = c.args.setting.now.context.now in
+    let g = c.loop-i.invariant.going in
+    let none = drop_all c.loop-i.i c.args.terms.now c.loop-i-test.false in
+    g.same ∙ ap (λ l. put m (spec.operands_of cx sc d c.args.op c.args.span g.left (exprs_view l)) c.args.nodes.now) none ∙ g.there
+
+pub open_arms-returns-clause-gives : goal.open_arms-returns-clause-gives
+open_arms-returns-clause-gives t c = λ last.
+    let m = c.args.setting.now.number in
+    let d = c.args.setting.now.depth in
+    let sc = c.args.scope.now in
+    let cx = c.args.setting.now.context.now in
+    let none = drop_all c.loop-a.a-index c.args.arms.now c.loop-a-test.false in
+    c.loop-a.invariant.going last ∙ ap (λ l. and_then (put m (spec.arms_of cx sc d c.args.span c.loop-a.first (arms_view l) last) c.loop-a.nodes) (closing (arm_closes m d) c.loop-a.waiting)) none
+
+pub first_args-returns-in_ok-children-in-Made-clause-gives : goal.first_args-returns-in_ok-children-in-Made-clause-gives
+first_args-returns-in_ok-children-in-Made-clause-gives t c =
+    let gave = subst (λ s. Gives c.push.result c.push.new.nodes (push c.args.setting.now.number c.in-Made.kind s c.args.setting.now.depth c.in_ok-children-in-Made.children c.exprs.new.nodes)) c.join-in-Made.ensures c.push.ensures in
+    rw (c.in-Made.is, c.in-Args.is, view_args c.in-Args.args c.in-Args.end, sym c.as_slice.ensures, c.in_ok-children-in-Made.ensures.gives) gave
+
+pub first_args-returns-in_err-children-in-Made-clause-gives : goal.first_args-returns-in_err-children-in-Made-clause-gives
+first_args-returns-in_err-children-in-Made-clause-gives t c =
+    let p = err_from_is_err_and c.from_residual.result c.from_residual.ensures.1 in
+    let n1 = c.exprs.new.nodes in
+    rw (p.1, p.2, c.in-Made.is, c.in-Args.is, view_args c.in-Args.args c.in-Args.end, sym c.as_slice.ensures) (stops c.in_err-children-in-Made.field-0.0 n1 n1 (puts c.args.setting.now.number (spec.exprs_of c.args.setting.now.context.now c.args.scope.now c.args.setting.now.depth (exprs_view c.as_slice.result.now)) c.args.nodes.now) _ c.in_err-children-in-Made.ensures.gives (λ h. rw h refl))

@@ -1,8 +1,8 @@
-use Rattle.std.proofs.Common.{rules, ◌≡◌, ◌<◌, ◌&&◌, ◌+◌, length, drop, take, true, false, ap, sym, ◌∙◌}
+use Rattle.std.proofs.Common.{◌≡◌, ◌<◌, ◌&&◌, ◌+◌, length, drop, take, true, false, ap, sym, ◌∙◌}
 use Rattle.pc_rules.specs.Children.{sendable_at}
 use Rattle.pc_rules.specs.Calls as spec
 use Rattle.pc_rules.proofs.Arguments.{sendable_counts, count_taken}
-use Rattle.pc_rules.proofs.Further.{sendable_step}
+use Rattle.pc_rules.proofs.Further.{sendable_step, all_sendable}
 use Rattle.pc_rules.proofs.calls.arguments_sendable.Goals as goal
 
 pub returns-then-params-count : goal.returns-then-params-count
@@ -14,17 +14,20 @@ returns-then-params-count c =
 pub returns-then-not-sendable_at : goal.returns-then-not-sendable_at
 returns-then-not-sendable_at c =
     let ns = c.args.children.now in
-    let e : length c.args.params.now ≡ c.args.count = search rules in
-    let b : c.loop-index.index < c.args.count = search rules in
-    let f : sendable_at ns c.args.params.now c.loop-index.index ≡ false = search rules in
+    let e : length c.args.params.now ≡ c.args.count = c.if-params-count.false in
+    let b : c.loop-index.index < c.args.count = c.loop-index-test.true in
+    let f : sendable_at ns c.args.params.now c.loop-index.index ≡ false = sym c.sendable_at.ensures ∙ c.if-not-sendable_at.true in
     let rest = spec.arguments_sendable (drop (c.loop-index.index + 1) (take c.args.count ns)) (drop (c.loop-index.index + 1) c.args.params.now) in
     sym (sendable_step ns c.args.params.now c.args.count c.loop-index.index e c.requires b ∙ ap (λ g. g && rest) f) ∙ c.loop-index.invariant
 
 pub loop-index-preserved : goal.loop-index-preserved
 loop-index-preserved c =
     let ns = c.args.children.now in
-    let e : length c.args.params.now ≡ c.args.count = search rules in
-    let b : c.loop-index.index < c.args.count = search rules in
-    let f : sendable_at ns c.args.params.now c.loop-index.index ≡ true = search rules in
+    let e : length c.args.params.now ≡ c.args.count = c.if-params-count.false in
+    let b : c.loop-index.index < c.args.count = c.loop-index-test.true in
+    let f : sendable_at ns c.args.params.now c.loop-index.index ≡ true = sym c.sendable_at.ensures ∙ c.if-not-sendable_at.false in
     let rest = spec.arguments_sendable (drop (c.loop-index.index + 1) (take c.args.count ns)) (drop (c.loop-index.index + 1) c.args.params.now) in
     sym (sendable_step ns c.args.params.now c.args.count c.loop-index.index e c.requires b ∙ ap (λ g. g && rest) f) ∙ c.loop-index.invariant
+
+pub returns : goal.returns
+returns c = all_sendable c.args.children.now c.args.params.now c.args.count c.loop-index.index c.if-params-count.false c.requires c.loop-index-test.false ∙ c.loop-index.invariant

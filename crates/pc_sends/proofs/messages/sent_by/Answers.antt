@@ -3,7 +3,11 @@ use Rattle.std.proofs.lemmas.Result.{IfOk-weaker}
 use Rattle.pc_sends.specs.Growth.{Grown, OfSome, Sorts}
 use Rattle.pc_sends.specs.Reached.{AreSent}
 use Rattle.pc_sends.proofs.Sent.{MessageOf, are_sent}
+use Rattle.pc_sends.proofs.Tests.{grown_differ}
 use Rattle.pc_sends.proofs.messages.sent_by.Goals as goal
+
+pub ascending-requires : goal.ascending-requires
+ascending-requires c = grown_differ _ c.in_ok-messages.messages c.in_ok-messages.ensures
 
 pub returns : goal.returns
 returns c =

@@ -1,8 +1,17 @@
-use Rattle.std.proofs.Common.{◌≡◌, ℕ, [], subst, arith}
+use Rattle.std.proofs.Common.{◌≡◌, ℕ, [], sym, subst, arith}
 use Rattle.pc_sends.specs.Growth.{Grown, Turns}
 use Rattle.pc_sends.specs.Reached.{ReachedUses}
-use Rattle.pc_sends.proofs.Grows.{grown_turn}
+use Rattle.pc_sends.proofs.Grows.{grown_none, grown_turn}
+use Rattle.pc_sends.proofs.Walking.{known_none}
 use Rattle.pc_sends.proofs.messages.used_from.Goals as goal
+
+pub loop-number-init : goal.loop-number-init
+loop-number-init c = record {
+  grown =
+      let Q = ReachedUses c.args.noted.now.core.now c.args.noted.now.entities.now in
+      subst (Grown (Turns Q c.args.first c.args.first) []) (sym c.new-walk.ensures.found) (grown_none Q c.args.first []);
+  known = known_none _ _ _ c.new-walk.ensures.calls;
+}
 
 pub loop-number-preserved : goal.loop-number-preserved
 loop-number-preserved c = record {

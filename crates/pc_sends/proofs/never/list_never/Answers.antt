@@ -1,10 +1,13 @@
 use Rattle.std.proofs.Common.{◌+◌, length, ap, sym, subst, ◌∙◌, arith}
 use Rattle.pc_lists.proofs.Bools.{no_both}
 use Rattle.pc_sends.specs.Tables.{IsUnsent}
-use Rattle.pc_sends.proofs.Filtered.{Filtered, filtered_push, filtered_skip, filtered_all}
+use Rattle.pc_sends.proofs.Filtered.{Filtered, filtered_none, filtered_push, filtered_skip, filtered_all}
 use Rattle.pc_sends.proofs.Tabled.{unsent_to, unsent_from, unsent_below}
 use Rattle.pc_sends.proofs.never.list_never.Goals as goal
 use Rattle.pc_sends.proofs.never.list_never.Goals.{then-is_unsent+in_ok-push, else-is_unsent}
+
+pub loop-number-init : goal.loop-number-init
+loop-number-init c = subst (Filtered (IsUnsent c.args.core.now c.args.rows.now) 0) (sym c.new-numbers.ensures) (filtered_none _)
 
 pub loop-number-preserved : goal.loop-number-preserved
 loop-number-preserved c =
@@ -20,6 +23,9 @@ loop-number-preserved c =
       | else-is_unsent w ↦ subst (Filtered (IsUnsent core rows) (n + 1)) (sym w.numbers-is)
           (filtered_skip (IsUnsent core rows) n old c.loop-number.invariant (λ u. no_both c.is_unsent.result (c.is_unsent.ensures.1 (unsent_from core rows targets first c.main_create-first.ensures c.in_ok-targets.ensures n u)) w.if-is_unsent.false))
     ]
+
+pub returns-clause-ascends : goal.returns-clause-ascends
+returns-clause-ascends c = c.loop-number.invariant.ascends
 
 pub returns-clause-exact : goal.returns-clause-exact
 returns-clause-exact c =

@@ -1,9 +1,13 @@
 use Rattle.std.proofs.Common.{length, ap, sym, arith}
 use Rattle.pc_sends.proofs.Closing.{found_next, nothing_left, all_turns}
+use Rattle.pc_sends.proofs.Walking.{known_none}
 use Rattle.pc_sends.proofs.reaching.reach.Goals as goal
 
 pub returns-in-None : goal.returns-in-None
 returns-in-None c = nothing_left c.args.noted.now.core.now c.args.noted.now.entities.now c.loop-at.at c.loop-at.walk.found c.loop-at.invariant.found (sym c.in-None.ensures)
+
+pub loop-at-init : goal.loop-at-init
+loop-at-init c = record { found = c.in_ok-walk.ensures.found; known = known_none _ _ _ c.in_ok-walk.ensures.calls }
 
 pub loop-at-preserved : goal.loop-at-preserved
 loop-at-preserved c = record {

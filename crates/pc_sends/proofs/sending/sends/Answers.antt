@@ -1,20 +1,27 @@
-use Rattle.std.proofs.Common.{◌↔◌, ℕ, List, subst}
-use Rattle.pc_lists.specs.Places.{Has}
+use Rattle.std.proofs.Common.{ℕ, List, sym, subst}
+use Rattle.std.proofs.lemmas.Result.{IfOk-weaker}
 use Rattle.pc_semantics.specs.Runs.{after}
-use Rattle.pc_sends.specs.declared.table.Row.{Row}
-use Rattle.pc_sends.specs.Tables.{IsUnsent}
-use Rattle.pc_sends.proofs.Tabled.{table_made, table_tells}
+use Rattle.pc_sends.specs.Entities.{ListsMayBe}
+use Rattle.pc_sends.specs.declared.table.Table.{Table}
+use Rattle.pc_sends.specs.Tables.{IsTable, Tells}
+use Rattle.pc_sends.proofs.Tabled.{table_tells}
 use Rattle.pc_sends.proofs.sending.sends.Goals as goal
 
+pub reach-requires : goal.reach-requires
+reach-requires c = subst (ListsMayBe c.args.core.now) (sym c.as_slice.ensures) c.in_ok-lists.ensures
+
+pub table_of-requires-clause-lists : goal.table_of-requires-clause-lists
+table_of-requires-clause-lists c = subst (ListsMayBe c.args.core.now) (sym c.as_slice.ensures) c.in_ok-lists.ensures
+
+pub table_of-requires-clause-reached : goal.table_of-requires-clause-reached
+table_of-requires-clause-reached c = c.in_ok-found.ensures
+
 pub returns-clause-table : goal.returns-clause-table
-returns-clause-table c =
-    let core = c.args.core.now in
-    let never = c.in_ok-never.never in
-    table_made core c.args.entities.now c.in_ok-rows.rows never c.in_ok-reached.reached c.in_ok-found.found c.in_ok-rows.ensures.order c.in_ok-rows.ensures.exact c.in_ok-never.ensures.ascends
-    (subst (λ (rows : List Row). (t : ℕ) → (Has never t) ↔ (IsUnsent core rows t)) c.as_slice-2.ensures c.in_ok-never.ensures.exact) c.in_ok-found.ensures c.in_ok-reached.ensures
+returns-clause-table c = c.table_of.ensures
 
 pub returns-clause-tells : goal.returns-clause-tells
-returns-clause-tells c = λ list.
+returns-clause-tells c =
     let core = c.args.core.now in
     let ents = c.args.entities.now in
-    table_tells core ents (record { rows = c.in_ok-rows.rows; never = c.in_ok-never.never; reached = c.in_ok-reached.reached }) (after core list) (returns-clause-table c) (c.held_covers.ensures core ents c.formed.ensures c.requires.held list)
+    IfOk-weaker c.table_of.result (IsTable core ents) (λ (table : Table). (list : List ℕ) → Tells core table (after core list))
+    (λ table is list. table_tells core ents table (after core list) is (c.held_covers.ensures core ents c.formed.ensures c.requires.held list)) c.table_of.ensures

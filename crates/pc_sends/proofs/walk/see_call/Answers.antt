@@ -9,6 +9,9 @@ returns-then-has-clause-grown c =
     grown_there (MayCall c.args.noted.now.core.now c.args.name c.args.known) c.args.walk.now.found
     (λ t m. c.requires.known c.args.name c.args.known t (c.has.ensures c.if-has.true) m)
 
+pub returns-clause-grown : goal.returns-clause-grown
+returns-clause-grown c = on_ok_weaker c.add.result (λ more. c.in_ok-find_targets.ensures) c.add.ensures
+
 pub returns-clause-known : goal.returns-clause-known
 returns-clause-known c =
     on_ok_weaker c.add.result

@@ -1,0 +1,5 @@
+use Rattle.pc_emit.proofs.Walks.{shorter}
+use Rattle.pc_emit.proofs.waiting.close_links.Goals as goal
+
+pub close-smaller : goal.close-smaller
+close-smaller c = shorter c.close.links c.pop.new.self c.in-Some.link c.in-Some.ensures

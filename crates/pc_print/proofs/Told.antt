@@ -1,0 +1,62 @@
+-- What the parts of an expression are printed as, from the value that was matched.
+use Rattle.std.proofs.Common.{◌≡◌, Bool, List, ◌++◌, Option, codes, sym, ap, ◌∙◌, append_assoc}
+use Rattle.std.specs.declared.boxed.Box.{Box}
+use Rattle.std.specs.declared.alloc.Global.{Global}
+use Rattle.pc_caps.specs.declared.capability.Cap.{Cap}
+use Rattle.pc_caps.specs.declared.span.Span.{Span}
+use Rattle.pc_token.specs.Words.{word_text}
+use Rattle.pc_grammar.specs.Asking.{local_word}
+use Rattle.pc_tree.specs.declared.names.Name.{Name}
+use Rattle.pc_tree.specs.declared.names.TypeRef.{TypeRef}
+use Rattle.pc_tree.specs.declared.expression.Expr.{Expr}
+use Rattle.pc_tree.specs.declared.expression.Expr.TheVariants as e
+use Rattle.pc_tree.specs.declared.expression.Item.{Item}
+use Rattle.pc_tree.specs.declared.expression.Item.TheVariants as i
+use Rattle.pc_tree.specs.declared.expression.Suffix.{Suffix}
+use Rattle.pc_tree.specs.declared.expression.Suffix.TheVariants as s
+use Rattle.pc_tree.specs.declared.expression.Arm.{Arm}
+use Rattle.pc_tree.specs.declared.expression.Seq.{Seq}
+use Rattle.pc_tree.specs.View.{expr_view, item_view, suffix_view, arm_view, seq_view, exprs_view, suffixes_view, arms_view, items_view, other_view}
+use Rattle.pc_tree.proofs.Views.{view_not, view_chain, view_if, view_while, view_recover, view_assign, view_dot, view_args, view_local, view_arm, view_seq}
+use Rattle.pc_print.specs.Printing as text
+
+pub told_recover : (x : Expr) (k : Option Cap) (b : Box Seq Global) (sp : Span) → x ≡ e.Recover k b sp
+    → text.expr (expr_view x) ≡ codes "recover" ++ (text.cap k ++ (codes " " ++ (text.seq (seq_view b.value) ++ codes " end")))
+told_recover x k b sp is = ap (λ y. text.expr (expr_view y)) is ∙ ap text.expr (view_recover k b sp)
+
+pub told_while : (x : Expr) (c b : Box Seq Global) (sp : Span) → x ≡ e.While c b sp
+    → text.expr (expr_view x) ≡ (codes "while " ++ (text.seq (seq_view c.value) ++ codes " do ")) ++ (text.seq (seq_view b.value) ++ codes " end")
+told_while x c b sp is =
+    ap (λ y. text.expr (expr_view y)) is ∙ ap text.expr (view_while c b sp) ∙ ap (λ l. codes "while " ++ l) (sym (append_assoc (text.seq (seq_view c.value)) (codes " do ") (text.seq (seq_view b.value) ++ codes " end")))
+
+pub told_assign : (x : Expr) (l r : Box Expr Global) (sp : Span) → x ≡ e.Assign l r sp
+    → text.expr (expr_view x) ≡ text.expr (expr_view l.value) ++ (codes " = " ++ text.expr (expr_view r.value))
+told_assign x l r sp is = ap (λ y. text.expr (expr_view y)) is ∙ ap text.expr (view_assign l r sp)
+
+pub told_not : (x : Expr) (b : Box Expr Global) (sp : Span) → x ≡ e.Not b sp → text.expr (expr_view x) ≡ codes "not " ++ text.expr (expr_view b.value)
+told_not x b sp is = ap (λ y. text.expr (expr_view y)) is ∙ ap text.expr (view_not b sp)
+
+pub told_if : (x : Expr) (arms : List Arm) (o : Option (Box Seq Global)) (sp : Span) → x ≡ e.If arms o sp
+    → text.expr (expr_view x) ≡ text.arms (arms_view arms) ++ (text.other (other_view o) ++ codes " end")
+told_if x arms o sp is = ap (λ y. text.expr (expr_view y)) is ∙ ap text.expr (view_if arms o sp)
+
+pub told_chain : (x : Expr) (b : Box Expr Global) (ss : List Suffix) (sp : Span) → x ≡ e.Chain b ss sp
+    → text.expr (expr_view x) ≡ text.expr (expr_view b.value) ++ text.suffixes (suffixes_view ss)
+told_chain x b ss sp is = ap (λ y. text.expr (expr_view y)) is ∙ ap text.expr (view_chain b ss sp)
+
+pub told_local : (x : Item) (fixed : Bool) (m : Name) (ty : Option TypeRef) (v : Expr) (sp : Span) → x ≡ i.Local fixed m ty v sp
+    → text.one_item (item_view x) ≡ (word_text (local_word fixed) ++ codes " ") ++ (m.text ++ (text.typed ty ++ (codes " = " ++ text.expr (expr_view v))))
+told_local x fixed m ty v sp is =
+    ap (λ y. text.one_item (item_view y)) is ∙ ap text.one_item (view_local fixed m ty v sp) ∙ sym (append_assoc (word_text (local_word fixed)) (codes " ") (m.text ++ (text.typed ty ++ (codes " = " ++ text.expr (expr_view v)))))
+
+pub told_dot : (x : Suffix) (m : Name) → x ≡ s.Dot m → text.one_suffix (suffix_view x) ≡ codes "." ++ m.text
+told_dot x m is = ap (λ y. text.one_suffix (suffix_view y)) is ∙ ap text.one_suffix (view_dot m)
+
+pub told_args : (x : Suffix) (es : List Expr) (sp : Span) → x ≡ s.Args es sp → text.one_suffix (suffix_view x) ≡ codes "(" ++ (text.args (exprs_view es) ++ codes ")")
+told_args x es sp is = ap (λ y. text.one_suffix (suffix_view y)) is ∙ ap text.one_suffix (view_args es sp)
+
+pub told_arm : (a : Arm) → text.one_arm (arm_view a) ≡ (text.seq (seq_view a.cond) ++ codes " then ") ++ text.seq (seq_view a.body)
+told_arm a = ap text.one_arm (view_arm a.cond a.body a.span) ∙ sym (append_assoc (text.seq (seq_view a.cond)) (codes " then ") (text.seq (seq_view a.body)))
+
+pub told_seq : (s : Seq) → text.seq (seq_view s) ≡ text.items (items_view s.items)
+told_seq s = ap text.seq (view_seq s.items s.span)
