@@ -37,7 +37,7 @@ is_take ahead.Take = true
 is_take x = false
 
 -- How many messages a step of actor i takes from the mailbox of actor a.
-abbrev pub takes_one : CoreData → Configuration → ℕ → ℕ → ℕ
+abbrev pub takes_one : CoreData → Configuration → (actor mailbox : ℕ) → ℕ
 takes_one core c i a = if nat_eq i a && is_take (ahead_of core c i) then 1 else 0
 
 abbrev pub takes_from : CoreData → Configuration → ℕ → List ℕ → ℕ
@@ -45,7 +45,7 @@ takes_from core c a [] = 0
 takes_from core c a (i ∷ is) = takes_one core c i a + followed (λ next. takes_from core next a is) 0 c (step core c i)
 
 -- How many messages actor a has taken before a place.
-abbrev pub taken_before : CoreData → List ℕ → ℕ → ℕ → ℕ
+abbrev pub taken_before : CoreData → List ℕ → (place actor : ℕ) → ℕ
 taken_before core list p a = takes_from core (start core) a (take p list)
 
 abbrev pub waiting_of : Option Actor → ℕ
@@ -70,7 +70,7 @@ pub record Carries (core : CoreData) (list : List ℕ) (p q : ℕ) : Type 0 wher
 
 -- ---- the order
 
-pub data Before (core : CoreData) (list : List ℕ) : ℕ → ℕ → Type 0 where
+pub data Before (core : CoreData) (list : List ℕ) : (earlier later : ℕ) → Type 0 where
   -- two events of one actor
   own : (i p q : ℕ) → p < q → Event core list p i → Event core list q i → Before core list p q
   -- what puts a message into a mailbox, and the take of this message

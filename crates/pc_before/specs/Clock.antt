@@ -13,11 +13,11 @@ pub record Many (P : ℕ → Type 0) (n : ℕ) : Type 0 where
   pub count : length which ≡ n
 
 -- An event of actor a that is the one at p, or before it.
-abbrev pub UpTo : CoreData → List ℕ → ℕ → ℕ → ℕ → Type 0
+abbrev pub UpTo : CoreData → List ℕ → (place actor event : ℕ) → Type 0
 UpTo core list p a q = Event core list q a × ((q ≡ p) ⊎ Before core list q p)
 
 -- How many events of actor a are the one at p, or before it.
-abbrev pub Clock : CoreData → List ℕ → ℕ → ℕ → ℕ → Type 0
+abbrev pub Clock : CoreData → List ℕ → (place actor count : ℕ) → Type 0
 Clock core list p a n = Many (UpTo core list p a) n
 
 -- One such number for each actor that is there at p.

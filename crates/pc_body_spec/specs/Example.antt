@@ -17,7 +17,7 @@ use Rattle.pc_body_spec.specs.Bodies.{body_with}
 use Rattle.pc_body_spec.specs.Faults.{body_faults}
 use Rattle.pc_body_spec.specs.Slots.{slots_of, method_locals, local_slot}
 
-abbrev at : ℕ → ℕ → Span
+abbrev at : (from to : ℕ) → Span
 at a b = record { start = a; end = b }
 
 abbrev name : List ℕ → Span → Name
@@ -46,7 +46,7 @@ texts = codes "out" ∷ codes "print" ∷ codes "create" ∷ codes "f" ∷ codes
 abbrev context : List Placed → Context
 context slots = record { fields = codes "f" ∷ []; methods = codes "m" ∷ codes "go" ∷ codes "make" ∷ codes "create" ∷ []; entities = entities; texts = texts; slots = slots }
 
-abbrev placed : ℕ → ℕ → Placed
+abbrev placed : (start slot : ℕ) → Placed
 placed start slot = record { start = start; slot = slot }
 
 -- The body of this `create`, whose `C` is `C.create()`:

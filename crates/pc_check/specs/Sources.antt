@@ -20,7 +20,7 @@ start_masks core f = (first (1 + length f.params), start_set core f)
 
 -- Whatever the notes are, the masks of this source reach node n: those with which a method starts, or those behind a node
 -- that comes before number `low`.
-abbrev pub Comes : CoreData → ℕ → ℕ → Source → Type 0
+abbrev pub Comes : CoreData → (low node : ℕ) → Source → Type 0
 Comes core low n (source.Start m) = (f : Method) × (slice_get core.methods m ≡ Some f) × ((ann : Ann) → Reaches core ann n (start_masks core f))
 Comes core low n (source.Behind s) = (s < low) × ((ann : Ann) (t : Note) → slice_get ann.notes s ≡ Some t → Reaches core ann n (after t))
 
@@ -39,11 +39,11 @@ abbrev pub IsBody : CoreData → ℕ → Type 0
 IsBody core n = (m : ℕ) × (f : Method) × (slice_get core.methods m ≡ Some f) × (f.body ≡ Some n)
 
 -- Node n is a child of node p.
-abbrev pub IsChild : CoreData → ℕ → ℕ → Type 0
+abbrev pub IsChild : CoreData → (parent node : ℕ) → Type 0
 IsChild core p n = (x : Node) × (slice_get core.nodes p ≡ Some x) × Has x.children n
 
 -- Node n is a body, or a child of a node from number i on.
-abbrev pub Known : CoreData → ℕ → ℕ → Type 0
+abbrev pub Known : CoreData → (first node : ℕ) → Type 0
 Known core i n = IsBody core n ⊎ ((p : ℕ) × (i ≤ p) × IsChild core p n)
 
 -- Each of these has its source.

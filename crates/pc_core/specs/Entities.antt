@@ -85,11 +85,11 @@ abbrev pub IsAbstract : CoreData → ℕ → Type 0
 IsAbstract core e = (x : EntityDef) × (slice_get core.entities e ≡ Some x) × (is_abstract x.kind ≡ true)
 
 -- The `is` list of an entity names another.
-abbrev pub Names : CoreData → ℕ → ℕ → Type 0
+abbrev pub Names : CoreData → (entity above : ℕ) → Type 0
 Names core a b = (x : EntityDef) × (slice_get core.entities a ≡ Some x) × Has x.provides b
 
 -- A chain of at least one `is` leads from an entity to another.
-pub data Leads (core : CoreData) : ℕ → ℕ → Type 0 where
+pub data Leads (core : CoreData) : (entity above : ℕ) → Type 0 where
   one : {a b : ℕ} → Names core a b → Leads core a b
   more : {a b c : ℕ} → Names core a b → Leads core b c → Leads core a c
 

@@ -33,13 +33,13 @@ abbrev pub method_name : Method → ℕ
 method_name m = m.name
 
 -- The index of an entity's field of this name.
-abbrev pub field_named : CoreData → ℕ → ℕ → Option ℕ
+abbrev pub field_named : CoreData → (entity name : ℕ) → Option ℕ
 field_named core entity name = do
   x ← slice_get core.entities entity
   place_of field_name name x.fields 0
 
 -- The number of an entity's method of this name.
-abbrev pub method_named : CoreData → ℕ → ℕ → Option ℕ
+abbrev pub method_named : CoreData → (entity name : ℕ) → Option ℕ
 method_named core entity name = do
   x ← slice_get core.entities entity
   place_of method_name name (own_methods core x) x.first_method

@@ -7,5 +7,5 @@ abbrev pub method_key : Method → ℕ × ℕ
 method_key m = (m.entity, m.name)
 
 -- Whether a key is this one.
-abbrev pub is_key : ℕ → ℕ → ℕ × ℕ → Bool
+abbrev pub is_key : (entity name : ℕ) → ℕ × ℕ → Bool
 is_key entity name key = nat_eq entity key.0 && nat_eq name key.1

@@ -64,11 +64,11 @@ abbrev pub NamesMethod : CoreData → MethodKind → ℕ → Type 0
 NamesMethod core k m = (x : Method) × (slice_get core.methods m ≡ Some x) × (x.kind ≡ k)
 
 -- A slot of the node's method, other than that of `this`.
-abbrev pub NamesSlot : CoreData → ℕ → ℕ → Type 0
+abbrev pub NamesSlot : CoreData → (method slot : ℕ) → Type 0
 NamesSlot core m s = (0 < s) × ((x : Method) × (slice_get core.methods m ≡ Some x) × (s < x.slots))
 
 -- A slot of a local of the node's method.
-abbrev pub NamesLocal : CoreData → ℕ → ℕ → Type 0
+abbrev pub NamesLocal : CoreData → (method slot : ℕ) → Type 0
 NamesLocal core m s =
     (x : Method) × (y : Slot) × (slice_get core.methods m ≡ Some x) × (s < x.slots)
     × (slice_get core.slots (x.first_slot + s) ≡ Some y) × (is_local y.kind ≡ true)

@@ -25,13 +25,13 @@ taken_from k table m (a ∷ more) = taken_from k table (join m (takable k (block
 abbrev pub count_present : Block → ℕ → ℕ
 count_present b n = n - count_ones (meet b.absent (first n)).0
 
-abbrev pub count_taken : ℕ → ℕ → List Block → EntityKind → Listing → ℕ
+abbrev pub count_taken : (start count : ℕ) → List Block → EntityKind → Listing → ℕ
 count_taken start n table k l = count_ones (meet (without_all start (without_all start (first n) l.methods) l.others) (taken_from k table empty l.targets)).0
 
-abbrev pub count_fresh : ℕ → ℕ → List Block → ℕ → t.Entity → Listing → ℕ
+abbrev pub count_fresh : (start count : ℕ) → List Block → ℕ → t.Entity → Listing → ℕ
 count_fresh start n table i e l = if is_abstract e.kind then count_present (own_place table i) n else count_taken start n table e.kind l
 
 -- The counts of these entities, of which the first stands at this place, with so many names more.
-abbrev pub with_fresh : ℕ → ℕ → List Block → ℕ → List t.Entity → List Listing → List ℕ → List ℕ
+abbrev pub with_fresh : (start count : ℕ) → List Block → ℕ → List t.Entity → List Listing → List ℕ → List ℕ
 with_fresh start n table i (e ∷ es) (l ∷ ls) (c ∷ cs) = (c + count_fresh start n table i e l) ∷ with_fresh start n table (i + 1) es ls cs
 with_fresh start n table i es ls cs = []

@@ -4,16 +4,16 @@ use Rattle.pc_tree.specs.Kinds.{is_abstract}
 use Rattle.pc_tree.specs.Tree as t
 use Rattle.pc_members.specs.Rounds.{rank}
 
-abbrev pub is_of_rank : List (List ℕ) → ℕ → ℕ → t.Entity → Bool
+abbrev pub is_of_rank : List (List ℕ) → (rank place : ℕ) → t.Entity → Bool
 is_of_rank own r i e = is_abstract e.kind && nat_eq (rank own i) r
 
 -- Those with so many entities above them, where the first of these entities stands at this place.
-abbrev pub of_rank : List (List ℕ) → ℕ → ℕ → List t.Entity → List ℕ
+abbrev pub of_rank : List (List ℕ) → (rank place : ℕ) → List t.Entity → List ℕ
 of_rank own r i [] = []
 of_rank own r i (e ∷ es) = if is_of_rank own r i e then i ∷ of_rank own r (i + 1) es else of_rank own r (i + 1) es
 
 -- Those of so many ranks, from this rank on.
-abbrev pub of_ranks : List (List ℕ) → List t.Entity → ℕ → ℕ → List ℕ
+abbrev pub of_ranks : List (List ℕ) → List t.Entity → (rank count : ℕ) → List ℕ
 of_ranks own es r zero = []
 of_ranks own es r (suc k) = of_rank own r 0 es ++ of_ranks own es (r + 1) k
 

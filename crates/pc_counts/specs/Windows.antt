@@ -7,7 +7,7 @@ use Rattle.pc_counts.specs.declared.listing.Listing.{Listing}
 use Rattle.pc_counts.specs.Blocks.{nothing, single, followed}
 
 -- The number is one of the 64 from this one on.
-abbrev pub is_within : ℕ → ℕ → Bool
+abbrev pub is_within : (start number : ℕ) → Bool
 is_within start n = nat_le start n && nat_lt (n - start) 64
 
 -- ---- a trait or an interface

@@ -49,11 +49,11 @@ unfoldable pub form_at : List ℕ → Option (Form × List ℕ)
 form_at = named_at form_name 32 FORMS
 
 -- the digit that a byte is
-abbrev pub digit_of : ℕ → ℕ → Option ℕ
+abbrev pub digit_of : (base byte : ℕ) → Option ℕ
 digit_of base b = if is_ascii_digit b && nat_lt (b - 48) base then Some (b - 48) else (if is_ascii_lowercase b && nat_lt (b - 97 + 10) base then Some (b - 97 + 10) else None)
 
 -- a number that is at most this large
-abbrev pub at_most : ℕ → ℕ → Option ℕ
+abbrev pub at_most : (most number : ℕ) → Option ℕ
 at_most most n = if nat_le n most then Some n else None
 
 -- the number with one digit more

@@ -19,7 +19,7 @@ known_rows at (e ∷ es) (ms ∷ table) = known_with at e ms ∷ known_rows (at 
 known_rows at es table = []
 
 -- An entity of the core.
-abbrev pub entity_with : Context → NamesData → ℕ → ℕ → t.Entity → ℕ → EntityDef
+abbrev pub entity_with : Context → NamesData → (number first_method : ℕ) → t.Entity → ℕ → EntityDef
 entity_with c names n first_method e methods = record {
   kind = e.kind;
   cap = default_cap e.kind e.cap;
@@ -32,6 +32,6 @@ entity_with c names n first_method e methods = record {
   methods = methods;
 }
 
-abbrev pub entity_rows : Context → NamesData → ℕ → ℕ → List t.Entity → List (List Member) → List EntityDef
+abbrev pub entity_rows : Context → NamesData → (number first_method : ℕ) → List t.Entity → List (List Member) → List EntityDef
 entity_rows c names n at (e ∷ es) (ms ∷ table) = entity_with c names n at e (length ms) ∷ entity_rows c names (suc n) (at + length ms) es table
 entity_rows c names n at es table = []

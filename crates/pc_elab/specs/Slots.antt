@@ -15,8 +15,8 @@ first_local (written m) = 1 + length m.params
 first_local added = 1
 
 -- `this` in method m, a member of the entity of this number.
-abbrev pub this_of : ℕ → ℕ → Member → Slot
+abbrev pub this_of : (method entity : ℕ) → Member → Slot
 this_of m number x = record { method = m; kind = slot.This; depth = 0; written = Some (number, receiver_of x) }
 
-abbrev pub slots_with : Context → ℕ → ℕ → Member → List ParamInfo → List Local → List Slot
+abbrev pub slots_with : Context → (method entity : ℕ) → Member → List ParamInfo → List Local → List Slot
 slots_with c m number x params locals = this_of m number x ∷ map (param_slot m) params ++ map (local_slot c m) locals

@@ -25,27 +25,27 @@ closing step [] n ns = Some (n, ns)
 closing step (p ∷ ps) n ns = and_then (closing step ps n ns) (step p)
 
 -- An arm waits for its `else`; each but the first stands in a sequence of its own.
-abbrev pub arm_after : Bool → ℕ → ℕ → Span → ℕ → List Node → Numbered ℕ
+abbrev pub arm_after : Bool → (method depth : ℕ) → Span → ℕ → List Node → Numbered ℕ
 arm_after true m d s chosen ns = Some (chosen, ns)
 arm_after false m d s chosen ns = push m node.Seq s d (chosen ∷ []) ns
 
-unfoldable pub arm_closes : ℕ → ℕ → OpenArm → ℕ → List Node → Numbered ℕ
+unfoldable pub arm_closes : (method depth : ℕ) → OpenArm → ℕ → List Node → Numbered ℕ
 arm_closes m d w n ns = and_then (push m node.If w.span d (w.cond ∷ w.body ∷ n ∷ []) ns) (arm_after w.first m d w.span)
 
 -- A suffix waits for what stands before it, which is its last child.
-unfoldable pub link_closes : ℕ → ℕ → Link → ℕ → List Node → Numbered ℕ
+unfoldable pub link_closes : (method depth : ℕ) → Link → ℕ → List Node → Numbered ℕ
 link_closes m d l n ns = push m l.kind l.span d (l.args ++ n ∷ []) ns
 
 -- A call on `this` has its arguments, and then `this`.
-unfoldable pub this_closes : ℕ → ℕ → Span → ℕ → Span → List ℕ → List Node → Numbered ℕ
+unfoldable pub this_closes : (method depth : ℕ) → Span → ℕ → Span → List ℕ → List Node → Numbered ℕ
 this_closes m d s n place args ns = and_then (push m node.This place d [] ns) (λ this. push m (node.Call n) s d (args ++ this ∷ []))
 
 -- A sequence without items gets the value None.
-unfoldable pub none_closes : ℕ → ℕ → Span → List ℕ → List Node → Numbered (List ℕ)
+unfoldable pub none_closes : (method depth : ℕ) → Span → List ℕ → List Node → Numbered (List ℕ)
 none_closes m d s [] ns = and_then (push m (node.Prim 0) s d [] ns) (λ n. λ ns. Some (n ∷ [], ns))
 none_closes m d s (x ∷ xs) ns = Some (x ∷ xs, ns)
 
-unfoldable pub seq_closes : ℕ → ℕ → Span → List ℕ → List Node → Numbered ℕ
+unfoldable pub seq_closes : (method depth : ℕ) → Span → List ℕ → List Node → Numbered ℕ
 seq_closes m d s tops ns = and_then (none_closes m d s tops ns) (push m node.Seq s d)
 
 -- What the code gives where nodes wait for an inner part, whose own nodes come next.
@@ -164,7 +164,7 @@ alone_of c sc d s value left (t.name n) = write_name c s n d value (resolve c sc
 alone_of c sc d s value left e = value_then s d value left
 
 -- The node of what is written to a bare name that something has, behind the value.
-unfoldable pub name_closes : Context → ℕ → ℕ → Span → Name → Meaning → ℕ → List Node → Numbered ℕ
+unfoldable pub name_closes : Context → (method depth : ℕ) → Span → Name → Meaning → ℕ → List Node → Numbered ℕ
 name_closes c m d s n (local x) v ns = push m (node.Assign x) s d (v ∷ []) ns
 name_closes c m d s n w v ns = and_then (push m node.This n.span d [] ns) (λ this. push m (node.SetField (text_of c n.text)) s d (v ∷ this ∷ []))
 
@@ -193,10 +193,10 @@ LeadsOn (Err stop.Full) ns rest want = want ≡ None
 LeadsOn (Err stop.Memory) ns rest want = Unit {0}
 
 -- The value None behind the items, where one is added.
-unfoldable pub ends_with : Bool → ℕ → ℕ → Span → List ℕ → List Node → Numbered (List ℕ)
+unfoldable pub ends_with : Bool → (method depth : ℕ) → Span → List ℕ → List Node → Numbered (List ℕ)
 ends_with true m d s tops ns = and_then (push m (node.Prim 0) s d [] ns) (λ n. λ ns. Some (tops ++ n ∷ [], ns))
 ends_with false m d s tops ns = Some (tops, ns)
 
 -- A body around its sequence.
-unfoldable pub body_closes : ℕ → ℕ → Span → Span → List ℕ → List Node → Numbered ℕ
+unfoldable pub body_closes : (method depth : ℕ) → Span → Span → List ℕ → List Node → Numbered ℕ
 body_closes m d name s tops ns = and_then (seq_closes m d s tops ns) (λ q. push m node.Body name d (q ∷ []))

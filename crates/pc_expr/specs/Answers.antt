@@ -8,7 +8,7 @@ use Rattle.pc_expr.specs.declared.fault.ParseFault.{ParseFault}
 use Rattle.pc_expr.specs.declared.fault.ParseFault.TheVariants as fault
 
 -- the token at a place begins at a byte
-abbrev pub Places : List Token → ℕ → ℕ → Type 0
+abbrev pub Places : List Token → (place byte : ℕ) → Type 0
 Places tokens k p = (x : Token) × (more : List Token) × (drop k tokens ≡ x ∷ more) × (x.span.start ≡ p)
 
 -- The result, seen as a tree, is this answer, or memory ran out.

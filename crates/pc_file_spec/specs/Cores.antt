@@ -31,7 +31,7 @@ abbrev pub field_of : List Text → List Known → t.Field → FieldInfo
 field_of texts entities f = record { name = text_from 0 texts f.name.text; fixed = f.fixed; entity = (type_in entities f.ty).0; cap = (type_in entities f.ty).1 }
 
 -- Entity number n of the file, whose methods begin with this number.
-abbrev pub entity_of : t.File → List (List ℕ) → ℕ → ℕ → t.Entity → EntityDef
+abbrev pub entity_of : t.File → List (List ℕ) → (number first_method : ℕ) → t.Entity → EntityDef
 entity_of file above n first_method e = record {
   kind = e.kind;
   cap = default_cap e.kind e.cap;
@@ -45,7 +45,7 @@ entity_of file above n first_method e = record {
 }
 
 -- Entities of the file, the first of which has number n and this first method.
-abbrev pub entities_from : t.File → List (List ℕ) → ℕ → ℕ → List t.Entity → List EntityDef
+abbrev pub entities_from : t.File → List (List ℕ) → (number first_method : ℕ) → List t.Entity → List EntityDef
 entities_from file above n at [] = []
 entities_from file above n at (e ∷ es) = entity_of file above n at e ∷ entities_from file above (suc n) (at + length (members file.entities e)) es
 

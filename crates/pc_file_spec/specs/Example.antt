@@ -28,7 +28,7 @@ use Rattle.pc_core.specs.Formed.{Formed}
 use Rattle.pc_names.specs.declared.fault.NameFault.TheVariants as fault
 use Rattle.pc_file_spec.specs.Cores.{Stands, IsElabFault}
 
-abbrev at : ℕ → ℕ → Span
+abbrev at : (from to : ℕ) → Span
 at a b = record { start = a; end = b }
 
 abbrev name : List ℕ → Span → Name
@@ -52,14 +52,14 @@ language =
 abbrev print : Method
 print = record { entity = 5; name = 1; kind = method.Be; receiver = cap.Ref; params = record { entity = 3; cap = cap.Val; span = at 0 0 } ∷ []; result = (0, form.Val); first_slot = 0; slots = 0; first_node = 0; body = None; span = at 0 0 }
 
-abbrev entity : EntityKind → Cap → List ℕ → Span → List ℕ → List ℕ → List FieldInfo → ℕ → ℕ → EntityDef
+abbrev entity : EntityKind → Cap → List ℕ → Span → List ℕ → List ℕ → List FieldInfo → (first count : ℕ) → EntityDef
 entity k c text s provides above fields first count = record { kind = k; cap = c; name = text; span = s; provides = provides; above = above; fields = fields; first_method = first; methods = count }
 
 abbrev param : ℕ → Cap → Span → ParamInfo
 param e c s = record { entity = e; cap = c; span = s }
 
 -- A method of an entity and a text, and its first slot and how many it has; where its nodes begin, and its body.
-abbrev method_of : ℕ → ℕ → MethodKind → Cap → List ParamInfo → ℕ × Form → ℕ → ℕ → ℕ → Option ℕ → Span → Method
+abbrev method_of : (entity text : ℕ) → MethodKind → Cap → List ParamInfo → ℕ × Form → (first slots first_node : ℕ) → Option ℕ → Span → Method
 method_of e text k receiver params result first slots first_node body s = record { entity = e; name = text; kind = k; receiver = receiver; params = params; result = result; first_slot = first; slots = slots; first_node = first_node; body = body; span = s }
 
 -- A slot of a method, and the type that is written for it.

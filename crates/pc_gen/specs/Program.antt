@@ -110,7 +110,7 @@ abbrev pub worker_params : List ParamDef
 worker_params = param (codes "out") (type_of (codes "OutStream") None) ∷ param (codes "cell") (type_of (codes "Cell") (Some cap.Iso)) ∷ []
 
 -- Each worker but the last hands the cell on, and the last one prints what it holds.
-abbrev pub hand_on : ℕ → ℕ → t.Expr
+abbrev pub hand_on : (size number : ℕ) → t.Expr
 hand_on size i = if i + 1 == size then tell (codes "c") else construct (worker_name (i + 1)) (variable (codes "out") ∷ consumed (codes "c") ∷ [])
 
 abbrev pub work_items : (size number : ℕ) → Task → (drawn : ℕ) → List t.Item
@@ -131,5 +131,5 @@ workers seed size = map (worker seed size) (range_with_len 0 size)
 abbrev pub main : t.Entity
 main = actor (codes "Main") (create (param (codes "env") (type_of (codes "Env") None) ∷ []) (alone (construct (codes "Work0") (chained (variable (codes "env")) (dot (codes "out") ∷ []) ∷ entity (codes "Cell") ∷ []))))
 
-abbrev pub program : ℕ → ℕ → t.File
+abbrev pub program : (seed size : ℕ) → t.File
 program seed size = record { entities = cell ∷ (workers seed size ++ main ∷ []) }

@@ -9,6 +9,6 @@ pub record Change : Type 0 where
   pub faults_before : ℕ
   pub faults_now : ℕ
 
-abbrev pub change : Option (List ℕ) → Option (List ℕ) → ℕ → ℕ → Change
+abbrev pub change : Option (List ℕ) → Option (List ℕ) → (faults_before faults_now : ℕ) → Change
 change before now faults_before faults_now =
     record { before = before; now = now; faults_before = faults_before; faults_now = faults_now }

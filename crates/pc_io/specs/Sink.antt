@@ -5,7 +5,7 @@ use Rattle.std.specs.Io.KnownBytes.{Appends}
 use Rattle.pc_io.specs.Count.{one_more}
 
 -- A counter rose, or stands at its last value.
-abbrev pub Rose : ℕ → ℕ → Type 0
+abbrev pub Rose : (before now : ℕ) → Type 0
 Rose before now = one_more before ≤ now
 
 -- What was told grew by a prefix of the piece.

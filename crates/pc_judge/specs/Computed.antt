@@ -18,5 +18,5 @@ abbrev pub unset_of : CoreData → ℕ → Option Method → Option Note → Boo
 unset_of core n (Some x) (Some t) = unset_behind core n x t
 unset_of core n x t = false
 
-abbrev pub leaves_unset : CoreData → Ann → ℕ → ℕ → Bool
+abbrev pub leaves_unset : CoreData → Ann → (node method : ℕ) → Bool
 leaves_unset core ann n m = unset_of core n (slice_get core.methods m) (slice_get ann.notes n)

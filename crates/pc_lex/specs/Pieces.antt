@@ -40,7 +40,7 @@ pub data Digits (base : ℕ) : List ℕ → List ℕ → Type 0 where
   spaced : {b : ℕ} {bs ds : List ℕ} → is_digit b base ≡ true → Digits base bs ds → Digits base (b ∷ 95 ∷ bs) (digit_value b ∷ ds)
 
 -- the number that digits make behind those that made acc
-abbrev pub value : ℕ → ℕ → List ℕ → ℕ
+abbrev pub value : (base so_far : ℕ) → List ℕ → ℕ
 value base acc [] = acc
 value base acc (d ∷ ds) = value base (acc * base + d) ds
 

@@ -83,7 +83,7 @@ digits_len base [] = 0
 digits_len base (b ∷ bs) = if is_digit b base then 1 + more_len base bs else 0
 
 -- the number of bytes that are digits and `_`
-abbrev pub value_of : ℕ → ℕ → List ℕ → ℕ
+abbrev pub value_of : (base so_far : ℕ) → List ℕ → ℕ
 value_of base acc [] = acc
 value_of base acc (b ∷ bs) = if b == 95 then value_of base acc bs else value_of base (acc * base + digit_value b) bs
 
@@ -91,7 +91,7 @@ value_of base acc (b ∷ bs) = if b == 95 then value_of base acc bs else value_o
 unfoldable pub base_at : List ℕ → ℕ × ℕ
 base_at text = if begins text hex_mark && first_test (λ b. is_digit b 16) (drop 2 text) then (16, 2) else (if begins text bin_mark && first_test (λ b. is_digit b 2) (drop 2 text) then (2, 2) else (10, 0))
 
-abbrev pub number_or : ℕ → ℕ → Result (Found × ℕ) LexStop
+abbrev pub number_or : (value length : ℕ) → Result (Found × ℕ) LexStop
 number_or v n = if nat_lt v (2 ^ 64) then Ok (found.Token (kinds.Number v), n) else Err stop.BadNumber
 
 abbrev pub number_of : List ℕ → (base skip digits : ℕ) → Result (Found × ℕ) LexStop

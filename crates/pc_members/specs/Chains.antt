@@ -18,11 +18,11 @@ abbrev pub entity_at : t.File → ℕ → t.Entity → Type 0
 entity_at file a e = slice_get (replicate first_own None ++ map Some file.entities) a ≡ Some (Some e)
 
 -- The `is` list of entity a names entity b.
-abbrev pub Names : t.File → ℕ → ℕ → Type 0
+abbrev pub Names : t.File → (entity above : ℕ) → Type 0
 Names file a b = (e : t.Entity) × entity_at file a e × ((n : Name) × Has e.provides n × (entity_of file n.text ≡ Some b))
 
 -- A chain of at least one `is` leads from an entity to another.
-pub data Leads (file : t.File) : ℕ → ℕ → Type 0 where
+pub data Leads (file : t.File) : (entity above : ℕ) → Type 0 where
   one : {a b : ℕ} → Names file a b → Leads file a b
   more : {a b c : ℕ} → Names file a b → Leads file b c → Leads file a c
 

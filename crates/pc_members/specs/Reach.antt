@@ -49,7 +49,7 @@ ascending found at zero = []
 ascending found at (suc k) = if has found at then at ∷ ascending found (suc at) k else ascending found (suc at) k
 
 -- For each number, what is reached from it, in ascending order.
-abbrev pub above_from : Edges → ℕ → ℕ → List (List ℕ)
+abbrev pub above_from : Edges → (first count : ℕ) → List (List ℕ)
 above_from e a zero = []
 above_from e a (suc k) = ascending (reached e a) 0 (length e) ∷ above_from e (suc a) k
 
@@ -59,6 +59,6 @@ above_all e = above_from e 0 (length e)
 -- ---- chains
 
 -- A chain of at least one edge leads from a number to another.
-pub data Chain (e : Edges) : ℕ → ℕ → Type 0 where
+pub data Chain (e : Edges) : (from to : ℕ) → Type 0 where
   link : {a b : ℕ} → IsIn b (next e a) → Chain e a b
   links : {a b c : ℕ} → IsIn b (next e a) → Chain e b c → Chain e a c

@@ -25,7 +25,7 @@ use Rattle.pc_ann.specs.declared.annotation.Rule.{Rule}
 use Rattle.pc_ann.specs.declared.annotation.Rule.TheVariants as rule
 use Rattle.pc_rules.specs.Rules.{Meets, MeetsRule}
 
-abbrev pub at : ℕ → ℕ → Span
+abbrev pub at : (from to : ℕ) → Span
 at from to = record { start = from; end = to }
 
 -- ---- the core
@@ -90,7 +90,7 @@ four_slots = record {
 
 -- ---- its derivation
 
-abbrev pub noted : Rule → Option (ℕ × Form) → ℕ → ℕ → Note
+abbrev pub noted : Rule → Option (ℕ × Form) → (before after : ℕ) → Note
 noted r ty before after = record {
   rule = r;
   ty = ty;

@@ -19,7 +19,7 @@ use Rattle.pc_ann.specs.Masks.{has, with_number}
 use Rattle.pc_rules.specs.declared.said.Said.{Said}
 
 -- A field of an entity by its name, with its index.
-abbrev pub field_of : CoreData → ℕ → ℕ → Option (ℕ × FieldInfo)
+abbrev pub field_of : CoreData → (entity name : ℕ) → Option (ℕ × FieldInfo)
 field_of core e name = do
   i ← field_named core e name
   x ← slice_get core.entities e

@@ -56,7 +56,7 @@ abbrev pub Slots : Type 0
 Slots = List (ℕ × Cap)
 
 -- A slot of a method by its index, with its type.
-abbrev pub slot_of : CoreData → Slots → ℕ → ℕ → Option (Slot × (ℕ × Cap))
+abbrev pub slot_of : CoreData → Slots → (method slot : ℕ) → Option (Slot × (ℕ × Cap))
 slot_of core slots m s = do
   x ← slice_get core.methods m
   y ← slice_get core.slots (x.first_slot + s)

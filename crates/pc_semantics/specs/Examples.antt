@@ -88,7 +88,7 @@ abbrev pub BranchTaken : Type 0
 BranchTaken = Leaves (choice (node.Truth true)) 8 (Num 1) × Leaves (choice (node.Truth false)) 8 (Num 2)
 
 -- Twice round the loop, and out: the local is 2.
-abbrev pub held_by_main : CoreData → ℕ → ℕ → Option (Option Value)
+abbrev pub held_by_main : CoreData → (steps slot : ℕ) → Option (Option Value)
 held_by_main core k s = do
   a ← slice_get (after core (replicate k 1)).actors 1
   f ← slice_get a.frames 0

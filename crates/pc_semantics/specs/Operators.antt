@@ -26,10 +26,10 @@ abbrev pub wrapped : ℕ → Value
 wrapped n = Num (n % 2 ^ 64)
 
 -- A quotient or remainder by 0 is 0.
-abbrev pub over : ℕ → ℕ → ℕ
+abbrev pub over : (divisor number : ℕ) → ℕ
 over b n = if nat_eq b 0 then 0 else n
 
-abbrev pub of_numbers : Op → ℕ → ℕ → Option Value
+abbrev pub of_numbers : Op → (left right : ℕ) → Option Value
 of_numbers op.Add a b = Some (wrapped (a + b))
 of_numbers op.Sub a b = Some (wrapped (a + (2 ^ 64 - b)))
 of_numbers op.Mul a b = Some (wrapped (a * b))

@@ -64,7 +64,7 @@ abbrev pub param : ParamInfo
 param = record { entity = 4; cap = cap.Val; span = nowhere }
 
 -- The constructor of an entity: its kind, how many parameters and slots it has, and its body.
-abbrev pub constructor_of : ℕ → MethodKind → List ParamInfo → ℕ → ℕ → Method
+abbrev pub constructor_of : ℕ → MethodKind → List ParamInfo → (slots body : ℕ) → Method
 constructor_of e k params slots body = record {
   entity = e;
   name = create;

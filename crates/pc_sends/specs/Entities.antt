@@ -8,7 +8,7 @@ use Rattle.pc_lists.specs.Places.{Has}
 use Rattle.pc_sub.specs.Conforms.{Conforms}
 
 -- The entities are the same, or the second is a trait or an interface to which the first conforms, by its methods.
-abbrev pub IsOne : CoreData → ℕ → ℕ → Type 0
+abbrev pub IsOne : CoreData → (entity other : ℕ) → Type 0
 IsOne core d e = (d ≡ e) ⊎ (IsAbstract core e × Conforms core d e)
 
 -- What is known to be of entity e may be of entity d. No value is of a trait or an interface.

@@ -22,10 +22,10 @@ go = 4
 abbrev pub stop : ℕ
 stop = 5
 
-abbrev pub actor : List ℕ → ℕ → ℕ → EntityDef
+abbrev pub actor : List ℕ → (first count : ℕ) → EntityDef
 actor name first count = record { kind = kind.Actor; cap = cap.Tag; name = name; span = nowhere; provides = []; above = []; fields = []; first_method = first; methods = count }
 
-abbrev pub method_of : ℕ → ℕ → MethodKind → ℕ → Method
+abbrev pub method_of : (entity name : ℕ) → MethodKind → ℕ → Method
 method_of e name k body = record {
   entity = e;
   name = name;

@@ -11,7 +11,7 @@ pub record Grown (P : ℕ → Type 0) (old new : List ℕ) : Type 0 where
   pub differ : Differ old → Differ new
 
 -- The number has a property with some number from `low` on and below n.
-abbrev pub Turns : (ℕ → ℕ → Type 0) → ℕ → ℕ → ℕ → Type 0
+abbrev pub Turns : (ℕ → ℕ → Type 0) → (low end number : ℕ) → Type 0
 Turns Q low n t = (k : ℕ) × (low ≤ k) × (k < n) × Q k t
 
 -- The number has a property with some element of a list.

@@ -25,7 +25,7 @@ IsSent core (nodes.Call name) t = NamesMethod core method.Be t
 IsSent core k t = ⊥
 
 -- A node of method m may send method t.
-abbrev pub Posts : CoreData → List (Option ℕ) → ℕ → ℕ → Type 0
+abbrev pub Posts : CoreData → List (Option ℕ) → (method target : ℕ) → Type 0
 Posts core ents m t = (u : Uses core ents m t) × IsSent core u.node.kind t
 
 -- A method of entity e that is in Reach may send method t.

@@ -36,7 +36,7 @@ abbrev pub IsMessage : CoreData → ℕ → Type 0
 IsMessage core t = (x : Method) × (slice_get core.methods t ≡ Some x) × (is_message x.kind ≡ true)
 
 -- Method m is in Reach and uses method t.
-abbrev pub ReachedUses : CoreData → List (Option ℕ) → ℕ → ℕ → Type 0
+abbrev pub ReachedUses : CoreData → List (Option ℕ) → (method target : ℕ) → Type 0
 ReachedUses core ents m t = Reach core ents m × Uses core ents m t
 
 -- A method of entity e that is in Reach uses method t.

@@ -15,7 +15,7 @@ use Rattle.pc_sends.specs.Reached.{is_message}
 
 -- ---- rows
 
-abbrev pub row : ℕ → ℕ → Row
+abbrev pub row : (entity target : ℕ) → Row
 row e t = record { from = e; target = t }
 
 -- By the entity that sends, and then by the method that is sent.

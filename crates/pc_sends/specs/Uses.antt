@@ -32,7 +32,7 @@ pub record MayCall (core : CoreData) (name e t : ℕ) : Type 0 where
   pub called : is_called method.kind ≡ true
 
 -- The function or behaviour of this name of entity d.
-abbrev pub called_in : CoreData → ℕ → ℕ → Option ℕ
+abbrev pub called_in : CoreData → (name entity : ℕ) → Option ℕ
 called_in core name d = do
   t ← method_named core d name
   y ← slice_get core.methods t

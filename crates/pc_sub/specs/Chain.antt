@@ -6,7 +6,7 @@ use Rattle.pc_core.specs.Entities.{Leads}
 
 -- The entities are the same, or a chain of `is` leads from the first to the second (nominal subtyping, in the Pony
 -- tutorial).
-abbrev pub Chain : CoreData → ℕ → ℕ → Type 0
+abbrev pub Chain : CoreData → (entity above : ℕ) → Type 0
 Chain core a b = (a ≡ b) ⊎ Leads core a b
 
 -- The same as it is computed, by the list of what is above an entity.
@@ -18,5 +18,5 @@ abbrev pub above_in : Option EntityDef → List ℕ
 above_in None = []
 above_in (Some x) = x.above
 
-abbrev pub is_chain : CoreData → ℕ → ℕ → Bool
+abbrev pub is_chain : CoreData → (entity above : ℕ) → Bool
 is_chain core a b = nat_eq a b || is_in b (above_in (slice_get core.entities a))

@@ -37,7 +37,7 @@ HasFor core e t = (m : ℕ) × (y : Method) × (IsMethod core e t.name m) × (sl
 
 -- An entity conforms to a trait or an interface: it has a method for each of the methods there. To one without methods
 -- each entity conforms.
-abbrev pub Conforms : CoreData → ℕ → ℕ → Type 0
+abbrev pub Conforms : CoreData → (entity above : ℕ) → Type 0
 Conforms core e b = (x : EntityDef) → slice_get core.entities b ≡ Some x → Each (λ i t. HasFor core e t) (own_methods core x)
 
 -- ---- what is wrong of an entity
@@ -77,12 +77,12 @@ method_like core e t = do
   if same_kind y.kind t.kind then Some (m, y) else None
 
 -- What fails of entity e at method t of a trait or an interface, which has this number.
-abbrev pub method_faults : CoreData → ℕ → ℕ → Method → Option (ℕ × Method) → List DeclFault
+abbrev pub method_faults : CoreData → (entity number : ℕ) → Method → Option (ℕ × Method) → List DeclFault
 method_faults core e n t None = fault.MissingMethod e n ∷ []
 method_faults core e n t (Some y) = if stands_for core t y.1 then [] else fault.Mismatch e y.0 ∷ []
 
 -- Methods of a trait or an interface, from number n on.
-abbrev pub trait_faults : CoreData → ℕ → ℕ → List Method → List DeclFault
+abbrev pub trait_faults : CoreData → (entity number : ℕ) → List Method → List DeclFault
 trait_faults core e n [] = []
 trait_faults core e n (t ∷ ts) = method_faults core e n t (method_like core e t) ++ trait_faults core e (n + 1) ts
 
@@ -91,5 +91,5 @@ conform_faults core e None = []
 conform_faults core e (Some x) = trait_faults core e x.first_method (own_methods core x)
 
 -- Nothing is wrong of the entity.
-abbrev pub conforms : CoreData → ℕ → ℕ → Bool
+abbrev pub conforms : CoreData → (entity above : ℕ) → Bool
 conforms core e b = is_none (slice_get (conform_faults core e (slice_get core.entities b)) 0)

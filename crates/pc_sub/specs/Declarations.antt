@@ -45,7 +45,7 @@ pub record DeclOk (core : CoreData) : Type 0 where
 -- ---- the declarations that fail, in order
 
 -- Parameters, from number i of method m on.
-abbrev pub not_sendable : ℕ → ℕ → List ParamInfo → List DeclFault
+abbrev pub not_sendable : (method index : ℕ) → List ParamInfo → List DeclFault
 not_sendable m i [] = []
 not_sendable m i (p ∷ ps) = (if sendable p.cap then [] else fault.NotSendable m i ∷ []) ++ not_sendable m (i + 1) ps
 

@@ -18,11 +18,11 @@ use Rattle.pc_sub.specs.Declarations.{first_fault}
 use Rattle.pc_sub.specs.Sub.{is_sub}
 
 -- An entity with these traits, whose methods are those from a number on.
-abbrev pub entity : EntityKind → List ℕ → ℕ → ℕ → EntityDef
+abbrev pub entity : EntityKind → List ℕ → (first count : ℕ) → EntityDef
 entity k traits first count = record { kind = k; cap = cap.Ref; name = []; span = nowhere; provides = traits; above = traits; fields = []; first_method = first; methods = count }
 
 -- A method of name 0 of an entity, of this kind, receiver and parameters, that gives an entity as `val`.
-abbrev pub giving : ℕ → ℕ → MethodKind → Cap → List ParamInfo → Method
+abbrev pub giving : (result entity : ℕ) → MethodKind → Cap → List ParamInfo → Method
 giving r e k c params = record {
   entity = e;
   name = 0;

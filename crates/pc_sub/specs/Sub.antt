@@ -21,7 +21,7 @@ IsInterface core e = (x : EntityDef) × (slice_get core.entities e ≡ Some x) �
 -- A chain of `is` leads from the first entity to the second, or the second is an interface to which the first conforms
 -- (nominal and structural subtyping, in the Pony tutorial). It need not be transitive: what conforms is compared by
 -- chains alone.
-abbrev pub Sub : CoreData → ℕ → ℕ → Type 0
+abbrev pub Sub : CoreData → (entity above : ℕ) → Type 0
 Sub core a b = Chain core a b ⊎ (IsInterface core b × Conforms core a b)
 
 -- The same as it is computed.
@@ -29,5 +29,5 @@ abbrev pub is_interface : Option EntityDef → Bool
 is_interface None = false
 is_interface (Some x) = is_structural x.kind
 
-abbrev pub is_sub : CoreData → ℕ → ℕ → Bool
+abbrev pub is_sub : CoreData → (entity above : ℕ) → Bool
 is_sub core a b = is_chain core a b || (is_interface (slice_get core.entities b) && conforms core a b)

@@ -26,7 +26,7 @@ pub record BothSpawn (core : CoreData) (c : Configuration) (i j : ℕ) : Type 0 
   pub spawns_too : ahead_of core c j ≡ ahead.Spawn
 
 -- This part of being apart fails, and none that stands before it.
-abbrev pub IsKept : CoreData → Configuration → ℕ → ℕ → Kept → Type 0
+abbrev pub IsKept : CoreData → Configuration → (first second : ℕ) → Kept → Type 0
 IsKept core c i j kept.SameActor = i ≡ j
 IsKept core c i j kept.NotMoved = (i ≢ j) × ¬ (BothMove core c i j)
 IsKept core c i j kept.OneMailbox = (i ≢ j) × BothMove core c i j × OneMailbox core c i j

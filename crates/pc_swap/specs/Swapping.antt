@@ -21,7 +21,7 @@ pub record Exchanged (core : CoreData) (front : List ℕ) (i j : ℕ) (rest new 
 
 -- The list is a front, the turns of i and j, and a rest. They are exchanged; or they are kept, with the first part of being apart
 -- that fails; or a step of the front is too long, the first one at this place; or memory ran out.
-abbrev pub SwapEnds : CoreData → List ℕ → ℕ → ℕ → List ℕ → Result (List ℕ) SwapFault → Type 0
+abbrev pub SwapEnds : CoreData → List ℕ → (first second : ℕ) → List ℕ → Result (List ℕ) SwapFault → Type 0
 SwapEnds core front i j rest (Ok new) = Exchanged core front i j rest new
 SwapEnds core front i j rest (Err (Kept k)) = (end_of (outcomes core front) ≡ None) × IsKept core (after core front) i j k
 SwapEnds core front i j rest (Err (TooLong n)) = end_of (outcomes core front) ≡ Some (n, outcome.TooLong)

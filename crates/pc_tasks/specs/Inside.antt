@@ -45,7 +45,7 @@ ended objects f (Writes a i v g) = Some (Moved, with_value objects a i v, g)
 ended objects f m = None
 
 -- What a task sees that has these objects around it, as actor i of k.
-abbrev pub amid : ObjectMap → ℕ → ℕ → Around
+abbrev pub amid : ObjectMap → (actor actors : ℕ) → Around
 amid objects i k = record { objects = objects; actor = i; actors = k }
 
 -- What a task sees that looks at the objects alone.

@@ -18,7 +18,7 @@ abbrev pub no_main_line : Text → Text
 no_main_line name = name ++ (codes ": no Main" ++ line_end)
 
 -- A place in a file, by its line and column, and what is wrong there.
-abbrev pub place_line : Text → ℕ → ℕ → Text → Text
+abbrev pub place_line : Text → (line column : ℕ) → Text → Text
 place_line name line column what = name ++ (codes ":" ++ (decimal line ++ (codes ":" ++ (decimal column ++ (codes ": " ++ (what ++ line_end))))))
 
 -- The step of a run that would make a text that is too long.

@@ -20,20 +20,20 @@ abbrev pub made_name : Text
 made_name = codes "make"
 
 -- the printed text of the program that this seed and this size make
-abbrev pub made_text : ℕ → ℕ → Text
+abbrev pub made_text : (seed size : ℕ) → Text
 made_text seed size = printed (program seed size)
 
 -- the line of its numbers, where its source is accepted
-abbrev pub made_line : ℕ → ℕ → Accepted → Text
+abbrev pub made_line : (seed size : ℕ) → Accepted → Text
 made_line seed size accepted = counts_line seed size (length accepted.source.core.nodes)
 
 -- Its run by its own schedule, with the line of its numbers first.
-abbrev pub MadeRun : ℕ → ℕ → Accepted → Verdict → Type 0
+abbrev pub MadeRun : (seed size : ℕ) → Accepted → Verdict → Type 0
 MadeRun seed size accepted v =
     (w : Verdict) × Ran made_name accepted.source.core (spread (schedule size)) w × (v ≡ headed (made_line seed size accepted) w)
 
 -- The printed text goes through every stage of a source that is accepted, and then the program is run.
-abbrev pub IsMade : ℕ → ℕ → Verdict → Type 0
+abbrev pub IsMade : (seed size : ℕ) → Verdict → Type 0
 IsMade seed size = FromFile (text_as made_name (made_text seed size)) source_limit (AcceptedStage made_name) (MadeRun seed size)
 
 -- The words spell no seed, or no size.

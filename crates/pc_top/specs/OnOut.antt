@@ -51,7 +51,7 @@ WritesTree out bytes =
     (tokens : List Token) × TokenList bytes tokens × (file : t.File) × IsFileAnswer tokens (spelled file) × Appends out.before out.now (printed file)
 
 -- Out grew by the line of the made program's numbers and the text of its run.
-abbrev pub WritesMade : Change → ℕ → ℕ → Type 0
+abbrev pub WritesMade : Change → (seed size : ℕ) → Type 0
 WritesMade out seed size =
     (core : CoreData) × CoreOf (made_text seed size) core
     × Appends out.before out.now (counts_line seed size (length core.nodes) ++ run_text core (spread (schedule size)))

@@ -11,7 +11,7 @@ abbrev pub offset_line : Text → Text → ℕ → Text → Text
 offset_line name bytes at what = place_line name (line_behind (take at bytes)) (column_behind (take at bytes)) what
 
 -- The refusal that names that byte with this status, or want of memory.
-abbrev pub IsPlaceRefusal : Text → Text → ℕ → ℕ → Text → Stop → Type 0
+abbrev pub IsPlaceRefusal : Text → Text → (wanted at : ℕ) → Text → Stop → Type 0
 IsPlaceRefusal name bytes wanted at what (Refused status line) = (status ≡ wanted) × (line ≡ offset_line name bytes at what)
 IsPlaceRefusal name bytes wanted at what (File n) = ⊥
 IsPlaceRefusal name bytes wanted at what Sink = ⊥

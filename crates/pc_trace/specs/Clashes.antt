@@ -20,7 +20,7 @@ abbrev pub Unknown : Touch → Touch → Type 0
 Unknown q p = Clash q p × (number p.clock q.actor < number q.clock q.actor)
 
 -- Of these accesses all that clash with p and are behind one place, and before another, are counted by the clock of p.
-abbrev pub KnownBetween : List Touch → ℕ → ℕ → Touch → Type 0
+abbrev pub KnownBetween : List Touch → (from to : ℕ) → Touch → Type 0
 KnownBetween touches from to p = (m : ℕ) (q : Touch) → from ≤ m → m < to → slice_get touches m ≡ Some q → Clash q p → Known q p
 
 -- All that clash with an access that is earlier than this place.

@@ -24,7 +24,7 @@ pub record Reached (core : CoreData) (list : List ℕ) (n : ℕ) (c : Configurat
   pub noted : Noted core list n touches
 
 -- One more access, where an event has one.
-abbrev pub noted_with : Option Access → ℕ → ℕ → List ℕ → List Touch → List Touch
+abbrev pub noted_with : Option Access → (place actor : ℕ) → List ℕ → List Touch → List Touch
 noted_with None place actor clock touches = touches
 noted_with (Some x) place actor clock touches =
     touches ++ record { place = place; actor = actor; address = x.address; field = x.field; write = x.write; clock = clock } ∷ []

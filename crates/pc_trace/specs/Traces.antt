@@ -52,7 +52,7 @@ pub record Unordered (core : CoreData) (list : List ℕ) (q p : ℕ) : Type 0 wh
   pub not_before : Before core list q p → ⊥
 
 -- Of the places in a list, before p and behind q, all that conflict with p are before it.
-abbrev pub OrderedBetween : CoreData → List ℕ → ℕ → ℕ → Type 0
+abbrev pub OrderedBetween : CoreData → List ℕ → (from to : ℕ) → Type 0
 OrderedBetween core list q p = (r : ℕ) → q < r → r < p → Conflict core list r p → Before core list r p
 
 -- All events that conflict with one that is earlier than p.

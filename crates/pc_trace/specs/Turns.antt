@@ -11,15 +11,15 @@ use Rattle.pc_ahead.specs.declared.ahead.Ahead.{Ahead}
 use Rattle.pc_ahead.specs.declared.ahead.Ahead.TheVariants as ahead
 
 -- An actor does something, where there are so many actors.
-abbrev pub Acts : ℕ → ℕ → List Seat → List Seat → Type 0
+abbrev pub Acts : (count actor : ℕ) → List Seat → List Seat → Type 0
 Acts count actor old new = ChangedAt old new actor (λ s t. Advanced count actor s.clock [] t.clock × (t.letters ≡ s.letters))
 
 -- It takes its oldest message.
-abbrev pub Receives : ℕ → ℕ → List Seat → List Seat → Type 0
+abbrev pub Receives : (count actor : ℕ) → List Seat → List Seat → Type 0
 Receives count actor old new = ChangedAt old new actor (λ s t. IfSome (slice_get s.letters 0) (λ l. Advanced count actor s.clock l t.clock) × (t.letters ≡ drop 1 s.letters))
 
 -- A message with its clock is put into a mailbox.
-abbrev pub Posts : ℕ → ℕ → List Seat → List Seat → Type 0
+abbrev pub Posts : (sender receiver : ℕ) → List Seat → List Seat → Type 0
 Posts sender receiver old new = ChangedAt old new receiver (λ s t. (t.clock ≡ s.clock) × (t.letters ≡ s.letters ++ clock_of old sender ∷ []))
 
 -- A new actor is there, with a message that has its maker's clock.
@@ -27,7 +27,7 @@ abbrev pub Born : ℕ → List Seat → List Seat → Type 0
 Born maker old new = new ≡ old ++ record { clock = []; letters = clock_of old maker ∷ [] } ∷ []
 
 -- Behind an event of this kind.
-abbrev pub Follows : Ahead → ℕ → ℕ → List Seat → List Seat → Type 0
+abbrev pub Follows : Ahead → (count actor : ℕ) → List Seat → List Seat → Type 0
 Follows ahead.Take count actor old new = Receives count actor old new
 Follows ahead.Task count actor old new = Acts count actor old new
 Follows (ahead.Send receiver) count actor old new = (mid : List Seat) × Acts count actor old mid × Posts actor receiver mid new
@@ -52,6 +52,6 @@ Says o place (Err (fault.TooMany n)) = ⊥
 Says o place (Err fault.Memory) = ⊥
 
 -- A step of this kind makes no actor where there are as many as there may be; or it does, and that is the answer.
-abbrev pub Room : Ahead → ℕ → ℕ → Result (Unit {0}) TraceFault → Type 0
+abbrev pub Room : Ahead → (count place : ℕ) → Result (Unit {0}) TraceFault → Type 0
 Room kind count place (Ok u) = kind ≡ ahead.Spawn → count < 64
 Room kind count place (Err f) = (f ≡ fault.TooMany place) × (kind ≡ ahead.Spawn) × (count ≡ 64)
