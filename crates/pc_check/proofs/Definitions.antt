@@ -20,7 +20,7 @@ use Rattle.pc_rules.specs.Parts.{Ty, type_of, one_child}
 use Rattle.pc_rules.proofs.Alike.{looked_at}
 use Rattle.pc_rules.proofs.Slotted.{slot_known, this_known}
 use Rattle.pc_check.specs.Inference.{unwritten, slot_type, inferred_slot}
-use Rattle.pc_rules.proofs.Homes.{home, home_method}
+use Rattle.pc_core.proofs.Homes.{home, home_method}
 
 -- ---- what follows for the slot
 

@@ -18,7 +18,8 @@ use Rattle.pc_rules.specs.Rules.{Meets}
 use Rattle.pc_rules.specs.Valid.{KeepsWritten, SetsFields, Reaches, MeetsReached, NoRule, Unset, is_else}
 use Rattle.pc_rules.specs.Valid.Reaches.{body, first_child, else_branch, next_child}
 use Rattle.pc_rules.specs.Trees.{Tree, Forest, tree, empty, more, body_tree, tree_le}
-use Rattle.pc_rules.proofs.Homes.{Home, home, home_body, own_tree, children_of, children_before}
+use Rattle.pc_core.proofs.Homes.{Home, home}
+use Rattle.pc_rules.proofs.Homes.{home_body, own_tree, children_of, children_before}
 use Rattle.pc_lists.proofs.Bools.{false_true}
 use Rattle.pc_rules.proofs.Agreeing.{Agree, node_step}
 use Rattle.pc_check.specs.Laws.{OneNode, OneConstructor, OneKindOfFault}

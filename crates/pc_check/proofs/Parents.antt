@@ -12,7 +12,7 @@ use Rattle.pc_lists.proofs.Ranges.{run_within}
 use Rattle.pc_lists.proofs.Gets.{get_map}
 use Rattle.pc_core.specs.Formed.{Formed}
 use Rattle.pc_rules.specs.Trees.{Tree, Forest, tree, empty, more, body_tree}
-use Rattle.pc_rules.proofs.Homes.{home}
+use Rattle.pc_core.proofs.Homes.{home}
 use Rattle.pc_check.specs.Sources.{IsChild, Known}
 
 -- ---- parents

@@ -38,7 +38,8 @@ use Rattle.pc_check.specs.Sources.{Sourced}
 use Rattle.pc_check.specs.Inference.{inferred_slot, with_slot, with_inferred, masks_from, rules_for, or_else, first_note, is_body, lacks_field, leaves_unset}
 use Rattle.pc_check.specs.Faults.{StopsAt, LeavesUnset}
 use Rattle.pc_check.specs.Walked.{Walked}
-use Rattle.pc_rules.proofs.Homes.{home, home_method, home_body}
+use Rattle.pc_core.proofs.Homes.{home, home_method}
+use Rattle.pc_rules.proofs.Homes.{home_body}
 use Rattle.pc_check.proofs.Parents.{earlier_body}
 use Rattle.pc_check.proofs.Definitions.{slot_follows, looked_kind}
 use Rattle.pc_check.proofs.Walking.{walked_infer, reached, reaches_infer, noted, note_here, meets_noted, sets_noted, with_notes}

@@ -1,1 +1,2 @@
+pub mod Homes
 mod Keys

@@ -1,10 +1,8 @@
 -- Where the program of a core begins.
 use Rattle.std.proofs.Common.{◌≡◌, ℕ, ◌+◌, ◌<◌, Bool, true, false, cond, List, [], ◌∷◌, Option, Some, None, refl, sym, ap, ◌∙◌, arith}
-use Rattle.std.specs.Prelude.{map, position, is_some, IsSome, slice_get, replicate, not}
-use Rattle.std.specs.List.{position_or_len}
+use Rattle.std.specs.Prelude.{map, is_some, IsSome, slice_get, replicate}
 use Rattle.std.specs.FinMap.{empty, get, insert, len, entries, put, get-insert, same_map, len-empty, len-entries, entries-insert}
 use Rattle.std.specs.Ordering.{eq_by_cmp}
-use Rattle.std.proofs.lemmas.List.{length-map}
 use Rattle.pc_heap.specs.Addresses.{addresses_total}
 use Rattle.pc_heap.specs.Heaps.{object_limit}
 use Rattle.pc_heap.specs.Objects.{address_cmp, ObjectMap, field_at, field_in, next_address, object_in, with_field, with_value}
@@ -18,15 +16,6 @@ use Rattle.pc_semantics.specs.Configurations.{own_address, environment_address, 
 use Rattle.pc_machine.specs.States.{Peopled, IsPeopled}
 use Rattle.pc_machine.proofs.Peopling.{exact_addresses, len_grows, peopled_actor, peopled_none, peopled_object}
 use Rattle.pc_lists.proofs.Cuts.{without_length}
-
--- ---- places in a mapped list
-
-len_named : {A B : Type 0} → (p : B → Bool) (f : A → B) (xs : List A) → position_or_len p (map f xs) ≡ position_or_len (λ x. p (f x)) xs
-len_named p f [] = refl
-len_named p f (x ∷ xs) = ap (λ n. cond (not (p (f x))) (1 + n) 0) (len_named p f xs)
-
-pub position_named : {A B : Type 0} → (p : B → Bool) (f : A → B) (xs : List A) → position p (map f xs) ≡ position (λ x. p (f x)) xs
-position_named p f xs = rw (len_named p f xs, length-map) refl
 
 -- ---- maps, as rules to compute with
 

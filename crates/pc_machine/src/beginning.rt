@@ -1,8 +1,7 @@
 //! Where the program of a core begins.
-ghost use Rattle.std.specs.Prelude.{◌≡◌, ◌<◌, ◌∷◌, [], position, Some, IsSome, IfOk, OnOk};
+ghost use Rattle.std.specs.Prelude.{◌≡◌, ◌<◌, ◌∷◌, [], Some, IsSome, IfOk, OnOk};
 ghost use Rattle.pc_heap.specs.declared.value.Value.TheVariants.{At};
 ghost use Rattle.std.specs.FinMap.{empty, insert, len};
-ghost use Rattle.std.specs.Str.{bytes_eq};
 ghost use Rattle.pc_heap.specs.Heaps.{object_limit};
 ghost use Rattle.pc_heap.specs.Objects.{field_at, next_address, with_value};
 ghost use Rattle.pc_semantics.specs.Configurations as spec;
@@ -13,59 +12,15 @@ use crate::arguments::message_of;
 use crate::lookups::fields_of;
 use crate::state::State;
 use pc_caps::List;
-use pc_core::{Core, EntityDef};
+use pc_core::Core;
 use pc_heap::{Address, Heap, Value};
+use pc_semantics::main_create;
 use std::alloc::{AllocError, Global};
 
 /// The numbers of the entities of the environment and of the stream.
 const ENVIRONMENT: u32 = 4;
 
 const STREAM: u32 = 5;
-
-// The place of a text among these.
-fn place_of(texts: &[List<u8>], text: &[u8]) -> Option<usize>
-    ensures { result ≡ position (bytes_eq text.now) texts.now }
-{
-    texts.iter().position(|other| text == other.as_slice())
-}
-
-// The number of the name with this text.
-fn name_of(core: &Core, text: &[u8]) -> Option<u32>
-    ensures { result ≡ position (bytes_eq text.now) core.now.names }
-{
-    core.formed();
-    let place = place_of(core.names(), text)?;
-    Some(place as u32)
-}
-
-// The place of the entity of a name among these.
-fn place_named(entities: &[EntityDef], name: &[u8]) -> Option<usize>
-    ensures { result ≡ position (λ x. bytes_eq name.now x.name) entities.now }
-{
-    entities
-        .iter()
-        .position(|entity| name == entity.name.as_slice())
-}
-
-// The number of the entity of this name.
-#[tactic(auto, using(crate::proofs::Starting::position_named))]
-fn entity_named(core: &Core, name: &[u8]) -> Option<u32>
-    ensures { result ≡ spec.entity_named core.now name.now }
-{
-    core.formed();
-    let place = place_named(core.entities(), name)?;
-    Some(place as u32)
-}
-
-// The entity Main and its constructor `create`, by their numbers.
-fn main_create(core: &Core) -> Option<(u32, u32)>
-    ensures { result ≡ spec.main_create core.now }
-{
-    let main = entity_named(core, b"Main")?;
-    let name = name_of(core, b"create")?;
-    let create = core.method(main, name)?;
-    Some((main, create))
-}
 
 // An object of an entity, without field values, made by an actor.
 fn add_object(core: &Core, heap: &mut Heap, maker: u32, entity: u32) -> Result<Address, AllocError>

@@ -70,7 +70,7 @@ methods_in k (m ∷ ms) ts h = moved h.2 (both (method_in k m h.0 h.3) (methods_
 
 -- ---- entities
 
-entity_in : (e : t.Entity) (ts : List Token) → SpellsEntity e ts → Among (places e) ts
+pub entity_in : (e : t.Entity) (ts : List Token) → SpellsEntity e ts → Among (places e) ts
 entity_in e ts h =
     moved h.7 (after (past h.2 (put h.10.1 (both (provides_in e.provides h.3 h.11) (past h.4 (both (fields_in e.fields h.5 h.13) (methods_in e.kind e.methods h.6 h.14)))))))
 

@@ -30,7 +30,8 @@ use Rattle.pc_semantics.specs.Children.{evaluations}
 use Rattle.pc_semantics.specs.Evaluation.{children_first, first_then, items}
 use Rattle.pc_rules.specs.Parts.{Ty, Masks, lower, before, after, through, type_of, last_child}
 use Rattle.pc_rules.specs.Control.{joined, gives, result_ok}
-use Rattle.pc_rules.proofs.Homes.{home, home_body, home_method, children_before}
+use Rattle.pc_core.proofs.Homes.{home, home_method}
+use Rattle.pc_rules.proofs.Homes.{home_body, children_before}
 use Rattle.pc_lists.proofs.Bools.{false_true}
 use Rattle.pc_types.proofs.Tasks.{Within, is_lazy}
 use Rattle.pc_regions.proofs.World.{World}

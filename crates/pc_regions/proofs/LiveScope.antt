@@ -27,7 +27,8 @@ use Rattle.pc_rules.specs.Rules.{said_by}
 use Rattle.pc_rules.proofs.ByNumber.{says, Meets}
 use Rattle.pc_rules.proofs.OneRule.{body_rule}
 use Rattle.pc_rules.specs.Statements.{Defines}
-use Rattle.pc_rules.proofs.Homes.{home, own_tree, children_of, children_before}
+use Rattle.pc_core.proofs.Homes.{home}
+use Rattle.pc_rules.proofs.Homes.{own_tree, children_of, children_before}
 use Rattle.pc_rules.specs.Trees.{Tree, Forest, tree, empty, more, body_tree, tree_le}
 use Rattle.pc_regions.proofs.StackForms.{SlotsShallow, LiveShallow}
 use Rattle.pc_types.proofs.Needs.{Needs, IsChild}

@@ -34,7 +34,7 @@ use Rattle.pc_rules.specs.Rules.{says, said_by, Meets}
 use Rattle.pc_rules.specs.Valid.{KeepsWritten}
 use Rattle.pc_lists.proofs.Bools.{false_true}
 use Rattle.pc_rules.proofs.OneRule.{is_rule_at, define_rule, body_rule}
-use Rattle.pc_rules.proofs.Homes.{home, home_method}
+use Rattle.pc_core.proofs.Homes.{home, home_method}
 use Rattle.pc_rules.proofs.Bridge.{by_number}
 use Rattle.pc_rules.proofs.Alike.{LooksAlike, slot_same, says_same, type_same, at_one}
 use Rattle.pc_rules.proofs.Slotted.{slot_known, this_known}

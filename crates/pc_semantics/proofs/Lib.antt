@@ -5,3 +5,4 @@ mod Computed
 mod Unmoved
 mod Pending
 mod Held
+mod Named

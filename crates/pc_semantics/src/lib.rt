@@ -12,6 +12,7 @@
 mod access;
 mod actors;
 mod arguments;
+mod first;
 mod frames;
 mod laws;
 mod mailbox;
@@ -23,6 +24,7 @@ mod tasks;
 pub use access::Access;
 pub use actors::Actor;
 pub use arguments::Arguments;
+pub use first::main_create;
 pub use frames::{Frame, Task};
 pub use laws::{
     a_constructor_sets_its_fields, a_spawned_actor_has_its_message, a_text_may_be_too_long,

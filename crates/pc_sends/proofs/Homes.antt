@@ -2,16 +2,17 @@
 use Rattle.std.specs.Prelude.{◌≡◌, ℕ, zero, suc, ◌+◌, ◌-◌, ◌<◌, ◌≤◌, List, [], ◌∷◌, ◌++◌, length, Option, Some, None, slice_get, refl}
 use Rattle.std.proofs.Common.{inl, inr, ap, sym, subst, ◌∙◌, arith}
 use Rattle.std.proofs.lemmas.Option.{same_Some, none-some}
-use Rattle.pc_lists.proofs.Gets.{get_below, get_front, get_push, get_append, get_map, map_get, get_range, range_get}
+use Rattle.pc_lists.proofs.Gets.{get_below, get_front, get_push, get_append, get_map, get_range, range_get}
 use Rattle.pc_core.specs.declared.declarations.Method.{Method}
 use Rattle.pc_core.specs.declared.nodes.Node.{Node}
 use Rattle.pc_core.specs.CoreData.{CoreData}
 use Rattle.pc_lists.specs.Places.{Each}
 use Rattle.pc_core.specs.Lookup.{own_nodes, node_end}
-use Rattle.pc_core.specs.Methods.{PostOrder, BodyFits}
+use Rattle.pc_core.specs.Methods.{PostOrder}
 use Rattle.pc_core.specs.Growing.{children_before}
-use Rattle.pc_lists.proofs.Ranges.{run_within, run_around}
+use Rattle.pc_lists.proofs.Ranges.{run_within}
 use Rattle.pc_core.specs.Formed.{Formed}
+use Rattle.pc_core.proofs.Homes.{Home, between, home}
 
 -- Node n, if there is one, is of method m.
 abbrev pub NodeIn : CoreData → ℕ → ℕ → Type 0
@@ -35,40 +36,6 @@ children_from a n (y ∷ ys) waiting last p l b (suc i) x e =
     let front : Each (λ i c. a ≤ c) p.0 = λ j d g. b j d (ap (λ ws. slice_get ws j) p.1 ∙ get_front p.0 y.children j d g) in
     let next : a ≤ n + 1 = omega (arith, l) in
     children_from a (n + 1) ys (p.0 ++ n ∷ []) last p.2 next (from_next a n p.0 l front) i x e
-
--- The method with a body in which node n stands.
-record Home (core : CoreData) (n : ℕ) : Type 0 where
-  number : ℕ
-  method : Method
-  is_method : slice_get core.methods number ≡ Some method
-  body : ℕ
-  is_body : method.body ≡ Some body
-  fits : BodyFits core number method body
-  from : method.first_node ≤ n
-  to : n ≤ body
-
-home_in : (core : CoreData) (n i : ℕ) (f : Method) (o : Option ℕ) → Formed core → slice_get core.methods i ≡ Some f → f.body ≡ o → f.first_node ≤ n → n < f.first_node + (node_end f.first_node o - f.first_node) → Home core n
-home_in core n i f None formed g e l h = absurd (omega (arith, l, h))
-home_in core n i f (Some b) formed g e l h =
-    let fit = (formed.methods i f g).body b e in
-    let from = fit.from in
-    record { number = i; method = f; is_method = g; body = b; is_body = e; fits = fit; from = l; to = omega (arith, from, h) }
-
-home : (core : CoreData) (n : ℕ) → Formed core → n < length core.nodes → Home core n
-home core n formed l =
-    let r = run_around 0 _ (length core.nodes) n formed.nodes_follow (omega arith) l in
-    let q = map_get (λ (x : Method). (x.first_node, node_end x.first_node x.body - x.first_node)) core.methods r.0 r.1 r.2 in
-    let f = q.0 in
-    let low : f.first_node ≤ n = subst (λ (z : ℕ × ℕ). z.0 ≤ n) (sym q.2) r.3 in
-    let high : n < f.first_node + (node_end f.first_node f.body - f.first_node) = subst (λ (z : ℕ × ℕ). n < z.0 + z.1) (sym q.2) r.4 in
-    home_in core n r.0 f f.body formed q.1 refl low high
-
--- A node between the first one of a method and its body is of the method.
-between : (core : CoreData) (m b n : ℕ) (f : Method) (y : Node) → f.body ≡ Some b → BodyFits core m f b → f.first_node ≤ n → n ≤ b → slice_get core.nodes n ≡ Some y → y.method ≡ m
-between core m b n f y has fits from to at =
-    let end : node_end f.first_node f.body ≡ b + 1 = ap (node_end f.first_node) has in
-    let last : n < node_end f.first_node f.body = omega (arith, end, to) in
-    fits.own (n - f.first_node) y (range_get core.nodes f.first_node (node_end f.first_node f.body) n y from last at)
 
 home_children : (core : CoreData) (n : ℕ) (x : Node) (h : Home core n) → slice_get core.nodes n ≡ Some x → Each (λ i c. NodeIn core x.method c) x.children
 home_children core n x h at i c e y is =

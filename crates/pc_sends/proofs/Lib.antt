@@ -11,7 +11,6 @@ pub mod Tasks
 pub mod Covers
 pub mod There
 pub mod Closing
-pub mod Named
 pub mod Sent
 pub mod Tabled
 pub mod Small

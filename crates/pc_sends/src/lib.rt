@@ -9,7 +9,6 @@
 
 mod calls;
 mod conforming;
-mod first;
 mod found;
 mod laws;
 mod messages;

@@ -5,12 +5,12 @@ ghost use Rattle.pc_semantics.specs.Configurations as beginning;
 ghost use Rattle.pc_sends.specs.Reach.{Sends};
 ghost use Rattle.pc_sends.specs.Tables as spec;
 
-use crate::first::main_create;
 use crate::found::Found;
 use crate::messages::is_message;
 use crate::table::Row;
 use pc_caps::List;
 use pc_core::Core;
+use pc_semantics::main_create;
 use pc_tree::EntityKind;
 use std::alloc::{AllocError, Global};
 

@@ -5,10 +5,10 @@ ghost use Rattle.pc_sends.specs.Entities.{ListsMayBe};
 ghost use Rattle.pc_sends.specs.Growth.{Grown};
 ghost use Rattle.pc_sends.specs.Reached as spec;
 
-use crate::first::main_create;
 use crate::found::Found;
 use crate::walk::{Noted, Walk};
 use pc_core::Core;
+use pc_semantics::main_create;
 use std::alloc::{AllocError, Global};
 
 // The method with which the program begins is found.

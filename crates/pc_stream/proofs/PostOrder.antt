@@ -11,7 +11,8 @@ use Rattle.pc_core.specs.CoreData.{CoreData}
 use Rattle.pc_core.specs.Lookup.{node_end}
 use Rattle.pc_core.specs.Methods.{PostOrder}
 use Rattle.pc_core.specs.Formed.{Formed}
-use Rattle.pc_rules.proofs.Homes.{Home, home, home_body}
+use Rattle.pc_core.proofs.Homes.{Home, home}
+use Rattle.pc_rules.proofs.Homes.{home_body}
 use Rattle.pc_stream.specs.Waiting.{Waits, start, next, body}
 use Rattle.pc_stream.specs.Laws.{ChildrenWaitLast}
 

@@ -33,7 +33,8 @@ use Rattle.pc_rules.specs.Control.{joined, gives, result_ok}
 use Rattle.pc_rules.proofs.ByNumber.{body_says}
 use Rattle.pc_rules.specs.Rules.{said_by}
 use Rattle.pc_rules.proofs.Agreeing.{same_mask}
-use Rattle.pc_rules.proofs.Homes.{home, home_method, home_body}
+use Rattle.pc_core.proofs.Homes.{home, home_method}
+use Rattle.pc_rules.proofs.Homes.{home_body}
 use Rattle.pc_lists.proofs.Bools.{false_true}
 use Rattle.pc_types.proofs.Types.{LowerType, Lower, Want, wanted}
 use Rattle.pc_types.proofs.Tasks.{Within, want_of, stacked, EvalOk, is_lazy, ReturnOk, TasksOk}

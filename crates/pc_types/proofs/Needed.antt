@@ -21,7 +21,8 @@ use Rattle.pc_core.specs.Nodes.{NamesFit, NamesLocal, NamesSlot}
 use Rattle.pc_core.specs.Formed.{Formed}
 use Rattle.pc_ann.specs.declared.annotation.Ann.{Ann}
 use Rattle.pc_rules.proofs.ByNumber.{slot_of}
-use Rattle.pc_rules.proofs.Homes.{Home, home, home_method, children_before}
+use Rattle.pc_core.proofs.Homes.{Home, home, home_method}
+use Rattle.pc_rules.proofs.Homes.{children_before}
 use Rattle.pc_lists.proofs.Bools.{false_true}
 use Rattle.pc_rules.specs.Valid.{Valid}
 use Rattle.pc_types.proofs.Needs.{IsChild, Needs}

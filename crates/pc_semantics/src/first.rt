@@ -41,8 +41,8 @@ fn entity_named(core: &Core, name: &[u8]) -> Option<u32>
     Some(place as u32)
 }
 
-/// The entity Main and its constructor `create`, by their numbers.
-pub(crate) fn main_create(core: &Core) -> Option<(u32, u32)>
+/// The entity Main and its constructor `create`, by their numbers, where the core has both: with these the program begins.
+pub fn main_create(core: &Core) -> Option<(u32, u32)>
     ensures { result ≡ spec.main_create core.now }
 {
     let main = entity_named(core, b"Main")?;
