@@ -106,23 +106,6 @@ index_up core list a j (suc r) =
 pub index_rises : (core : CoreData) (list : List ℕ) (a j k : ℕ) → j ≤ k → index core list a j ≤ index core list a k
 index_rises core list a j k l = let e : j + (k - j) ≡ k = omega (arith, l) in subst (λ (n : ℕ). index core list a j ≤ index core list a n) e (index_up core list a j (k - j))
 
--- An event is counted behind it.
-pub index_counts : (core : CoreData) (list : List ℕ) (a q k : ℕ) → Event core list q a → q < k → suc (index core list a q) ≤ index core list a k
-index_counts core list a q k e l =
-    let next : suc q ≤ k = omega (arith, l) in
-    subst (λ (n : ℕ). n ≤ index core list a k) (index_event core list a q e) (index_rises core list a (suc q) k next)
-
--- Of two events of an actor the one that is counted first is not later.
-pub index_order : (core : CoreData) (list : List ℕ) (a q e : ℕ) → index core list a q < index core list a (suc e) → q ≤ e
-index_order core list a q e l =
-    elim (leb_tells q e) [
-      | inl s ↦ s.1
-      | inr s ↦ absurd (apart _ _ l (index_rises core list a (suc e) q s.1))
-    ]
-  where
-    apart : (x y : ℕ) → x < y → y ≤ x → ⊥
-    apart x y p q = omega (arith, p, q)
-
 -- ---- the places of an actor's events
 
 abbrev pub events_of : CoreData → List ℕ → ℕ → ℕ → List ℕ

@@ -15,7 +15,3 @@ last_link core list p q (carried r s c) = (p, inr c, inl refl)
 last_link core list p q (chain r s t a b) =
     let k = last_link core list s q b in
     (k.0, k.1, inr (elim k.2 [ inl e ↦ subst (λ (z : ℕ). Before core list p z) e a | inr c ↦ chain p s k.0 a c ]))
-
-pub link_before : (core : CoreData) (list : List ℕ) (p q : ℕ) → Link core list p q → Before core list p q
-link_before core list p q (inl k) = own k.0 p q k.1 k.2 k.3
-link_before core list p q (inr c) = carried p q c

@@ -12,7 +12,7 @@ use Rattle.pc_ahead.specs.declared.ahead.Ahead.TheVariants as ahead
 use Rattle.pc_ahead.specs.Ahead.{ahead_of}
 use Rattle.pc_change.proofs.Changes.{applied}
 use Rattle.pc_change.proofs.Plans.{plans}
-use Rattle.pc_change.proofs.Told.{Told, told}
+use Rattle.pc_change.proofs.Told.{told}
 use Rattle.pc_before.specs.Before.{at_place, Event, is_take, receiver_by, receiver_of, takes_one, taken_before, waiting_of, waiting}
 use Rattle.pc_before.proofs.Outcomes.{turn, skipped_next}
 use Rattle.pc_before.proofs.Closed.{Live, moved_next, skipped_behind}

@@ -187,10 +187,6 @@ record Somewhere (z e : ℕ) (xs : List Node) : Type 0 where
   defines : definition.kind ≡ node.Define z
   deep : definition.depth ≡ e
 
-abbrev IsYes : Bool → Type 0
-IsYes true = Unit {0}
-IsYes false = ⊥
-
 and_false : (a b : Bool) → b ≡ false → (a && b) ≡ false
 and_false true b h = h
 and_false false b h = refl

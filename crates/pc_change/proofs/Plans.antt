@@ -6,7 +6,7 @@ use Rattle.std.specs.FinMap.{insert}
 use Rattle.pc_lists.proofs.Gets.{get_within}
 use Rattle.pc_heap.specs.Objects.{ObjectMap, with_value}
 use Rattle.pc_heap.specs.declared.value.Value.{Value}
-use Rattle.pc_heap.specs.declared.value.Value.TheVariants.{Text, Prim, At}
+use Rattle.pc_heap.specs.declared.value.Value.TheVariants.{Text, At}
 use Rattle.pc_core.specs.CoreData.{CoreData}
 use Rattle.pc_core.specs.declared.declarations.Method.{Method}
 use Rattle.pc_semantics.specs.declared.actors.Actor.{Actor}

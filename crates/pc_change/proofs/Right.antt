@@ -9,7 +9,7 @@ use Rattle.pc_heap.specs.Objects.{ObjectMap, class_in, class_at, next_address}
 use Rattle.pc_heap.specs.declared.value.Address.{Address}
 use Rattle.pc_heap.specs.Object.{Object}
 use Rattle.pc_heap.specs.declared.value.Value.{Value}
-use Rattle.pc_heap.specs.declared.value.Value.TheVariants.{Prim, At}
+use Rattle.pc_heap.specs.declared.value.Value.TheVariants.{At}
 use Rattle.pc_core.specs.Lookup.{field_named, method_named}
 use Rattle.pc_lists.specs.Options.{◌>>=◌}
 use Rattle.pc_core.specs.CoreData.{CoreData}

@@ -8,7 +8,7 @@ use Rattle.pc_heap.specs.Objects.{ObjectMap, next_address}
 use Rattle.pc_heap.specs.declared.value.Address.{Address}
 use Rattle.pc_heap.specs.Object.{Object}
 use Rattle.pc_heap.specs.declared.value.Value.{Value}
-use Rattle.pc_heap.specs.declared.value.Value.TheVariants.{Text, Prim}
+use Rattle.pc_heap.specs.declared.value.Value.TheVariants.{Text}
 use Rattle.pc_lists.specs.Options.{◌>>=◌}
 use Rattle.pc_core.specs.CoreData.{CoreData}
 use Rattle.pc_core.specs.declared.declarations.Method.{Method}

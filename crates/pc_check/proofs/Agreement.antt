@@ -41,9 +41,6 @@ use Rattle.pc_check.proofs.Filling.{low_at, tree_at, low_next, low_behind}
 first_tree : (core : CoreData) (low high c : ℕ) (cs : List ℕ) → Forest core low high (c ∷ cs) → Tree core low c
 first_tree core low high c cs (more t f) = t
 
-other_trees : (core : CoreData) (low high c : ℕ) (cs : List ℕ) → Forest core low high (c ∷ cs) → Forest core (c + 1) high cs
-other_trees core low high c cs (more t f) = f
-
 row_end : (core : CoreData) (low high : ℕ) → Forest core low high [] → low ≡ high
 row_end core low high empty = refl
 

@@ -129,16 +129,6 @@ range_next piece at stop l m =
     ap (λ n. take n (drop at piece)) count ∙ take_next (drop at piece) (stop - at) (omega (arith, size, l, m))
     ∙ ap (λ b. slice_range piece at stop ++ b ∷ []) (get_drop piece at (stop - at) ∙ ap (λ k. get_or piece k 0) place)
 
-pub quiet_start : (old : Taken) (piece : List ℕ) (at : ℕ) → at ≤ length piece → old.fault ≡ None → Quiet old piece at at old
-quiet_start old piece at l none =
-    record {
-      from = omega arith;
-      to = l;
-      taken = ap (fed old) (range_none piece at);
-      none = subst NoEnd (sym (range_none piece at)) tt;
-      right = none;
-    }
-
 module _ (old : Taken) (piece : List ℕ) (at stop : ℕ) (now : Taken) (so : Quiet old piece at stop now) (within : stop < length piece) where
   byte : ℕ
   byte = get_or piece stop 0

@@ -71,9 +71,6 @@ mask_reads end apart = record {
       bind_own (number_at 16 (2 ^ 64 - 1) end (mask_text m ++ (end ∷ rest))) (λ n. Some (mask_of n.0, n.1)) (m.0, rest) (Some (m, rest)) (number_own 16 (2 ^ 64 - 1) end sixteen (omega arith) apart m.0 rest (omega (arith, small))) refl;
 }
 
-rule_reads : Reads rule_at (λ x rest. rule_name x ++ (32 ∷ rest)) (λ x. ⊤)
-rule_reads = record { sound = λ bytes x rest e. (tt, rule_sound bytes x rest e); own = λ x rest f. rule_own x rest }
-
 cap_reads : Reads cap_at (λ x rest. cap_name x ++ (10 ∷ rest)) (λ x. ⊤)
 cap_reads = record { sound = λ bytes x rest e. (tt, cap_sound bytes x rest e); own = λ x rest f. cap_own x rest }
 

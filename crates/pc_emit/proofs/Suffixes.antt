@@ -110,9 +110,6 @@ before_args c ss left gs gp l h = λ sc d s origin es sp.
 
 -- ---- how a chain begins
 
-pub begins_with_value : (c : Context) (ss : List t.Suffix) → Begins c with_value ss begins.Value
-begins_with_value c ss = λ sc d s u origin. refl
-
 pub begins_with_nothing : (c : Context) (ss : List t.Suffix) → Begins c (with_type no_value) ss begins.Value
 begins_with_nothing c [] = λ sc d s u origin. refl
 begins_with_nothing c (t.args es sp ∷ ss) = λ sc d s u origin. refl
@@ -196,10 +193,6 @@ begins_behind_name c a cs n ss h = by (is_args (slice_get ss 1)) refl
     by : (b : Bool) → is_args (slice_get ss 1) ≡ b → Begins c (with_type (created a cs)) ss (if b then object a (constructor_named cs n.text) 1 else begins.Value)
     by true g = begins_with_named c a cs n ss h g
     by false g = begins_with_object c a cs n ss h g
-
-pub begins_bare : (c : Context) (a : Bool) (cs : List Constructor) (ss : List t.Suffix) → slice_get ss 0 ≡ None → Begins c (with_type (created a cs)) ss begins.Value
-begins_bare c a cs [] h = λ sc d s u origin. refl
-begins_bare c a cs (x ∷ ss) h = absurd (none-some x (sym h))
 
 -- A test of what stands at a place.
 pub tested_some : (f : Option t.Suffix → Bool) (xs : List Suffix) (i : ℕ) (x : Suffix) → slice_get xs i ≡ Some x → f (Some (suffix_view x)) ≡ f (slice_get (map suffix_view xs) i)

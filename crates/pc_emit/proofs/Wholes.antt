@@ -1,15 +1,13 @@
 -- The parts of a body, one after the other.
-use Rattle.std.proofs.Common.{◌≡◌, ℕ, List, [], ◌∷◌, ◌++◌, Bool, true, false, Some, None, Err, refl, ap, ◌∙◌, sym, append_assoc}
+use Rattle.std.proofs.Common.{◌≡◌, ℕ, List, [], ◌∷◌, ◌++◌, Bool, true, false, Some, None, refl, ap, ◌∙◌, sym, append_assoc}
 use Rattle.pc_caps.specs.declared.span.Span.{Span}
 use Rattle.pc_core.specs.declared.nodes.Node.{Node}
 use Rattle.pc_core.specs.declared.nodes.NodeKind.TheVariants as node
 use Rattle.pc_body_spec.specs.Roses.{Rose, Roses, more, Numbered, and_then, put, puts, push}
 use Rattle.pc_body_spec.specs.Expressions.{sequence, added_none}
 use Rattle.pc_body_spec.specs.Bodies.{body_around, none_last}
-use Rattle.pc_emit.specs.declared.stop.EmitStop.{EmitStop}
 use Rattle.pc_emit.specs.declared.stop.EmitStop.TheVariants as stop
-use Rattle.pc_emit.specs.Giving.{Gives}
-use Rattle.pc_emit.specs.Closing.{LeadsOn, behind_tops, ends_with, body_closes, seq_closes}
+use Rattle.pc_emit.specs.Closing.{behind_tops, ends_with, body_closes, seq_closes}
 use Rattle.pc_emit.proofs.Walks.{assoc, just, one_part, and_last_put, sequence_is}
 
 pub behind_none : (o : Numbered (List ℕ)) → behind_tops [] o ≡ o
@@ -42,7 +40,3 @@ none_is false m s rs ns = just (puts m rs ns)
 pub body_on : (m : ℕ) (name s : Span) (all rest : Roses) (first : List ℕ) (ns n1 : List Node) → puts m all ns ≡ behind_tops first (puts m rest n1)
     → put m (body_around name s all) ns ≡ and_then (puts m rest n1) (λ own. body_closes m 0 name s (first ++ own))
 body_on m name s all rest first ns n1 h = body_is m name s all ns ∙ ap (λ o. and_then o (body_closes m 0 name s)) h ∙ behind_then first (puts m rest n1) (body_closes m 0 name s)
-
-pub leads_stops : {A : Type 0} (e : EmitStop) (ns n2 : List Node) (rest : List Node → Numbered (List ℕ)) (want : Numbered (List ℕ)) (f : List ℕ → List Node → Numbered A) (whole : Numbered A) → LeadsOn (Err e) ns rest want → whole ≡ and_then want f → Gives (Err e) n2 whole
-leads_stops stop.Full ns n2 rest want f whole h w = w ∙ ap (λ o. and_then o f) h
-leads_stops stop.Memory ns n2 rest want f whole h w = tt

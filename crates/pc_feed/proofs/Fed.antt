@@ -1,7 +1,6 @@
 -- A stream behind its pieces.
-use Rattle.std.specs.Prelude.{◌≡◌, ℕ, false, List, [], ◌++◌, Option, Ok, Err, refl}
-use Rattle.std.proofs.Common.{inl, inr, ap, sym, subst, ◌∙◌, arith}
-use Rattle.std.proofs.lemmas.Bool.{true≢false}
+use Rattle.std.specs.Prelude.{◌≡◌, ℕ, List, [], ◌++◌, Option, Ok, Err, refl}
+use Rattle.std.proofs.Common.{ap, sym, subst, ◌∙◌, arith}
 use Rattle.pc_core.specs.CoreData.{CoreData}
 use Rattle.pc_ann.specs.declared.annotation.Ann.{Ann}
 use Rattle.pc_stream.specs.Waiting.{start}
@@ -17,7 +16,7 @@ use Rattle.pc_feed.specs.declared.reading.Reading.{Reading}
 use Rattle.pc_feed.specs.Lines.{lines_in}
 use Rattle.pc_feed.specs.Asked.{Grew}
 use Rattle.pc_feed.specs.Feeding.{Answer, Feeds, EndsSo}
-use Rattle.pc_feed.specs.Streams.{no_line, NothingWrong, Judged, ReadSo, MayFeed}
+use Rattle.pc_feed.specs.Streams.{no_line, NothingWrong, Judged, ReadSo}
 use Rattle.pc_feed.specs.Steps.{Went, PieceTaken, JudgedSo, nothing_judged, nothing_read}
 use Rattle.pc_feed.proofs.Told.{grew_of, grew_part_of}
 
@@ -56,18 +55,6 @@ pub feeds_at : (core k : CoreData) (bytes piece : List ℕ) (old new : Reading) 
     → Feeds core bytes piece (record { core = k; reading = new }) a b r
 feeds_at core k bytes piece old new a b r e read take =
     feeds_by core k bytes piece old new a b r e read (subst (λ q. PieceTaken q bytes piece old new a b r) e (take (subst (λ q. ReadSo q bytes old) (sym e) read)))
-
--- Behind a piece a stream may be fed again.
-pub may_feed_by : (core : CoreData) (bytes piece : List ℕ) (old new : Reading) (a b : Option Pairs) (r : Answer) → PieceTaken core bytes piece old new a b r → MayFeed core new
-may_feed_by core bytes piece old new a b (Ok v) h = inl (bytes ++ piece, h.0.reads)
-may_feed_by core bytes piece old new a b (Err (fault.Text f)) h = inl (bytes ++ piece, h.0.reads)
-may_feed_by core bytes piece old new a b (Err (fault.Invalid f)) h = absurd h
-may_feed_by core bytes piece old new a b (Err fault.Memory) h = inr h.spent
-
--- A stream of which memory did not run out was fed some bytes.
-pub was_fed : (core : CoreData) (r : Reading) → MayFeed core r → r.spent ≡ false → (bytes : List ℕ) × ReadSo core bytes r
-was_fed core r (inl h) e = h
-was_fed core r (inr s) e = absurd (true≢false (sym s ∙ e))
 
 -- ---- the end
 

@@ -17,7 +17,7 @@ use Rattle.pc_feed.specs.Asked.{IsAsked, Grew}
 use Rattle.pc_feed.specs.Laws.{OneIsAsked}
 use Rattle.pc_feed.specs.Feeding.{Feeds, EndsSo}
 use Rattle.pc_feed.specs.Streams.{StreamData, IsFed}
-use Rattle.pc_feed.specs.Parts.{part_size, file_limit, Asks, FileJudged, PartsRead, AllRead, PartFed, IsPartAt, NoPart, Size, PartTaken, PartsEnd}
+use Rattle.pc_feed.specs.Parts.{part_size, file_limit, Asks, FileJudged, PartsRead, AllRead, PartFed, IsPartAt, Size, PartTaken, PartsEnd}
 
 -- ---- what the referee is asked
 
@@ -46,14 +46,6 @@ part_stopped core told from bytes part before now taken new a b fault.TooLong h 
 part_stopped core told from bytes part before now taken new a b (fault.Text f) h = absurd h
 part_stopped core told from bytes part before now taken new a b (fault.Invalid f) h = absurd h
 part_stopped core told from bytes part before now taken new a b fault.Memory h = tt
-
-pub no_part : (core : CoreData) (told : Option (List ℕ)) (from : ℕ) (bytes : List ℕ) (before now taken : ℕ) (new : StreamData) (a b : Option Pairs) (f : DerivationFault)
-    → NoPart before now f → PartTaken core told from bytes before now taken new a b (Err f)
-no_part core told from bytes before now taken new a b fault.Failed h = h
-no_part core told from bytes before now taken new a b fault.TooLong h = absurd h
-no_part core told from bytes before now taken new a b (fault.Text f) h = absurd h
-no_part core told from bytes before now taken new a b (fault.Invalid f) h = absurd h
-no_part core told from bytes before now taken new a b fault.Memory h = tt
 
 -- how many bytes of the file there are where a part has this many
 part_length : (from : ℕ) (t part : List ℕ) → part ≡ take part_size (drop from t) → length part ≡ min part_size (length t - from)
@@ -185,13 +177,6 @@ pub part_of_same : (core : CoreData) (told later : Option (List ℕ)) (from : �
 part_of_same core told later from bytes before now taken new a b r e h = subst (λ (o : Option (List ℕ)). PartTaken core o from bytes before now taken new a b r) e h
 
 -- ---- the end
-
-pub judged_stopped : (core : CoreData) (told : Option (List ℕ)) (before now taken : ℕ) (new : StreamData) (a b : Option Pairs) (f : DerivationFault) → PartsEnd core told before now taken new a b (Err f) → FileJudged core told before now taken a b (Err f)
-judged_stopped core told before now taken new a b fault.Failed h = h
-judged_stopped core told before now taken new a b fault.TooLong h = h
-judged_stopped core told before now taken new a b (fault.Text f) h = absurd h
-judged_stopped core told before now taken new a b (fault.Invalid f) h = absurd h
-judged_stopped core told before now taken new a b fault.Memory h = tt
 
 pub text_judged : (core : CoreData) (told : Option (List ℕ)) (before now taken : ℕ) (s : StreamData) (a b : Option Pairs) (f : LineFault) (x : StreamFault) → x ≡ stream.Text f → AllRead core told s a b → ((bytes : List ℕ) → IsFed core bytes s → EndsSo core bytes (Err x))
     → FileJudged core told before now taken a b (Err (fault.Text f))

@@ -18,7 +18,3 @@ grew_on old mid new None b c h k = subst (λ (o : Option Pairs). GrewBy mid new 
 grew_on old mid new (Some p) b c h k =
     let k' : GrewBy mid new (Some (p ++ h.0)) c = subst (λ (o : Option Pairs). GrewBy mid new o c) h.2 k in
     (h.0 ++ k'.0, k'.1 ∙ ap (λ x. x ++ k'.0) h.1 ∙ append_assoc old h.0 k'.0, k'.2 ∙ ap Some (append_assoc p h.0 k'.0))
-
--- the same growth, of lists that are equal
-pub grew_as : (old new old' new' : Pairs) (a b : Option Pairs) → old ≡ old' → new ≡ new' → GrewBy old new a b → GrewBy old' new' a b
-grew_as old new old' new' a b p q h = subst (λ x. GrewBy x new' a b) p (subst (λ x. GrewBy old x a b) q h)

@@ -198,12 +198,6 @@ pub record Underway (core : CoreData) (bytes piece : List ℕ) (at : ℕ) (old n
   pub within : at ≤ length piece
   pub went : Went core bytes (take at piece) old now a b
 
-pub underway_start : (core : CoreData) (bytes piece : List ℕ) (old : Reading) (a : Option Pairs) → ReadSo core bytes old → Underway core bytes piece 0 old old a a
-underway_start core bytes piece old a read = record {
-  within = omega arith;
-  went = no_line_went core bytes old read [] old.lines refl a;
-}
-
 take_range : (piece : List ℕ) (at stop : ℕ) → at ≤ stop → take at piece ++ slice_range piece at stop ≡ take stop piece
 take_range piece at stop l =
     let e : at + (stop - at) ≡ stop = omega (arith, l) in

@@ -37,9 +37,6 @@ notes_behind v a b slots notes more =
 
 -- ---- slots
 
-pub slots_of_nodes : (t : Note) (notes : List Note) (more : List Line) → slots_in (map line.Node (t ∷ notes) ++ more) ≡ []
-slots_of_nodes t notes more = refl
-
 pub slots_app : (slots : Slots) (ls : List Line) → slots_in (map slot_of slots ++ ls) ≡ slots ++ slots_in ls
 slots_app [] ls = refl
 slots_app ((e, k) ∷ slots) ls = ap (λ ts. (e, k) ∷ ts) (slots_app slots ls)
@@ -59,9 +56,6 @@ map_push f (y ∷ ys) x = ap (λ l. f y ∷ l) (map_push f ys x)
 
 pub count_push : {A : Type 0} → (xs : List A) (x : A) → length (xs ++ x ∷ []) ≡ length xs + 1
 count_push xs x = length-append xs (x ∷ [])
-
-pub push_more : {A : Type 0} → (xs : List A) (x : A) (ys : List A) → (xs ++ x ∷ []) ++ ys ≡ xs ++ x ∷ ys
-push_more xs x ys = append_assoc xs (x ∷ []) ys
 
 -- ---- numbered notes
 

@@ -49,9 +49,6 @@ names_whole v a h =
 some_names_rest : (m : Name) → Inhabited (NamesRest m)
 some_names_rest m = some_then (Listed MoreName) (λ ms. Only (m ∷ ms)) ([], [], refl) (λ ms. some_only _)
 
-some_names : Inhabited SpellsNames
-some_names = let r = some_then TypeNameAt NamesRest some_type_name some_names_rest in (r.0, r.1, names_whole r.1 r.0 r.2)
-
 abbrev ProvidedAt : List Name → List Token → Type 0
 ProvidedAt ms ts = SpellsAlone ms ts ⊎ SpellsBracketed ms ts
 

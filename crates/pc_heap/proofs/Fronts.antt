@@ -62,22 +62,6 @@ equal_behind front xs ys zs is = ap (bytes_eq (front ++ xs)) is ∙ go front
     go [] = refl
     go (n ∷ front) = ap (λ b. b && bytes_eq (front ++ xs) (front ++ zs)) (same_number n) ∙ go front
 
-pub other_front : (front xs ys : List ℕ) → ((after : List ℕ) → ys ≡ front ++ after → ⊥) → bytes_eq (front ++ xs) ys ≡ false
-other_front front xs ys other = go (bytes_eq (front ++ xs) ys) refl
-  where
-    go : (b : Bool) → bytes_eq (front ++ xs) ys ≡ b → b ≡ false
-    go true is = absurd (other xs (sym ((bytes_eq-Decides (front ++ xs) ys).0 is)))
-    go false is = refl
-
--- Nothing equals what has no length, and nothing else.
-pub equal_nothing : (ys : List ℕ) → length ys ≡ 0 → bytes_eq [] ys ≡ true
-equal_nothing [] e = refl
-equal_nothing (y ∷ ys) e = absurd (omega (arith, e))
-
-pub other_than_nothing : (ys : List ℕ) → 0 < length ys → bytes_eq [] ys ≡ false
-other_than_nothing [] e = absurd (omega (arith, e))
-other_than_nothing (y ∷ ys) e = refl
-
 -- A list more, and two.
 pub one_more : (lists : List (List ℕ)) (list : List ℕ) → concat (lists ++ list ∷ []) ≡ concat lists ++ list
 one_more lists list = concat-append lists (list ∷ []) ∙ ap (λ xs. concat lists ++ xs) (append-nil list)

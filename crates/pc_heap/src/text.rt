@@ -58,7 +58,7 @@ impl Text {
 
     /// Both texts in one, the left one first.
     ///
-    /// It takes memory for the numbers of its pieces and not for their bytes: no two pieces that follow each other have
+    /// It takes memory for the list of its pieces and not for their bytes: no two pieces that follow each other have
     /// together less than some hundred bytes, however often texts were joined.
     pub fn join(alloc: Global, left: &Text, right: &Text) -> Result<Text, AllocError>
         ensures { IfOk result (λ text. text ≡ left.now ++ right.now) }

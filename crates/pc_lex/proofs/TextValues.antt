@@ -84,15 +84,6 @@ written_one (v ∷ vs) (w ∷ ws) b h i =
     let same = writes_one h.0 i.0 h.1 i.1 v w (sym h.2 ∙ i.2) h.3 i.3 in
     ap₂ (λ x xs. x ∷ xs) same.1 (written_one vs ws h.1 h.4 (subst (λ l. Written l ws) (sym same.2) i.4))
 
--- what has a value has no bad escape
-pub never_bad : (vs ws b front back : List ℕ) → Written b vs → b ≡ front ++ back → 0 < length back → Written front ws → NoByte back → ⊥
-never_bad [] ws b front back h e some f none = omega (arith, some, ap length e, ap length h, length-append front back)
-never_bad (v ∷ vs) [] b front back h e some f none = none h.0 h.1 v (sym (ap (λ l. l ++ back) f) ∙ sym e ∙ h.2) h.3
-never_bad (v ∷ vs) (w ∷ ws) b front back h e some f none =
-    let parts : h.0 ++ h.1 ≡ f.0 ++ (f.1 ++ back) = sym h.2 ∙ e ∙ ap (λ l. l ++ back) f.2 ∙ append_assoc f.0 f.1 back in
-    let same = writes_one h.0 f.0 h.1 (f.1 ++ back) v w parts h.3 f.3 in
-    never_bad vs ws h.1 f.1 back h.4 same.2 some f.4 none
-
 -- what is written is read, whatever the turns, if they are enough
 value_step : (n : ℕ) (b one rest : List ℕ) (v : ℕ) → length b ≤ n → b ≡ one ++ rest → Writes one v → (m : ℕ) × (n ≡ suc m) × (length rest ≤ m) × (unescape_in n b ≡ with_first (v, length one) (unescape_in m rest))
 value_step zero b one rest v enough e w = let some = writes_some one v w in absurd (omega (arith, some, enough, ap length e, length-append one rest))

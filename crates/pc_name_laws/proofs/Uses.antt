@@ -13,7 +13,7 @@ use Rattle.pc_body_spec.specs.Expressions.{Start, with_method, with_type, with_v
 use Rattle.pc_body_spec.specs.Faults.{Fault, unknown, double, long_text, when, unless_some, is_taken, is_entity, name_faults, type_faults, written_faults, Next, arguments, name, end, start_faults, dot_faults}
 use Rattle.pc_body_spec.specs.Places.{written_places}
 use Rattle.pc_name_laws.specs.Uses as u
-use Rattle.pc_name_laws.specs.Uses.{Spot, Here, BehindDot, TypeIn, spot}
+use Rattle.pc_name_laws.specs.Uses.{Here, BehindDot, TypeIn, spot}
 use Rattle.pc_name_laws.specs.Missing.{IsCreated, IsPrimitive, HasConstructor, Means, IsAtFault}
 use Rattle.pc_name_laws.proofs.Telling.{Tells, no_spot, no_fault_here, fault_here, meant, missing}
 use Rattle.pc_name_laws.proofs.Meanings.{names, Answers, is_some, among, slots_answer, Says, says, Constructs, constructs, Knows, knows}

@@ -18,7 +18,7 @@ use Rattle.pc_body_spec.specs.Places.{written_places, places, exprs_places, suff
 use Rattle.pc_members.specs.Members.{Member, written, added}
 use Rattle.pc_file_spec.proofs.Steps.{member_faults}
 use Rattle.pc_name_laws.specs.Uses as u
-use Rattle.pc_name_laws.specs.Uses.{Spot, Here, BehindDot, TypeIn, type_name_of, visible_after, In, InExprs, InSuffixes, InArm, InArms, InOther, InSeq, InItems, InItem, InValue, InInitials, InBody, InMember, param_texts}
+use Rattle.pc_name_laws.specs.Uses.{Spot, Here, TypeIn, type_name_of, visible_after, In, InExprs, InSuffixes, InArm, InArms, InOther, InSeq, InItems, InItem, InValue, InInitials, InBody, InMember, param_texts}
 use Rattle.pc_name_laws.proofs.Telling.{Tells, no_spot, either, turned}
 use Rattle.pc_name_laws.proofs.Meanings.{names}
 use Rattle.pc_name_laws.proofs.Uses.{bare_tells, consumed_tells, type_tells, Begins, dot_tells, name_begins, local_tells, written_tells, literal_tells}

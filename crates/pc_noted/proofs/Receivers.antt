@@ -10,8 +10,6 @@ use Rattle.pc_core.specs.declared.nodes.Node.{Node}
 use Rattle.pc_core.specs.declared.nodes.NodeKind.{NodeKind}
 use Rattle.pc_core.specs.declared.nodes.NodeKind.TheVariants as nodes
 use Rattle.pc_core.specs.CoreData.{CoreData}
-use Rattle.pc_core.specs.Formed.{Formed}
-use Rattle.pc_rules.specs.Valid.{Valid}
 use Rattle.pc_lists.proofs.Options.{bind_some, bind_is}
 use Rattle.pc_core.specs.Nodes.{NamesPrimitive}
 use Rattle.pc_lists.proofs.Gets.{get_map}
@@ -154,9 +152,6 @@ module _ (core : CoreData) (ann : Ann) (needs : Needs core ann) where
       actor_noted c.objects i a.0 f r v (w.actors i a.0 a.1) a.2 e
 
 -- ---- over every list
-
-pub typed_is_noted : (core : CoreData) (ann : Ann) → Formed core → Valid core ann → (c : Configuration) → WellTyped core ann c → HeldAt core (entities ann) c
-typed_is_noted core ann formed valid c w = held_at core ann (needed core formed ann valid) c w
 
 pub accepted_held : AcceptedHeld
 accepted_held core ann formed valid list =

@@ -43,7 +43,7 @@ use Rattle.pc_regions.proofs.Climbed.{ClimbLaw}
 use Rattle.pc_types.proofs.Needs.{Needs}
 use Rattle.pc_types.proofs.Needed.{first_own, not_first}
 use Rattle.pc_types.proofs.Basic.{of_lower}
-use Rattle.pc_types.proofs.EvalValue.{not_zero, own_at, seen_this, slot_ok}
+use Rattle.pc_types.proofs.EvalValue.{not_zero, seen_this, slot_ok}
 use Rattle.pc_types.proofs.Places.{taken_lower}
 use Rattle.pc_types.proofs.Inverse.{Says, Used, ThisRule}
 use Rattle.pc_regions.proofs.Shifts.{others_kept, fields_kept, below_kept, shifts_none}

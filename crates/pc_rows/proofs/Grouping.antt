@@ -61,12 +61,6 @@ begins list xs t actor small n r =
 
 -- ---- at the start
 
-pub first_row : (actor : ℕ) → actor < 2 ^ 32 → RowsOf (actor ∷ []) (record { actor = actor; times = 1 } ∷ [])
-first_row actor small = record { steps = refl; rows = (omega arith, tt, tt); fit = ((small, omega arith), tt) }
-
-pub no_row : RowsOf [] []
-no_row = record { steps = refl; rows = tt; fit = tt }
-
 -- a list of which a step more was read
 pub one_more : (first : ℕ) (rest : List ℕ) (i : ℕ) (d : ℕ) (rows : List Turn) → i < length rest → RowsOf ((first ∷ take i rest) ++ get_or rest i d ∷ []) rows → RowsOf (first ∷ take (i + 1) rest) rows
 one_more first rest i d rows within r = subst (λ (l : List ℕ). RowsOf (first ∷ l) rows) (sym (take_more rest i d within)) r

@@ -1,5 +1,5 @@
 -- The tasks of a frame, from the entries that stand for them.
-use Rattle.std.proofs.Common.{◌≡◌, ℕ, ◌<◌, List, [], ◌∷◌, ◌++◌, Some, None, slice_get, take, drop, set, map, length, refl, sym, ap, ◌∙◌, arith}
+use Rattle.std.proofs.Common.{◌≡◌, ℕ, ◌<◌, List, [], ◌∷◌, ◌++◌, Some, None, slice_get, take, drop, set, map, refl, sym, ap, ◌∙◌}
 use Rattle.std.proofs.lemmas.Option.{same_Some, none-some}
 use Rattle.pc_semantics.specs.declared.frames.Task.{Task}
 use Rattle.pc_semantics.specs.declared.frames.Task.TheVariants as task
@@ -15,11 +15,6 @@ top_task (x ∷ es) e is = ap (λ z. Some z.task) (sym (same_Some x e is))
 pub no_task : (es : List Entry) → slice_get es 0 ≡ None → None ≡ slice_get (all_tasks es) 0
 no_task [] is = refl
 no_task (x ∷ es) is = absurd (none-some x (sym is))
-
--- There is an entry where there is a task.
-pub entry_there : (es : List Entry) → 0 < length (all_tasks es) → 0 < length es
-entry_there [] l = l
-entry_there (x ∷ es) l = omega arith
 
 -- The items of a sequence are the first one's evaluation and then the others, each behind a drop.
 pub items_are : (c : ℕ) (cs : List ℕ) → items (c ∷ cs) ≡ task.Eval c ∷ as_items cs

@@ -124,7 +124,3 @@ aims_call core ents k name cs e a b call is g =
     subst (λ (j : NodeKind). Grown (Aims core ents j cs) a b) (sym call)
     (grown_same (MayCall core name e) (Aims core ents (nodes.Call name) cs) a b (λ t m. (e, is, m))
     (λ t q. subst (λ (d : ℕ). MayCall core name d t) (same_Some q.0 e (sym q.1 ∙ is)) q.2) g)
-
-pub aims_unknown : (core : CoreData) (ents : List (Option ℕ)) (k : NodeKind) (name : ℕ) (cs : List ℕ) (a : List ℕ) → k ≡ nodes.Call name → noted_receiver ents cs ≡ None → Grown (Aims core ents k cs) a a
-aims_unknown core ents k name cs a call is =
-    subst (λ (j : NodeKind). Grown (Aims core ents j cs) a a) (sym call) (grown_there (Aims core ents (nodes.Call name) cs) a (λ t k. absurd (none-some k.0 (sym is ∙ k.1))))

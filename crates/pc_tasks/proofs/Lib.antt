@@ -1,4 +1,3 @@
 mod Anyone
 pub mod Steps
-mod Tasks
 mod Written

@@ -20,7 +20,7 @@ use Rattle.pc_deriv.proofs.Digits.{spell, last_glyph, spell_last, spell_next}
 use Rattle.pc_deriv.specs.Faults.{IsText}
 use Rattle.pc_deriv.proofs.Shown.{shown_fits}
 use Rattle.pc_deriv.specs.Names.{version_name, rule_name, cap_name, form_name}
-use Rattle.pc_deriv.specs.Text.{head_line, slot_line, type_text, mask_text, masks_text, note_line, shown_after, deriv_text, lines, line_end, blank, SlotFits, TypeFits, MaskFits, MasksFit, NoteFits}
+use Rattle.pc_deriv.specs.Text.{head_line, slot_line, type_text, mask_text, masks_text, note_line, shown_after, lines, line_end, blank, SlotFits, TypeFits, MaskFits, MasksFit, NoteFits}
 use Rattle.pc_deriv.specs.declared.version.Version.{Version}
 use Rattle.pc_deriv.specs.declared.version.Version.TheVariants as version
 use Rattle.pc_top.specs.Judge.{derivation_limit}

@@ -22,7 +22,7 @@ use Rattle.pc_top.specs.Named.{IsReadingOf, Named, Reading, whole}
 use Rattle.pc_top.specs.OnOut.{WritesUpgraded}
 use Rattle.pc_top.specs.Source.{SourceStage, source_limit}
 use Rattle.pc_top.specs.Source.Length.{fits}
-use Rattle.pc_top.specs.Stages.{PartGives, StageStops}
+use Rattle.pc_top.specs.Stages.{StageStops}
 use Rattle.pc_top.specs.Upgrade.{IsTextStop, IsUpgrade, Upgraded, upgraded}
 use Rattle.pc_top.specs.Verdict.{Verdict, IsAccepting, refused}
 use Rattle.pc_top.specs.declared.source.Source.{Source}

@@ -5,7 +5,6 @@ use Rattle.std.specs.Io.KnownBytes.{Appends}
 use Rattle.pc_ann.specs.declared.annotation.Ann.{Ann}
 use Rattle.pc_core.specs.CoreData.{CoreData}
 use Rattle.pc_deriv.specs.Faults.{IsText}
-use Rattle.pc_deriv.specs.Text.{deriv_text}
 use Rattle.pc_deriv.specs.declared.version.Version.TheVariants as version
 use Rattle.pc_gen.specs.Numbers.{IsSeed, IsSize}
 use Rattle.pc_grammar.specs.FileAnswers.{IsFileAnswer, spelled}

@@ -67,12 +67,6 @@ module _ (touches : List Touch) (at : ℕ) (p : Touch) (is : slice_get touches a
   pub first_is : (m : ℕ) (q : Touch) → slice_get touches m ≡ Some q → LatestUnknown touches at p m → FirstUnknown touches q.place p.place
   first_is m q e l = record { at = at; from = m; one = p; other = q; is = is; is_too = e; first_is = refl; second_is = refl; latest = l; earlier = earlier }
 
-pub up_to_none : (touches : List Touch) → KnownUpTo touches 0
-up_to_none touches n p b e = absurd (none_below n b)
-  where
-    none_below : (n : ℕ) → n < 0 → ⊥
-    none_below n b = omega (arith, b)
-
 -- ---- by what was found
 
 module _ (touches : List Touch) (at : ℕ) (within : at < length touches) (o : Option ℕ) (found : Found touches at o) where

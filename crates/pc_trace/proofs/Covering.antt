@@ -1,7 +1,7 @@
 -- The places of a field, one after the other, and what stands for all earlier accesses.
 use Rattle.std.specs.Prelude.{◌≡◌, ◌≢◌, ◌⊎◌, ◌<◌, ◌≤◌, ℕ, zero, suc, ◌+◌, max, true, false, List, [], ◌∷◌, ◌++◌, length, get_or, Option, Some, None, slice_get, refl}
 use Rattle.std.proofs.Common.{inl, inr, ap, sym, subst, ◌∙◌, arith}
-use Rattle.std.proofs.lemmas.Option.{same_Some, none-some}
+use Rattle.std.proofs.lemmas.Option.{same_Some}
 use Rattle.std.proofs.lemmas.Bool.Decides.{eqb_tells, leb_tells}
 use Rattle.pc_lists.specs.Places.{Has}
 use Rattle.pc_lists.proofs.Gets.{get_below, get_within, get_front, get_behind, get_push}
@@ -371,13 +371,6 @@ module _ (touches : List Touch) (rises : Rises touches) (at : ℕ) (rows : RowLi
                 ]
           ];
     }
-
--- Nothing to cover.
-pub covers_none : (touches : List Touch) → Covers touches 0 []
-covers_none touches = record { below = λ s m h. absurd (none-some m h.1); covered = λ m q b e. absurd (none_below m b) }
-  where
-    none_below : (m : ℕ) → m < 0 → ⊥
-    none_below m b = omega (arith, b)
 
 -- ---- loops over a row
 

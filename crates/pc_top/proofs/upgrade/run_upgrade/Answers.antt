@@ -1,4 +1,4 @@
-use Rattle.std.proofs.Common.{ap, inl, refl, ◌∙◌, Ok, Err}
+use Rattle.std.proofs.Common.{ap, inl, ◌∙◌, Ok, Err}
 use Rattle.std.proofs.lemmas.Result.{err_from_is_err_and}
 use Rattle.pc_io.specs.Change.{change}
 use Rattle.pc_top.specs.Judge.{DerivationStage, derivation_limit}
