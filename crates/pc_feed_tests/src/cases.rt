@@ -6,10 +6,9 @@ use pc_judge::JudgeFault;
 use pc_referee::{ListReferee, Rules};
 use pc_rules::{Mask, Note, Rule};
 use pc_test_sources::core_of;
+use pc_test_sources::programs::ONE_OBJECT;
 use std::alloc::{AllocError, Global};
 use std::test::Fail;
-
-const SOURCE: &[u8] = b"class C\nactor Main\n  new create(env: Env) =>\n    let a: C iso = C\n";
 
 /// The derivation.
 pub(crate) const LINES: [&[u8]; 12] = [
@@ -73,7 +72,7 @@ pub(crate) fn variant2(alloc: Global, number: usize, line: &[u8]) -> Result<Vec<
 
 /// The core of the program.
 pub(crate) fn program(alloc: Global) -> Option<Core> {
-    core_of(alloc, SOURCE)
+    core_of(alloc, ONE_OBJECT)
 }
 
 /// What a judge says of two pieces.

@@ -4,6 +4,7 @@ use crate::running::core_again;
 use crate::turns::{Counts, counts, has_printed, step};
 use pc_core::Core;
 use pc_machine::{Machine, Outcome, start};
+use pc_test_sources::programs::CHAIN;
 use std::alloc::Global;
 
 /// An actor that is made and sent to twice, each time with more arguments than stand in a message itself.
@@ -24,29 +25,6 @@ actor Main
     let a: A = A(5)
     a.take(env, 1, 2, 3, 4, \"x\")
     a.take(env, 1, 2, 3, 5, \"y\")
-";
-
-/// A list that is made whole inside a `recover` and sent to another actor, which prints its sum.
-const CHAIN: &[u8] = b"trait Chain
-  fun sum(): U64
-class Stop is Chain
-  new create() => None
-  fun sum(): U64 => 0
-class Link is Chain
-  let _head: U64
-  let _tail: Chain
-  new create(head: U64, tail: Chain) =>
-    _head = head
-    _tail = tail
-  fun sum(): U64 => _head + _tail.sum()
-actor Reader
-  let _out: OutStream
-  new create(out: OutStream) => _out = out
-  be read(list: Chain val) => _out.print(list.sum().string())
-actor Main
-  new create(env: Env) =>
-    let list: Chain iso = recover Link(1, Link(2, Stop)) end
-    Reader(env.out).read(consume list)
 ";
 
 fn started(alloc: Global, core: &Core) -> Option<Machine<'_>> {

@@ -2,6 +2,7 @@
 use crate::turns::{Turn, seen_behind};
 use pc_heap::Address;
 use pc_machine::{Access, Lack, Outcome};
+use pc_test_sources::programs::HELLO;
 use std::alloc::Global;
 
 // Whether a program takes these turns and prints these texts.
@@ -19,11 +20,6 @@ fn ends(alloc: Global, text: &[u8], turns: &[Turn], actor: u32, outcome: Outcome
         None => false,
     }
 }
-
-const HELLO: &[u8] = b"actor Main
-  new create(env: Env) =>
-    env.out.print(\"hi\")
-";
 
 // The take, the body, the sequence, the call, the text, the field, the local, the read, the invocation and the return;
 // and then the stream prints. There is no actor 7.

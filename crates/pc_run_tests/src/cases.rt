@@ -2,6 +2,7 @@
 use crate::programs::run_program;
 use pc_io::MemSink;
 use pc_run::{Report, RunFault};
+use pc_test_sources::programs::{DOUBLES, HELLO};
 use std::alloc::Global;
 
 /// What a run reports: steps that moved and were skipped, actors, objects, and messages that wait.
@@ -71,11 +72,6 @@ pub(crate) fn all_run(alloc: Global, program: &[u8], all: &[Run]) -> bool {
     true
 }
 
-const HELLO: &[u8] = b"actor Main
-  new create(env: Env) =>
-    env.out.print(\"hi\")
-";
-
 const HELLO_RUNS: [Run; 3] = [
     (
         b"1*10 0",
@@ -103,13 +99,6 @@ fn a_run_writes_its_texts_and_then_its_numbers(rt: HostRuntime) {
 }
 
 // The first join is the constructor's 24th step, a turn of the loop takes 12 steps, and the 12th join is too long.
-const DOUBLES: &[u8] = b"actor Main
-  new create(env: Env) =>
-    env.out.print(\"go\")
-    var s: String = \"ab\"
-    while true do s = s + s end
-";
-
 const DOUBLES_RUNS: [Run; 3] = [
     (b"1*9 0 1*1000", &[], Err(RunFault::TooLong(157)), b"go\n"),
     (

@@ -3,6 +3,7 @@ use pc_caps::{Cap, Form};
 use pc_check::{Ann, Mask, Note, Rule, check};
 use pc_core::Core;
 use pc_test_sources::core_of;
+use pc_test_sources::programs::ONE_OBJECT;
 use std::alloc::Global;
 
 // A node of a derivation: its rule, its type, and the live masks before and after it. No field is set.
@@ -18,12 +19,6 @@ fn note(row: NodeRow) -> Note {
         set_after: Mask(0),
     }
 }
-
-const PROGRAM: &[u8] = b"class C
-actor Main
-  new create(env: Env) =>
-    let a: C iso = C
-";
 
 // The program's derivation, as the description of the language has it: its slots and its nodes.
 const SLOTS: [(u32, Cap); 4] = [(6, Cap::Ref), (7, Cap::Ref), (4, Cap::Val), (6, Cap::Iso)];
@@ -61,7 +56,7 @@ fn is_derived(alloc: Global, core: &Core) -> bool {
 
 // The same of the program.
 fn is_found(alloc: Global) -> bool {
-    match core_of(alloc, PROGRAM) {
+    match core_of(alloc, ONE_OBJECT) {
         Some(core) => is_derived(alloc, &core),
         None => false,
     }

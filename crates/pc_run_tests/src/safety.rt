@@ -1,11 +1,7 @@
 //! Machines of accepted programs: what they count, and what two actors are about to touch.
 use crate::behind::{Seen, seen_behind};
+use pc_test_sources::programs::{HELLO, READERS};
 use std::alloc::Global;
-
-const HELLO: &[u8] = b"actor Main
-  new create(env: Env) =>
-    env.out.print(\"hi\")
-";
 
 // Whether so many texts were printed and so many messages wait behind these turns of the program.
 fn are_counted(alloc: Global, turns: &[(u32, u32)], printed: usize, waiting: u64) -> bool {
@@ -24,24 +20,6 @@ fn behind_ten_steps_the_text_waits_for_the_stream(rt: HostRuntime) {
 fn behind_the_stream_s_step_the_text_is_printed(rt: HostRuntime) {
     assert!(rt; are_counted(rt.alloc(), &[(1, 10), (0, 1)], 1, 0));
 }
-
-const READERS: &[u8] = b"class C
-  let n: U64 = 5
-actor R
-  let _out: OutStream
-  let _c: C val
-  new create(out: OutStream, c: C val) =>
-    _out = out
-    _c = c
-  be read() => _out.print(_c.n.string())
-actor Main
-  new create(env: Env) =>
-    let c: C val = C
-    let a: R = R(env.out, c)
-    let b: R = R(env.out, c)
-    a.read()
-    b.read()
-";
 
 const READ: [(u32, u32); 5] = [(1, 43), (2, 13), (3, 13), (2, 9), (3, 9)];
 

@@ -53,10 +53,15 @@ fn push_never(text: &mut Vec<u8>, core: &Core, number: u32) -> Option<()> {
     push_method(text, core, number)
 }
 
-fn push_table(text: &mut Vec<u8>, core: &Core, table: &Table) -> Option<()> {
+fn push_rows(text: &mut Vec<u8>, core: &Core, table: &Table) -> Option<()> {
     for row in table.rows.as_slice() {
         push_row(text, core, row)?;
     }
+    Some(())
+}
+
+fn push_table(text: &mut Vec<u8>, core: &Core, table: &Table) -> Option<()> {
+    push_rows(text, core, table)?;
     for number in table.never.as_slice() {
         push_never(text, core, *number)?;
     }

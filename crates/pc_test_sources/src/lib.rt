@@ -1,7 +1,8 @@
-//! What test crates share: from a text to its tokens, its tree and its core.
+//! What test crates share: from a text to its tokens, its tree and its core, and whole programs.
 #![tactic(auto)]
 
 mod cores;
+pub mod programs;
 mod texts;
 
 pub use cores::{core_of, core_or_fault};

@@ -1,12 +1,12 @@
 //! `check` and `judge` on calls: what a receiver may be, and what goes to parameters.
 
-use crate::programs::{BANK, CHAIN, GREETING, SHARED};
 use crate::rows::{Ending, all_end, all_end_within};
+use pc_test_sources::programs::{BANK, CHAIN, HELLO, READERS};
 
 const PROGRAMS: &[Ending<'_>] = &[
-    (GREETING, 0, b""),
+    (HELLO, 0, b""),
     (CHAIN, 0, b""),
-    (SHARED, 0, b""),
+    (READERS, 0, b""),
     (BANK, 0, b""),
 ];
 

@@ -1,11 +1,12 @@
 //! The commands on whole texts, with files and sinks that fail.
 
-use crate::programs::{FIRST, SOURCE};
+use crate::programs::FIRST;
 use crate::rows::{
     CHECK, Ending, Failure, JUDGE, NONE, Refused, Spoken, USAGE, all_end, all_end_within, all_fail,
     all_refused, all_words_end, made_ends, tells,
 };
 use crate::texts::repeated;
+use pc_test_sources::programs::ONE_OBJECT;
 use std::alloc::Global;
 
 const MAIN: &[u8] = b"class C\nactor Main\n  new create(env: Env) =>\n";
@@ -88,24 +89,24 @@ const ZEROS: &[u8] =
     b"rcap-derivation 1 4 7\ns 6 ref\ns 7 ref\ns 4 val\ns 6 iso\nn prim 00 val 1 0 1 0\n";
 
 const DERIVATIONS: &[Refused<'_>] = &[
-    (SOURCE, WRONG_NODE, 6, b"a.der: node 3\n"),
-    (SOURCE, WRONG_SLOT, 6, b"a.der: slot 3\n"),
-    (SOURCE, b"rcap-derivation 1 0 0\n", 6, b"a.der: shape\n"),
-    (SOURCE, UNENDED, 5, b"a.der:12: bad line\n"),
-    (SOURCE, ZEROS, 5, b"a.der:6: bad line\n"),
-    (SOURCE, LONGER, 5, b"a.der:13: bad line\n"),
+    (ONE_OBJECT, WRONG_NODE, 6, b"a.der: node 3\n"),
+    (ONE_OBJECT, WRONG_SLOT, 6, b"a.der: slot 3\n"),
+    (ONE_OBJECT, b"rcap-derivation 1 0 0\n", 6, b"a.der: shape\n"),
+    (ONE_OBJECT, UNENDED, 5, b"a.der:12: bad line\n"),
+    (ONE_OBJECT, ZEROS, 5, b"a.der:6: bad line\n"),
+    (ONE_OBJECT, LONGER, 5, b"a.der:13: bad line\n"),
 ];
 
 #[test]
 fn derivations_are_judged(rt: HostRuntime) {
     let alloc = rt.alloc();
-    assert!(rt; tells(alloc, JUDGE, SOURCE, FIRST, b"accepted\n"));
+    assert!(rt; tells(alloc, JUDGE, ONE_OBJECT, FIRST, b"accepted\n"));
     all_refused(&rt, alloc, JUDGE, DERIVATIONS);
 }
 
 #[test]
 fn a_derivation_is_written(rt: HostRuntime) {
-    assert!(rt; tells(rt.alloc(), CHECK, SOURCE, b"", FIRST));
+    assert!(rt; tells(rt.alloc(), CHECK, ONE_OBJECT, b"", FIRST));
 }
 
 const CHECKS: &[Failure<'_>] = &[
@@ -131,9 +132,9 @@ const JUDGES_OF_NOTHING: &[Failure<'_>] = &[(2, NONE, NONE, 3, b"", b"a.pony:1:1
 #[test]
 fn faults_have_their_status_and_line(rt: HostRuntime) {
     let alloc = rt.alloc();
-    all_fail(&rt, alloc, CHECK, (SOURCE, b""), CHECKS);
+    all_fail(&rt, alloc, CHECK, (ONE_OBJECT, b""), CHECKS);
     all_fail(&rt, alloc, CHECK, (b"", b""), CHECKS_OF_NOTHING);
-    all_fail(&rt, alloc, JUDGE, (SOURCE, b""), JUDGES);
+    all_fail(&rt, alloc, JUDGE, (ONE_OBJECT, b""), JUDGES);
     all_fail(&rt, alloc, JUDGE, (b"", b""), JUDGES_OF_NOTHING);
 }
 
@@ -199,5 +200,5 @@ const WORDS: &[Spoken<'_>] = &[
 
 #[test]
 fn words_are_taken_or_refused(rt: HostRuntime) {
-    all_words_end(&rt, rt.alloc(), SOURCE, WORDS);
+    all_words_end(&rt, rt.alloc(), ONE_OBJECT, WORDS);
 }

@@ -1,8 +1,8 @@
 //! Commands of which one read or one write fails: what they answer, and what is written until then.
 
-use crate::programs::{DOUBLES, GREETING, SOURCE};
 use crate::rows::{CHECK, Failure, NONE, fails_with};
 use crate::running::stored;
+use pc_test_sources::programs::{DOUBLES, HELLO, ONE_OBJECT};
 use std::alloc::Global;
 
 const RUN_HI: &[&str] = &["run", "hi.pony", "s"];
@@ -35,10 +35,10 @@ const DERIVATION: Failure<'_> = (0, (1, 4), NONE, 10, b"rcap", b"");
 #[test]
 fn one_read_or_one_write_fails(rt: HostRuntime) {
     let alloc = rt.alloc();
-    assert!(rt; fails(alloc, RUN_HI, GREETING, b"1*10 0", &UNREAD));
-    assert!(rt; fails(alloc, RUN_HI, GREETING, b"1*10 0", &NUMBERS));
+    assert!(rt; fails(alloc, RUN_HI, HELLO, b"1*10 0", &UNREAD));
+    assert!(rt; fails(alloc, RUN_HI, HELLO, b"1*10 0", &NUMBERS));
     assert!(rt; fails(alloc, CHECK_E, b"", b"", &LINE));
     // The text doubles until it is too long, behind the one that is printed.
     assert!(rt; fails(alloc, RUN_D, DOUBLES, b"1*9 0 1*1000", &RUN_CUT));
-    assert!(rt; fails(alloc, CHECK, SOURCE, b"", &DERIVATION));
+    assert!(rt; fails(alloc, CHECK, ONE_OBJECT, b"", &DERIVATION));
 }

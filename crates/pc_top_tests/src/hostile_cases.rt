@@ -1,11 +1,11 @@
 //! Input that is cut short, deep, huge or crafted: the status and the line of each.
 
-use crate::programs::{GREETING, SOURCE};
 use crate::rows::{
     CHECK, Ending, JUDGE, RUN, Refused, all_end, all_refused, made_ends, refuses, refuses_made,
 };
 use crate::running::{Done, is_done, run};
 use crate::texts::{joined, repeated};
+use pc_test_sources::programs::{HELLO, ONE_OBJECT};
 use std::alloc::{AllocError, Global};
 
 const SOURCES: &[Ending<'_>] = &[
@@ -45,36 +45,41 @@ fn hostile_sources_are_refused_at_their_first_fault(rt: HostRuntime) {
 }
 
 const DERIVATIONS: &[Refused<'_>] = &[
-    (SOURCE, b"", 5, b"a.der:1: bad line\n"),
+    (ONE_OBJECT, b"", 5, b"a.der:1: bad line\n"),
     (
-        SOURCE,
+        ONE_OBJECT,
         b"rcap-derivation 1 0 4294967296\n",
         5,
         b"a.der:1: bad line\n",
     ),
     (
-        SOURCE,
+        ONE_OBJECT,
         b"rcap-derivation 1 640001 0\n",
         8,
         b"a.der: too many lines\n",
     ),
-    (SOURCE, b"rcap-derivation 1 0 0\n", 6, b"a.der: shape\n"),
+    (ONE_OBJECT, b"rcap-derivation 1 0 0\n", 6, b"a.der: shape\n"),
 ];
 
 // Whether a derivation is refused so without its last two bytes.
 fn shorter_is_refused(alloc: Global, derivation: &[u8], err: &[u8]) -> bool {
     let shorter = &derivation[..derivation.len().saturating_sub(2)];
-    refuses(alloc, JUDGE, SOURCE, shorter, (5, err))
+    refuses(alloc, JUDGE, ONE_OBJECT, shorter, (5, err))
 }
 
 // Whether a derivation is refused with a line more, and without its last two bytes.
 fn others_are_refused(alloc: Global, derivation: &[u8]) -> bool {
     let longer = joined(alloc, &[derivation, b"\n"]);
-    refuses_made(alloc, JUDGE, SOURCE, longer, (5, b"a.der:13: bad line\n"))
-        && shorter_is_refused(alloc, derivation, b"a.der:12: bad line\n")
+    refuses_made(
+        alloc,
+        JUDGE,
+        ONE_OBJECT,
+        longer,
+        (5, b"a.der:13: bad line\n"),
+    ) && shorter_is_refused(alloc, derivation, b"a.der:12: bad line\n")
 }
 
-// Whether `SOURCE` was checked, and what was written is refused so.
+// Whether `ONE_OBJECT` was checked, and what was written is refused so.
 fn derived_is_refused(alloc: Global, checked: Result<Done, AllocError>) -> bool {
     match checked {
         Ok(done) => is_done(&done) && others_are_refused(alloc, done.out.bytes()),
@@ -86,26 +91,16 @@ fn derived_is_refused(alloc: Global, checked: Result<Done, AllocError>) -> bool 
 fn hostile_derivations_are_refused_at_their_first_fault(rt: HostRuntime) {
     let alloc = rt.alloc();
     all_refused(&rt, alloc, JUDGE, DERIVATIONS);
-    assert!(rt; derived_is_refused(alloc, run(alloc, CHECK, SOURCE, b"")));
+    assert!(rt; derived_is_refused(alloc, run(alloc, CHECK, ONE_OBJECT, b"")));
 }
 
 const SCHEDULES: &[Refused<'_>] = &[
-    (GREETING, b"4294967296", 7, b"a.sched:1:1: bad word\n"),
-    (GREETING, b"00000000001", 7, b"a.sched:1:1: bad word\n"),
-    (GREETING, b"1**2", 7, b"a.sched:1:1: bad word\n"),
-    (GREETING, b"0*1000001", 8, b"a.sched:1:1: too many steps\n"),
-    (
-        GREETING,
-        b"1*1000000 1",
-        8,
-        b"a.sched:1:11: too many steps\n",
-    ),
-    (
-        GREETING,
-        b"1*1000001 x",
-        8,
-        b"a.sched:1:1: too many steps\n",
-    ),
+    (HELLO, b"4294967296", 7, b"a.sched:1:1: bad word\n"),
+    (HELLO, b"00000000001", 7, b"a.sched:1:1: bad word\n"),
+    (HELLO, b"1**2", 7, b"a.sched:1:1: bad word\n"),
+    (HELLO, b"0*1000001", 8, b"a.sched:1:1: too many steps\n"),
+    (HELLO, b"1*1000000 1", 8, b"a.sched:1:11: too many steps\n"),
+    (HELLO, b"1*1000001 x", 8, b"a.sched:1:1: too many steps\n"),
 ];
 
 #[test]

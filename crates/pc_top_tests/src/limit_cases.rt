@@ -1,8 +1,8 @@
 //! Limits: the largest input that is taken, and the smallest that is not, each at its number and one past it.
 
-use crate::programs::{GREETING, SOURCE};
 use crate::rows::{JUDGE, RUN, Refused, all_refused, made_ends, refuses, refuses_made, tells};
 use crate::texts::{add_numbered, add_repeated, repeated, spaces};
+use pc_test_sources::programs::{HELLO, ONE_OBJECT};
 use std::alloc::{AllocError, Global};
 
 const MAIN: &[u8] = b"actor Main\n  new create(env: Env) => None\n";
@@ -130,25 +130,25 @@ fn a_core_may_have_so_many_nodes(rt: HostRuntime) {
 
 const LINES: &[Refused<'_>] = &[
     (
-        SOURCE,
+        ONE_OBJECT,
         b"rcap-derivation 1 640000 0\n",
         5,
         b"a.der:2: bad line\n",
     ),
     (
-        SOURCE,
+        ONE_OBJECT,
         b"rcap-derivation 1 640001 0\n",
         8,
         b"a.der: too many lines\n",
     ),
     (
-        SOURCE,
+        ONE_OBJECT,
         b"rcap-derivation 1 0 200000\n",
         5,
         b"a.der:2: bad line\n",
     ),
     (
-        SOURCE,
+        ONE_OBJECT,
         b"rcap-derivation 1 0 200001\n",
         8,
         b"a.der: too many lines\n",
@@ -164,9 +164,25 @@ fn a_derivation_may_have_so_many_lines(rt: HostRuntime) {
 fn a_derivation_may_have_so_many_bytes(rt: HostRuntime) {
     let alloc = rt.alloc();
     let line = b"a.der:1: bad line\n";
-    assert!(rt; refuses_made(alloc, JUDGE, SOURCE, spaces(alloc, 33_554_432), (5, line)));
+    assert!(rt;
+        refuses_made(
+            alloc,
+            JUDGE,
+            ONE_OBJECT,
+            spaces(alloc, 33_554_432),
+            (5, line)
+        )
+    );
     let long = b"a.der: longer than 33554432 bytes\n";
-    assert!(rt; refuses_made(alloc, JUDGE, SOURCE, spaces(alloc, 33_554_433), (8, long)));
+    assert!(rt;
+        refuses_made(
+            alloc,
+            JUDGE,
+            ONE_OBJECT,
+            spaces(alloc, 33_554_433),
+            (8, long)
+        )
+    );
 }
 
 #[test]
@@ -174,9 +190,9 @@ fn a_schedule_may_have_so_many_turns(rt: HostRuntime) {
     let alloc = rt.alloc();
     // The greeting is sent within ten turns, and waits: the stream has no turn.
     let out = b"steps 10 skipped 999990 actors 2 objects 3 waiting 1\n";
-    assert!(rt; tells(alloc, RUN, GREETING, b"1*1000000", out));
+    assert!(rt; tells(alloc, RUN, HELLO, b"1*1000000", out));
     let err = b"a.sched:1:1: too many steps\n";
-    assert!(rt; refuses(alloc, RUN, GREETING, b"1*1000001", (8, err)));
+    assert!(rt; refuses(alloc, RUN, HELLO, b"1*1000001", (8, err)));
 }
 
 // A Main that prints a text of so many bytes with one more behind it.

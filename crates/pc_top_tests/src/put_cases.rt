@@ -1,11 +1,12 @@
 //! How each command writes: what is one call of `put`, and what becomes of a command when one of its calls fails.
 
 use crate::counted_sink::CountedSink;
-use crate::programs::{DOUBLES, FIRST, GREETING, SECOND, SHARED, SOURCE};
+use crate::programs::{FIRST, SECOND};
 use crate::running::{Failing, NOTHING, stored};
 use crate::texts::joined;
 use pc_io::MemFiles;
 use pc_referee::Rules;
+use pc_test_sources::programs::{DOUBLES, HELLO, ONE_OBJECT, READERS};
 use pc_top::rcap;
 use std::alloc::{AllocError, Global};
 use std::process::Abort;
@@ -46,7 +47,7 @@ const PRINTED: &[u8] = b"class C\n\nactor Main\n  new create(env: Env) =>\n    l
 const CASES: &[Writing<'_>] = &[
     Writing {
         words: CHECK,
-        source: SOURCE,
+        source: ONE_OBJECT,
         other: b"",
         status: 0,
         pieces: &[FIRST],
@@ -54,7 +55,7 @@ const CASES: &[Writing<'_>] = &[
     },
     Writing {
         words: JUDGE,
-        source: SOURCE,
+        source: ONE_OBJECT,
         other: FIRST,
         status: 0,
         pieces: &[b"accepted\n"],
@@ -62,7 +63,7 @@ const CASES: &[Writing<'_>] = &[
     },
     Writing {
         words: &["upgrade", "a.pony", "other"],
-        source: SOURCE,
+        source: ONE_OBJECT,
         other: FIRST,
         status: 0,
         pieces: &[SECOND],
@@ -70,7 +71,7 @@ const CASES: &[Writing<'_>] = &[
     },
     Writing {
         words: SHOW,
-        source: SOURCE,
+        source: ONE_OBJECT,
         other: b"",
         status: 0,
         pieces: &[PRINTED],
@@ -78,7 +79,7 @@ const CASES: &[Writing<'_>] = &[
     },
     Writing {
         words: RUN,
-        source: GREETING,
+        source: HELLO,
         other: b"1*10 0",
         status: 0,
         pieces: &[
@@ -89,7 +90,7 @@ const CASES: &[Writing<'_>] = &[
     },
     Writing {
         words: RUN,
-        source: SHARED,
+        source: READERS,
         other: b"1*43 2*13 3*13 2*9 3*9 2 3 2*6 3*6 0*2",
         status: 0,
         pieces: &[
@@ -121,7 +122,7 @@ const CASES: &[Writing<'_>] = &[
     },
     Writing {
         words: &["swap", "a.pony", "other", "10"],
-        source: GREETING,
+        source: HELLO,
         other: b"1*10 0",
         status: 0,
         pieces: &[b"1*9 0 1\n"],

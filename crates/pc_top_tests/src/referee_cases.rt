@@ -1,11 +1,11 @@
 //! What `judge` asks a referee that keeps what it was asked; other commands ask nothing.
 
-use crate::programs::SOURCE;
 use crate::rows::{CHECK, JUDGE, UPGRADE};
 use crate::running::files_of;
 use crate::texts::joined;
 use pc_io::{MemFiles, MemSink};
 use pc_referee::ListReferee;
+use pc_test_sources::programs::ONE_OBJECT;
 use pc_top::rcap;
 use std::alloc::{AllocError, Global};
 use std::process::Abort;
@@ -20,7 +20,7 @@ const RIGHT: &[u8] = b"n new 6 iso^ 3 0 3 0\n";
 
 const WRONG: &[u8] = b"n new 6 ref 3 0 3 0\n";
 
-/// The words of a command on `SOURCE` and its derivation, a line of the derivation, the status, and how many nodes the
+/// The words of a command on `ONE_OBJECT` and its derivation, a line of the derivation, the status, and how many nodes the
 /// referee is asked of.
 type Asking = (&'static [&'static str], &'static [u8], u8, usize);
 
@@ -98,7 +98,7 @@ fn asks_of(
 ) -> bool {
     match derivation {
         Ok(derivation) => {
-            let files = files_of(alloc, SOURCE, &derivation, 0);
+            let files = files_of(alloc, ONE_OBJECT, &derivation, 0);
             asks_with(alloc, words, files, status, count)
         }
         Err(_) => false,

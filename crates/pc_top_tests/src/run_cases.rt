@@ -1,28 +1,29 @@
 //! `run` on whole programs: what is written by which schedule, and what is refused.
 
-use crate::programs::{BANK, CHAIN, DOUBLES, GREETING, NUMBERS, SHARED};
+use crate::programs::NUMBERS;
 use crate::rows::{
     Failure, NONE, RUN, Refused, Told, all_fail, all_refused, all_told, answers, refuses_made,
     tells,
 };
 use crate::running::Wanted;
 use crate::texts::spaces;
+use pc_test_sources::programs::{BANK, CHAIN, DOUBLES, HELLO, READERS};
 use std::alloc::{AllocError, Global};
 
 const RUNS: &[Told<'_>] = &[
     (
-        GREETING,
+        HELLO,
         b"1*10 0",
         b"hi\nsteps 11 skipped 0 actors 2 objects 3 waiting 0\n",
     ),
     (
-        GREETING,
+        HELLO,
         b"",
         b"steps 0 skipped 0 actors 2 objects 3 waiting 1\n",
     ),
     // No other actor takes the turn of one that is not there.
     (
-        GREETING,
+        HELLO,
         b"7*5",
         b"steps 0 skipped 5 actors 2 objects 3 waiting 1\n",
     ),
@@ -32,7 +33,7 @@ const RUNS: &[Told<'_>] = &[
         b"3\nsteps 106 skipped 0 actors 3 objects 7 waiting 0\n",
     ),
     (
-        SHARED,
+        READERS,
         b"1*43 2*13 3*13 2*9 3*9 2 3 2*6 3*6 0*2",
         b"5\n5\nsteps 103 skipped 0 actors 4 objects 6 waiting 0\n",
     ),
@@ -60,9 +61,9 @@ const UNSENDABLE: &[u8] =
     b"class C\nactor A\n  be take(c: C ref) => None\nactor Main\n  new create(env: Env) => A\n";
 
 const REFUSED: &[Refused<'_>] = &[
-    (GREETING, b"7 1*0 x", 7, b"a.sched:1:7: bad word\n"),
+    (HELLO, b"7 1*0 x", 7, b"a.sched:1:7: bad word\n"),
     (
-        GREETING,
+        HELLO,
         b"1*999999\n0 1\n2",
         8,
         b"a.sched:2:3: too many steps\n",
@@ -95,7 +96,7 @@ fn runs_are_refused(rt: HostRuntime) {
 fn moves_nothing(alloc: Global, schedule: Result<Vec<u8>, AllocError>) -> bool {
     let out = b"steps 0 skipped 0 actors 2 objects 3 waiting 1\n";
     match schedule {
-        Ok(schedule) => tells(alloc, RUN, GREETING, &schedule, out),
+        Ok(schedule) => tells(alloc, RUN, HELLO, &schedule, out),
         Err(_) => false,
     }
 }
@@ -105,7 +106,7 @@ fn schedules_may_have_so_many_bytes(rt: HostRuntime) {
     let alloc = rt.alloc();
     assert!(rt; moves_nothing(alloc, spaces(alloc, 1_048_576)));
     let err = b"a.sched: longer than 1048576 bytes\n";
-    assert!(rt; refuses_made(alloc, RUN, GREETING, spaces(alloc, 1_048_577), (8, err)));
+    assert!(rt; refuses_made(alloc, RUN, HELLO, spaces(alloc, 1_048_577), (8, err)));
 }
 
 const SCHEDULE: &[u8] = b"1*9 0 1*1000";
@@ -124,6 +125,6 @@ const PARTS: &[Failure<'_>] = &[(0, NONE, (1, 7), 10, b"go\n", b"a.sched")];
 #[test]
 fn files_and_sinks_of_runs_may_fail(rt: HostRuntime) {
     let alloc = rt.alloc();
-    all_fail(&rt, alloc, RUN, (GREETING, SCHEDULE), FAILURES);
+    all_fail(&rt, alloc, RUN, (HELLO, SCHEDULE), FAILURES);
     all_fail(&rt, alloc, RUN, (DOUBLES, SCHEDULE), PARTS);
 }

@@ -1,9 +1,9 @@
 //! `sends` on whole programs: who sends what, and what is never sent.
 
-use crate::programs::{BANK, GREETING};
 use crate::rows::{
     Failure, NONE, Refused, Spoken, Told, USAGE, all_fail, all_refused, all_told, all_words_end,
 };
+use pc_test_sources::programs::{BANK, HELLO};
 
 const SENDS: &[&str] = &["sends", "a.pony"];
 
@@ -90,7 +90,7 @@ never B.create\nnever Main.other\n",
         b"C sends OutStream.print\nD sends OutStream.print\nMain sends A.create\nMain sends A.beat\n\
 never B.create\nnever B.beat\n",
     ),
-    (GREETING, b"", b"Main sends OutStream.print\n"),
+    (HELLO, b"", b"Main sends OutStream.print\n"),
     // Where nothing is sent, the text is empty.
     (b"actor Main\n  new create(env: Env) => None\n", b"", b""),
 ];

@@ -1,8 +1,8 @@
 //! `show`: what is printed for which source, and what is refused.
 
-use crate::programs::{BANK, CHAIN};
 use crate::rows::{Failure, NONE, Refused, all_fail, all_refused, tells};
 use crate::running::{Done, is_done, run};
+use pc_test_sources::programs::{BANK, CHAIN};
 use std::alloc::{AllocError, Global};
 
 const SHOW: &[&str] = &["show", "a.pony"];

@@ -1,7 +1,7 @@
 //! `swap` on whole programs: which turns of a schedule change places, and which stay.
 
-use crate::programs::{DOUBLES, GREETING, SHARED};
 use crate::rows::{Failure, NONE, USAGE, all_fail, refuses, tells};
+use pc_test_sources::programs::{DOUBLES, HELLO, READERS};
 use std::alloc::Global;
 use std::process::Abort;
 
@@ -20,25 +20,25 @@ actor Main
 type Swapped<'a> = (&'a str, &'a [u8], &'a [u8], &'a [u8]);
 
 const SWAPPED: &[Swapped<'_>] = &[
-    ("10", GREETING, b"1*10 0", b"1*9 0 1\n"),
-    ("9", GREETING, b"1*10 0", b"kept: same actor\n"),
-    ("8", GREETING, b"1*8 0 1", b"kept: not moved\n"),
+    ("10", HELLO, b"1*10 0", b"1*9 0 1\n"),
+    ("9", HELLO, b"1*10 0", b"kept: same actor\n"),
+    ("8", HELLO, b"1*8 0 1", b"kept: not moved\n"),
     // Both read one field, and then both send to the stream.
     (
         "88",
-        SHARED,
+        READERS,
         b"1*43 2*13 3*13 2*9 3*9 2 3",
         b"1*43 2*13 3*13 2*9 3*10 2\n",
     ),
     (
         "98",
-        SHARED,
+        READERS,
         b"1*43 2*13 3*13 2*14 3*14 2 3",
         b"kept: one mailbox\n",
     ),
     (
         "43",
-        SHARED,
+        READERS,
         b"1*43 2*13 3*13 2*9 3*9 2 3",
         b"1*42 2 1 2*12 3*13 2*9 3*9 2 3\n",
     ),
@@ -65,14 +65,14 @@ fn turns_are_exchanged_or_stay(rt: HostRuntime) {
 type Unswapped<'a> = (&'a str, &'a [u8], &'a [u8], u8, &'a [u8]);
 
 const UNSWAPPED: &[Unswapped<'_>] = &[
-    ("0", GREETING, b"1*10 0", 2, USAGE),
-    ("+1", GREETING, b"1*10 0", 2, USAGE),
-    ("10000000", GREETING, b"1*10 0", 2, USAGE),
+    ("0", HELLO, b"1*10 0", 2, USAGE),
+    ("+1", HELLO, b"1*10 0", 2, USAGE),
+    ("10000000", HELLO, b"1*10 0", 2, USAGE),
     // The word comes before the source, and the schedule's length before the run.
     ("one", b"", b"x", 2, USAGE),
     ("1", b"", b"x", 3, b"a.pony:1:1: unexpected\n"),
-    ("1", GREETING, b"1*8 x", 7, b"a.sched:1:5: bad word\n"),
-    ("10", GREETING, b"1*8 0 1", 15, b"a.sched: no place 10\n"),
+    ("1", HELLO, b"1*8 x", 7, b"a.sched:1:5: bad word\n"),
+    ("10", HELLO, b"1*8 0 1", 15, b"a.sched: no place 10\n"),
     (
         "0001010",
         DOUBLES,
@@ -117,5 +117,5 @@ const FAILURES: &[Failure<'_>] = &[
 
 #[test]
 fn files_and_sinks_of_exchanges_may_fail(rt: HostRuntime) {
-    all_fail(&rt, rt.alloc(), TENTH, (GREETING, b"1*10 0"), FAILURES);
+    all_fail(&rt, rt.alloc(), TENTH, (HELLO, b"1*10 0"), FAILURES);
 }

@@ -1,7 +1,7 @@
 //! `trace` on whole programs: the accesses of a run, each with its clock.
 
-use crate::programs::{DOUBLES, GREETING};
 use crate::rows::{Failure, NONE, Refused, Told, USAGE, all_fail, all_refused, all_told, refuses};
+use pc_test_sources::programs::{DOUBLES, HELLO};
 
 const TRACE: &[&str] = &["trace", "a.pony", "a.sched"];
 
@@ -28,14 +28,14 @@ actor Main
 
 const TRACED: &[Told<'_>] = &[
     (
-        GREETING,
+        HELLO,
         b"1*10 0",
         b"8 1 read 0.1 0 clock 0,8\naccesses 1 ordered\n",
     ),
-    (GREETING, b"", b"accesses 0 ordered\n"),
+    (HELLO, b"", b"accesses 0 ordered\n"),
     // Steps that are skipped have no access, and count in no clock.
     (
-        GREETING,
+        HELLO,
         b"7*2 1*10 0",
         b"10 1 read 0.1 0 clock 0,8\naccesses 1 ordered\n",
     ),
@@ -56,7 +56,7 @@ const REFUSED: &[Refused<'_>] = &[
         1,
         b"a.pony:4:14: parameter not sendable\n",
     ),
-    (GREETING, b"1*8 x", 7, b"a.sched:1:5: bad word\n"),
+    (HELLO, b"1*8 x", 7, b"a.sched:1:5: bad word\n"),
     (
         CROWD,
         b"1*506 1",
@@ -74,7 +74,7 @@ const REFUSED: &[Refused<'_>] = &[
 #[test]
 fn traces_are_refused(rt: HostRuntime) {
     let alloc = rt.alloc();
-    assert!(rt; refuses(alloc, &["trace", "a.pony"], GREETING, b"", (2, USAGE)));
+    assert!(rt; refuses(alloc, &["trace", "a.pony"], HELLO, b"", (2, USAGE)));
     all_refused(&rt, alloc, TRACE, REFUSED);
 }
 
@@ -96,5 +96,5 @@ const FAILURES: &[Failure<'_>] = &[
 
 #[test]
 fn files_and_sinks_of_traces_may_fail(rt: HostRuntime) {
-    all_fail(&rt, rt.alloc(), TRACE, (GREETING, b"1*10 0"), FAILURES);
+    all_fail(&rt, rt.alloc(), TRACE, (HELLO, b"1*10 0"), FAILURES);
 }

@@ -1,9 +1,9 @@
 //! `check` on sources that have no tree, and on every prefix of some that have one.
 
-use crate::programs::{BANK, CHAIN, GREETING};
 use crate::rows::{CHECK, Ending, all_end, made_ends};
 use crate::running::{Done, run};
 use crate::texts::{add_repeated, repeated};
+use pc_test_sources::programs::{BANK, CHAIN, HELLO};
 use std::alloc::{AllocError, Global};
 use std::process::Abort;
 
@@ -123,7 +123,7 @@ fn all_prefixes_end(rt: &impl Abort, alloc: Global, source: &[u8]) {
 
 #[test]
 fn every_prefix_ends_in_a_named_status(rt: HostRuntime) {
-    all_prefixes_end(&rt, rt.alloc(), GREETING);
+    all_prefixes_end(&rt, rt.alloc(), HELLO);
     all_prefixes_end(&rt, rt.alloc(), CHAIN);
     all_prefixes_end(&rt, rt.alloc(), BANK);
 }

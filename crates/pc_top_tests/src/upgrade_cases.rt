@@ -1,16 +1,17 @@
 //! `upgrade`: a derivation written anew in version 2 of its text, and what is refused.
 
-use crate::programs::{BANK, CHAIN, FIRST, GREETING, SECOND, SOURCE};
+use crate::programs::{FIRST, SECOND};
 use crate::rows::{
     CHECK, Failure, JUDGE, NONE, Refused, Spoken, UPGRADE, USAGE, all_fail, all_refused,
     all_words_end, refuses, refuses_made, tells,
 };
 use crate::running::{Done, is_done, run};
 use crate::texts::spaces;
+use pc_test_sources::programs::{BANK, CHAIN, HELLO, ONE_OBJECT};
 use std::alloc::{AllocError, Global};
 use std::process::Abort;
 
-/// The derivation of `SOURCE` with a version that there is not.
+/// The derivation of `ONE_OBJECT` with a version that there is not.
 const THIRD: &[u8] = b"rcap-derivation 3 4 7\ns 6 ref\ns 7 ref\ns 4 val\ns 6 iso\n\
 n prim 0 val 1 0 0 0\nn seq 0 val 1 0 0 0\nn body - 1 0 0 0\nn new 6 iso^ 3 0 0 0\nn define - 3 0 4 0\n\
 n seq - 3 0 0 0\nn body - 3 0 0 0\n";
@@ -51,9 +52,9 @@ const UNSENDABLE: &[u8] =
 #[test]
 fn derivations_are_written_in_version_2(rt: HostRuntime) {
     let alloc = rt.alloc();
-    assert!(rt; tells(alloc, UPGRADE, SOURCE, FIRST, SECOND));
-    assert!(rt; tells(alloc, UPGRADE, SOURCE, SECOND, SECOND));
-    assert!(rt; tells(alloc, JUDGE, SOURCE, SECOND, b"accepted\n"));
+    assert!(rt; tells(alloc, UPGRADE, ONE_OBJECT, FIRST, SECOND));
+    assert!(rt; tells(alloc, UPGRADE, ONE_OBJECT, SECOND, SECOND));
+    assert!(rt; tells(alloc, JUDGE, ONE_OBJECT, SECOND, b"accepted\n"));
 }
 
 // Whether a derivation of a source is in version 2, is accepted, and is written anew as itself.
@@ -89,7 +90,7 @@ fn is_derived_and_upgraded(alloc: Global, source: &[u8]) -> bool {
 
 #[test]
 fn what_is_written_is_accepted_and_stays(rt: HostRuntime) {
-    assert!(rt; is_derived_and_upgraded(rt.alloc(), GREETING));
+    assert!(rt; is_derived_and_upgraded(rt.alloc(), HELLO));
     assert!(rt; is_derived_and_upgraded(rt.alloc(), CHAIN));
     assert!(rt; is_derived_and_upgraded(rt.alloc(), BANK));
     assert!(rt; is_derived_and_upgraded(rt.alloc(), TAKEN));
@@ -133,34 +134,34 @@ fn sources_are_refused_before_derivations(rt: HostRuntime) {
 }
 
 const TEXTS: &[Refused<'_>] = &[
-    (SOURCE, b"", 5, b"a.der:1: bad line\n"),
-    (SOURCE, THIRD, 5, b"a.der:1: bad line\n"),
+    (ONE_OBJECT, b"", 5, b"a.der:1: bad line\n"),
+    (ONE_OBJECT, THIRD, 5, b"a.der:1: bad line\n"),
     (
-        SOURCE,
+        ONE_OBJECT,
         b"rcap-derivation 02 4 7\n",
         5,
         b"a.der:1: bad line\n",
     ),
     (
-        SOURCE,
+        ONE_OBJECT,
         b"rcap-derivation 3 640001 0\n",
         5,
         b"a.der:1: bad line\n",
     ),
     (
-        SOURCE,
+        ONE_OBJECT,
         b"rcap-derivation 2 2 0\ns 6 ref\n",
         5,
         b"a.der:3: bad line\n",
     ),
     (
-        SOURCE,
+        ONE_OBJECT,
         b"rcap-derivation 2 640001 0\n",
         8,
         b"a.der: too many lines\n",
     ),
     (
-        SOURCE,
+        ONE_OBJECT,
         b"rcap-derivation 1 0 200001\n",
         8,
         b"a.der: too many lines\n",
@@ -173,9 +174,9 @@ fn texts_of_derivations_are_refused(rt: HostRuntime) {
 }
 
 const NOT_VALID: &[Refused<'_>] = &[
-    (SOURCE, b"rcap-derivation 2 0 0\n", 6, b"a.der: shape\n"),
-    (SOURCE, WRONG_SLOT, 6, b"a.der: slot 2\n"),
-    (SOURCE, WRONG_NODE, 6, b"a.der: node 0\n"),
+    (ONE_OBJECT, b"rcap-derivation 2 0 0\n", 6, b"a.der: shape\n"),
+    (ONE_OBJECT, WRONG_SLOT, 6, b"a.der: slot 2\n"),
+    (ONE_OBJECT, WRONG_NODE, 6, b"a.der: node 0\n"),
     (UNSET, UNSET_FIRST, 6, b"a.der: unset in method 1\n"),
     (
         UNSENDABLE,
@@ -208,7 +209,7 @@ const WORDS: &[Spoken<'_>] = &[
 
 #[test]
 fn words_ask_for_upgrade(rt: HostRuntime) {
-    all_words_end(&rt, rt.alloc(), SOURCE, WORDS);
+    all_words_end(&rt, rt.alloc(), ONE_OBJECT, WORDS);
 }
 
 // Whether a source that was made, with the first derivation, is refused so.
@@ -229,11 +230,43 @@ fn upgraded_files_may_have_so_many_bytes(rt: HostRuntime) {
     let source = b"a.pony: longer than 1048576 bytes\n";
     assert!(rt; made_source_is_refused(alloc, spaces(alloc, 1_048_577), (8, source)));
     let line = b"a.der:1: bad line\n";
-    assert!(rt; refuses_made(alloc, JUDGE, SOURCE, spaces(alloc, 33_554_432), (5, line)));
-    assert!(rt; refuses_made(alloc, UPGRADE, SOURCE, spaces(alloc, 33_554_432), (5, line)));
+    assert!(rt;
+        refuses_made(
+            alloc,
+            JUDGE,
+            ONE_OBJECT,
+            spaces(alloc, 33_554_432),
+            (5, line)
+        )
+    );
+    assert!(rt;
+        refuses_made(
+            alloc,
+            UPGRADE,
+            ONE_OBJECT,
+            spaces(alloc, 33_554_432),
+            (5, line)
+        )
+    );
     let long = b"a.der: longer than 33554432 bytes\n";
-    assert!(rt; refuses_made(alloc, JUDGE, SOURCE, spaces(alloc, 33_554_433), (8, long)));
-    assert!(rt; refuses_made(alloc, UPGRADE, SOURCE, spaces(alloc, 33_554_433), (8, long)));
+    assert!(rt;
+        refuses_made(
+            alloc,
+            JUDGE,
+            ONE_OBJECT,
+            spaces(alloc, 33_554_433),
+            (8, long)
+        )
+    );
+    assert!(rt;
+        refuses_made(
+            alloc,
+            UPGRADE,
+            ONE_OBJECT,
+            spaces(alloc, 33_554_433),
+            (8, long)
+        )
+    );
 }
 
 const FAILURES: &[Failure<'_>] = &[
@@ -249,7 +282,7 @@ const FAILURES: &[Failure<'_>] = &[
 
 #[test]
 fn files_and_sinks_of_upgrade_may_fail(rt: HostRuntime) {
-    all_fail(&rt, rt.alloc(), UPGRADE, (SOURCE, FIRST), FAILURES);
+    all_fail(&rt, rt.alloc(), UPGRADE, (ONE_OBJECT, FIRST), FAILURES);
 }
 
 // Nothing is written on out, so no call there fails.
@@ -257,5 +290,5 @@ const LINES: &[Failure<'_>] = &[(0, (1, 0), (1, 7), 10, b"", b"a.der:1")];
 
 #[test]
 fn the_line_of_upgrade_may_fail(rt: HostRuntime) {
-    all_fail(&rt, rt.alloc(), UPGRADE, (SOURCE, b""), LINES);
+    all_fail(&rt, rt.alloc(), UPGRADE, (ONE_OBJECT, b""), LINES);
 }

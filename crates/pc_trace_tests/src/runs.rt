@@ -1,12 +1,8 @@
 //! Runs whose accesses, clocks and verdicts are known.
 use crate::traces::{Row, Turns, fault_of, is_accepted_with, verdict_of};
+use pc_test_sources::programs::HELLO;
 use pc_trace::{AcceptedFault, TraceFault, Verdict};
 use std::alloc::Global;
-
-const HELLO: &[u8] = b"actor Main
-  new create(env: Env) =>
-    env.out.print(\"hi\")
-";
 
 const HELLO_TURNS: [Turns; 2] = [(1, 10), (0, 1)];
 

@@ -2,6 +2,7 @@
 use crate::ends::file_with_end;
 use crate::showing::shown;
 use pc_parse::ParseFault;
+use pc_test_sources::programs::BANK;
 use pc_test_sources::tree_of;
 use pc_tree::File;
 use std::alloc::Global;
@@ -85,9 +86,6 @@ fn wrong_shape(alloc: Global, shapes: &[(&[u8], &[u8])]) -> Option<usize> {
 fn shapes(rt: HostRuntime) {
     assert_eq!(rt; wrong_shape(rt.alloc(), &SHAPES), None);
 }
-
-const BANK: &[u8] =
-    b"\"\"\"A small bank.\"\"\"\ntrait Report\n  fun line(): String\n\nclass Account is Report\n  let _name: String\n  var _sum: U64 = 0\n\n  new iso create(name: String) =>\n    _name = name\n\n  fun ref add(n: U64): U64 =>\n    _sum = _sum + n\n    _sum\n\n  fun ref take(n: U64): Bool =>\n    \"\"\"Takes n where the sum holds it.\"\"\"\n    if n <= _sum then\n      _sum = _sum - n\n      true\n    else\n      false\n    end\n\n  fun line(): String => _name + \": \" + _sum.string()\n\nactor Teller\n  let _out: OutStream\n  var _account: Account iso\n\n  new create(out: OutStream, account: Account iso) =>\n    _out = out\n    _account = consume account\n\n  be deposit(n: U64) =>\n    _account.add(n) // the account is iso: receiver recovery\n\n  be withdraw(n: U64, to: Teller) =>\n    if _account.take(n) then\n      to.deposit(n)\n    else\n      _out.print(\"refused \" + n.string())\n    end\n\n  be report() =>\n    _out.print(_account.line())\n\nactor Main\n  new create(env: Env) =>\n    let ann: Teller = Teller(env.out, Account(\"ann\"))\n    let bob: Teller = Teller(env.out, Account(\"bob\"))\n    ann.deposit(100)\n    ann.withdraw(30, bob)\n    bob.withdraw(500, ann)\n    ann.report()\n    bob.report()\n";
 
 const BANK_SHAPE: &[u8] =
     b"trait Report\n fun line(): String\nclass Account is Report\n let _name: String\n var _sum: U64 =\n new iso create(name: String) =>\n fun ref add(n: U64): U64 =>\n fun ref take(n: U64): Bool =>\n fun line(): String =>\nactor Teller\n let _out: OutStream\n var _account: Account iso\n new create(out: OutStream, account: Account iso) =>\n be deposit(n: U64) =>\n be withdraw(n: U64, to: Teller) =>\n be report() =>\nactor Main\n new create(env: Env) =>\n";

@@ -4,16 +4,20 @@ use pc_test_sources::tree_of;
 use pc_tree::{depth, size};
 use std::alloc::{AllocError, Global};
 
+// The same byte, so many times.
+fn push_times(text: &mut Vec<u8>, byte: u8, count: usize) -> Result<(), AllocError> {
+    for _ in 0..count {
+        text.push(byte)?;
+    }
+    Ok(())
+}
+
 /// A text, so many `(`, a number, and as many `)`.
 fn nested(alloc: Global, begin: &[u8], count: usize) -> Result<Vec<u8>, AllocError> {
     let mut text = Vec::from_slice(alloc, begin)?;
-    for _ in 0..count {
-        text.extend_from_slice(b"(")?;
-    }
+    push_times(&mut text, b'(', count)?;
     text.extend_from_slice(b"1")?;
-    for _ in 0..count {
-        text.extend_from_slice(b")")?;
-    }
+    push_times(&mut text, b')', count)?;
     Ok(text)
 }
 

@@ -1,6 +1,6 @@
 //! A tree as a list of rows, each part before what stands in it.
 use pc_caps::Span;
-use pc_tree::{Arm, Expr, Item, Op, Seq, Suffix};
+use pc_tree::{Arm, Expr, Item, Op, Seq, Suffix, span_of};
 use std::alloc::Global;
 
 /// A part of a tree: what it is, and where it begins and ends.
@@ -32,10 +32,41 @@ fn op_label(op: Op) -> &'static str {
     match op {
         Op::Add => "+",
         Op::Sub => "-",
+        Op::Mul => "*",
+        Op::Div => "/",
+        Op::Rem => "%",
         Op::Eq => "==",
+        Op::Ne => "!=",
+        Op::Lt => "<",
+        Op::Le => "<=",
+        Op::Gt => ">",
+        Op::Ge => ">=",
         Op::And => "and",
+        Op::Or => "or",
+        Op::Xor => "xor",
+        Op::Is => "is",
         Op::Isnt => "isnt",
-        _ => "another operator",
+    }
+}
+
+// What an expression is.
+fn label_of(e: &Expr) -> &'static str {
+    match e {
+        Expr::Number { .. } => "number",
+        Expr::Truth { .. } => "truth",
+        Expr::Text { .. } => "text",
+        Expr::Name(_) => "name",
+        Expr::TypeName(_) => "type name",
+        Expr::This(_) => "this",
+        Expr::Consume { .. } => "consume",
+        Expr::Not { .. } => "not",
+        Expr::Infix { op, .. } => op_label(*op),
+        Expr::Chain { .. } => "chain",
+        Expr::Group { .. } => "group",
+        Expr::If { .. } => "if",
+        Expr::While { .. } => "while",
+        Expr::Recover { .. } => "recover",
+        Expr::Assign { .. } => "=",
     }
 }
 
@@ -77,51 +108,31 @@ fn of_exprs(rows: &mut Rows, exprs: &[Expr]) {
 
 #[cycle(rows)]
 pub fn of_expr(rows: &mut Rows, e: &Expr) {
+    rows.add(label_of(e), span_of(e));
     match e {
-        Expr::Number { span, .. } => rows.add("number", *span),
-        Expr::Truth { span, .. } => rows.add("truth", *span),
-        Expr::Text { span, .. } => rows.add("text", *span),
-        Expr::Name(name) => rows.add("name", name.span),
-        Expr::TypeName(name) => rows.add("type name", name.span),
-        Expr::This(span) => rows.add("this", *span),
-        Expr::Consume { span, .. } => rows.add("consume", *span),
-        Expr::Not { inner, span } => {
-            rows.add("not", *span);
-            of_expr(rows, inner)
-        }
-        Expr::Infix { op, terms, span } => {
-            rows.add(op_label(*op), *span);
-            of_exprs(rows, terms.as_slice())
-        }
-        Expr::Chain {
-            head,
-            suffixes,
-            span,
-        } => {
-            rows.add("chain", *span);
+        Expr::Number { .. }
+        | Expr::Truth { .. }
+        | Expr::Text { .. }
+        | Expr::Name(_)
+        | Expr::TypeName(_)
+        | Expr::This(_)
+        | Expr::Consume { .. } => {}
+        Expr::Not { inner, .. } => of_expr(rows, inner),
+        Expr::Infix { terms, .. } => of_exprs(rows, terms.as_slice()),
+        Expr::Chain { head, suffixes, .. } => {
             of_expr(rows, head);
             of_suffixes(rows, suffixes.as_slice())
         }
-        Expr::Group { body, span } => {
-            rows.add("group", *span);
-            of_seq(rows, body)
-        }
-        Expr::If { arms, other, span } => {
-            rows.add("if", *span);
+        Expr::Group { body, .. } | Expr::Recover { body, .. } => of_seq(rows, body),
+        Expr::If { arms, other, .. } => {
             of_arms(rows, arms.as_slice());
             of_other(rows, other)
         }
-        Expr::While { cond, body, span } => {
-            rows.add("while", *span);
+        Expr::While { cond, body, .. } => {
             of_seq(rows, cond);
             of_seq(rows, body)
         }
-        Expr::Recover { body, span, .. } => {
-            rows.add("recover", *span);
-            of_seq(rows, body)
-        }
-        Expr::Assign { left, right, span } => {
-            rows.add("=", *span);
+        Expr::Assign { left, right, .. } => {
             of_expr(rows, left);
             of_expr(rows, right)
         }
