@@ -23,7 +23,11 @@ fn status_of(fault: LexFault) -> u8
 {
     match fault {
         LexFault::TooMany(_) => 8,
-        _ => 3,
+        LexFault::BadByte(_)
+        | LexFault::Unclosed(_)
+        | LexFault::BadNumber(_)
+        | LexFault::BadEscape(_)
+        | LexFault::Memory => 3,
     }
 }
 

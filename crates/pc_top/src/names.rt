@@ -16,7 +16,12 @@ fn status_of(fault: NameFault) -> u8
 {
     match fault {
         NameFault::TooMany(..) => 8,
-        _ => 4,
+        NameFault::Double(_)
+        | NameFault::Unknown(_)
+        | NameFault::NoMain
+        | NameFault::BadMain(_)
+        | NameFault::Cycle(_)
+        | NameFault::Memory => 4,
     }
 }
 
@@ -74,7 +79,14 @@ fn make_name_line(
 {
     match fault {
         NameFault::NoMain => make_no_main_line(alloc, name),
-        _ => make_offset_line(alloc, name, bytes, offset_of(fault), text_of(fault)),
+        NameFault::Double(_)
+        | NameFault::Unknown(_)
+        | NameFault::BadMain(_)
+        | NameFault::Cycle(_)
+        | NameFault::TooMany(..)
+        | NameFault::Memory => {
+            make_offset_line(alloc, name, bytes, offset_of(fault), text_of(fault))
+        }
     }
 }
 

@@ -3,8 +3,8 @@
 //! nothing, and its contract is a law of `specs/Laws.antt`, in words of the machine alone; the rest stands in `proofs/`.
 //!
 //! The way of the proof:
-//! - A value is of a type where its entity is below that of the type and, unless the form is `tag`, its object is finished
-//!   (`Types`). A configuration is well typed where objects, messages and frames are (`Typed`, `Frames`).
+//! - A value is of a type where its entity is that of the type or conforms to it (`Under`) and, unless the form is `tag`, its
+//!   object is finished (`Types`). A configuration is well typed where objects, messages and frames are (`Typed`, `Frames`).
 //! - A frame can go on where its tasks can be done with what is live, what is set and what is on its stack; that is said from the
 //!   last task to the first (`Tasks`).
 //! - The start is well typed (`Starts`).
