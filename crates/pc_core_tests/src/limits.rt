@@ -1,6 +1,6 @@
 //! Files at the limits of what may be named, and long chains.
 use crate::parts::{digit, name_at, span, type_at};
-use crate::rows_of_files::{EntityRow, MAIN, entity_of};
+use crate::rows_of_files::{EntityRow, MAIN, entity_of, fault_in};
 use pc_caps::{List, Span};
 use pc_names::{NameFault, Names, Which, collect};
 use pc_tree::{Entity, EntityKind, FieldDef, File, MethodDef, MethodWord, Name, Seq};
@@ -139,10 +139,6 @@ fn file(alloc: Global, rows: &[Row]) -> Result<File, AllocError> {
     let mut entities = List::new(alloc);
     add_rows(alloc, &mut entities, rows)?;
     Ok(File { entities })
-}
-
-fn fault_in(alloc: Global, file: &File) -> Option<NameFault> {
-    collect(alloc, file).err()
 }
 
 // What is told of the names of a file.

@@ -1,9 +1,9 @@
 //! Small files, with the fault that the names of each have.
 use crate::parts::span;
-use crate::rows_of_files::{CREATE, ENV, EntityRow, MAIN, MethodRow, Typed, file_of};
+use crate::rows_of_files::{CREATE, ENV, EntityRow, MAIN, MethodRow, Typed, fault_in, file_of};
 use pc_caps::Cap;
-use pc_names::{NameFault, collect};
-use pc_tree::{EntityKind, File, MethodWord};
+use pc_names::NameFault;
+use pc_tree::{EntityKind, MethodWord};
 use std::alloc::{AllocError, Global};
 
 const F: Typed = ((b"f", 11), (b"U64", 14), None);
@@ -419,10 +419,6 @@ const MAINS: [Row; 9] = [
         Answer::BadMain,
     ),
 ];
-
-fn fault_in(alloc: Global, file: &File) -> Option<NameFault> {
-    collect(alloc, file).err()
-}
 
 fn has_answer(alloc: Global, row: &Row) -> Result<bool, AllocError> {
     let file = file_of(alloc, row.0)?;

@@ -1,8 +1,45 @@
 //! Nodes as rows that are written by hand.
+use pc_caps::Cap;
 use pc_core::{Node, NodeKind};
+use pc_tree::Op;
 
 /// A node: its kind, the number in it, its children, its depth, its first byte and the byte behind its last.
 pub type Row = (&'static str, u64, &'static [u32], u32, (u32, u32));
+
+// An operator by its sign, where a node has one.
+fn sign_of(op: Op) -> &'static str {
+    match op {
+        Op::Add => "+",
+        Op::Sub => "-",
+        Op::Mul => "*",
+        Op::Div => "/",
+        Op::Rem => "%",
+        Op::Eq => "==",
+        Op::Ne => "!=",
+        Op::Lt => "<",
+        Op::Le => "<=",
+        Op::Gt => ">",
+        Op::Ge => ">=",
+        Op::And => "and",
+        Op::Or => "or",
+        Op::Xor => "xor",
+        Op::Is => "is",
+        Op::Isnt => "isnt",
+    }
+}
+
+// A recover by its capability, if one is written.
+fn recover_of(cap: Option<Cap>) -> &'static str {
+    match cap {
+        None => "recover",
+        Some(Cap::Iso) => "recover iso",
+        Some(Cap::Trn) => "recover trn",
+        Some(Cap::Ref) => "recover ref",
+        Some(Cap::Val) => "recover val",
+        Some(Cap::Box) => "recover box",
+        Some(Cap::Tag) => "recover tag",
+    }
+}
 
 /// A kind by its name, and the number in it.
 pub fn shown(kind: &NodeKind) -> (&'static str, u64) {
@@ -21,7 +58,7 @@ pub fn shown(kind: &NodeKind) -> (&'static str, u64) {
         NodeKind::New(method) => ("new", u64::from(*method)),
         NodeKind::Spawn(method) => ("spawn", u64::from(*method)),
         NodeKind::Call(name) => ("call", u64::from(*name)),
-        NodeKind::Binary(_) => ("binary", 0),
+        NodeKind::Binary(op) => (sign_of(*op), 0),
         NodeKind::Not => ("not", 0),
         NodeKind::And => ("and", 0),
         NodeKind::Or => ("or", 0),
@@ -29,7 +66,7 @@ pub fn shown(kind: &NodeKind) -> (&'static str, u64) {
         NodeKind::Seq => ("seq", 0),
         NodeKind::If => ("if", 0),
         NodeKind::While => ("while", 0),
-        NodeKind::Recover(_) => ("recover", 0),
+        NodeKind::Recover(cap) => (recover_of(*cap), 0),
         NodeKind::Body => ("body", 0),
     }
 }

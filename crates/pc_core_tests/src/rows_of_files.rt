@@ -1,6 +1,7 @@
 //! Files that are built by hand, from rows.
 use crate::parts::{name_at, type_at};
 use pc_caps::{Cap, List, Span};
+use pc_names::{NameFault, collect};
 use pc_tree::{Entity, EntityKind, FieldDef, File, MethodDef, MethodWord, Name, ParamDef, TypeRef};
 use std::alloc::{AllocError, Global};
 
@@ -137,6 +138,11 @@ pub fn file_of(alloc: Global, rows: &[EntityRow]) -> Result<File, AllocError> {
     let mut entities = List::new(alloc);
     add_entities(alloc, &mut entities, rows)?;
     Ok(File { entities })
+}
+
+/// The first fault of a file's names, if they have one.
+pub fn fault_in(alloc: Global, file: &File) -> Option<NameFault> {
+    collect(alloc, file).err()
 }
 
 /// The parameter of `create`.

@@ -1,64 +1,14 @@
 //! A small program, its derivation, and what a judge says of its variants.
-use pc_caps::Form;
 use pc_core::Core;
 use pc_feed::{Stream, StreamFault};
 use pc_judge::JudgeFault;
 use pc_referee::{ListReferee, Rules};
-use pc_rules::{Mask, Note, Rule};
+use pc_rules::Note;
+use pc_test_derivations::{LINES, LINES2, NODES, note, variant_of};
 use pc_test_sources::core_of;
 use pc_test_sources::programs::ONE_OBJECT;
 use std::alloc::{AllocError, Global};
 use std::test::Fail;
-
-/// The derivation.
-pub(crate) const LINES: [&[u8]; 12] = [
-    b"rcap-derivation 1 4 7\n",
-    b"s 6 ref\n",
-    b"s 7 ref\n",
-    b"s 4 val\n",
-    b"s 6 iso\n",
-    b"n prim 0 val 1 0 1 0\n",
-    b"n seq 0 val 1 0 1 0\n",
-    b"n body - 1 0 1 0\n",
-    b"n new 6 iso^ 3 0 3 0\n",
-    b"n define - 3 0 7 0\n",
-    b"n seq - 3 0 3 0\n",
-    b"n body - 3 0 3 0\n",
-];
-
-/// The same in version 2.
-pub(crate) const LINES2: [&[u8]; 12] = [
-    b"rcap-derivation 2 4 7\n",
-    b"s 6 ref\n",
-    b"s 7 ref\n",
-    b"s 4 val\n",
-    b"s 6 iso\n",
-    b"n prim 0 val 1 0 0 0\n",
-    b"n seq 0 val 1 0 0 0\n",
-    b"n body - 1 0 0 0\n",
-    b"n new 6 iso^ 3 0 0 0\n",
-    b"n define - 3 0 4 0\n",
-    b"n seq - 3 0 0 0\n",
-    b"n body - 3 0 0 0\n",
-];
-
-/// The lines with other bytes for one of them, counted from 1.
-pub(crate) fn variant_of(
-    alloc: Global,
-    lines: &[&[u8]],
-    number: usize,
-    line: &[u8],
-) -> Result<Vec<u8>, AllocError> {
-    let mut text: Vec<u8> = Vec::new(alloc);
-    for at in 0..lines.len() {
-        if at + 1 == number {
-            text.extend_from_slice(line)?;
-        } else {
-            text.extend_from_slice(lines[at])?;
-        }
-    }
-    Ok(text)
-}
 
 /// The derivation with other bytes for one line, counted from 1.
 pub(crate) fn variant(alloc: Global, number: usize, line: &[u8]) -> Result<Vec<u8>, AllocError> {
@@ -86,30 +36,6 @@ pub(crate) fn judge_pieces(
     let _ = stream.feed(first, &mut Rules);
     let _ = stream.feed(second, &mut Rules);
     stream.end()
-}
-
-/// A node of the derivation: its rule, its type, and the live masks before and after it.
-type NodeRow = (Rule, Option<(u32, Form)>, u64, u64);
-
-const NODES: [NodeRow; 7] = [
-    (Rule::Prim, Some((0, Form::Val)), 1, 1),
-    (Rule::Seq, Some((0, Form::Val)), 1, 1),
-    (Rule::Body, None, 1, 1),
-    (Rule::New, Some((6, Form::IsoE)), 3, 3),
-    (Rule::Define, None, 3, 7),
-    (Rule::Seq, None, 3, 3),
-    (Rule::Body, None, 3, 3),
-];
-
-fn note(row: NodeRow) -> Note {
-    Note {
-        rule: row.0,
-        ty: row.1,
-        live_before: Mask(row.2),
-        set_before: Mask(0),
-        live_after: Mask(row.3),
-        set_after: Mask(0),
-    }
 }
 
 // Whether what was asked is this node of the derivation.

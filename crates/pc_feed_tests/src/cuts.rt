@@ -1,10 +1,11 @@
 //! Wherever a derivation is cut, the answer is the same.
-use crate::cases::{LINES, LINES2, judge_pieces, program, variant, variant_of, variant2};
+use crate::cases::{judge_pieces, program, variant, variant2};
 use pc_core::Core;
 use pc_deriv::LineFault;
 use pc_feed::{Stream, StreamFault};
 use pc_judge::JudgeFault;
 use pc_referee::Rules;
+use pc_test_derivations::{LINES, LINES2, variant_of};
 use std::alloc::{AllocError, Global};
 use std::test::Fail;
 
@@ -153,12 +154,12 @@ fn are_refused(alloc: Global, lines: &[&[u8]], variants: &[Variant]) -> bool {
 }
 
 #[test]
-fn wherever_a_variant_is_cut_its_fault_is_the_same(rt: HostRuntime) {
+fn a_variant_cut_at_each_11th_byte_has_its_fault(rt: HostRuntime) {
     assert!(rt; are_refused(rt.alloc(), &LINES, &VARIANTS));
 }
 
 #[test]
-fn wherever_a_variant_of_version_2_is_cut_its_fault_is_the_same(rt: HostRuntime) {
+fn a_variant_of_version_2_cut_at_each_11th_byte_has_its_fault(rt: HostRuntime) {
     assert!(rt; are_refused(rt.alloc(), &LINES2, &VARIANTS2));
 }
 

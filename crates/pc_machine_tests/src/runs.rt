@@ -166,6 +166,20 @@ fn a_step_that_lacks_something_changes_nothing(rt: HostRuntime) {
     );
 }
 
+const NO_METHOD: &[u8] = b"actor Main
+  new create(env: Env) =>
+    env.missing()
+";
+
+// The take, the body, the sequence, the call and the receiver.
+const NO_METHOD_TURNS: [Turn; 1] = [(1, 99, 5, (2, 3, 0, 0))];
+
+#[test]
+fn a_call_of_a_method_that_is_not_there_lacks_it(rt: HostRuntime) {
+    let outcome = Outcome::Lacks(Lack::Method);
+    assert!(rt; ends(rt.alloc(), NO_METHOD, &NO_METHOD_TURNS, 1, outcome));
+}
+
 const LONG: &[u8] = b"class C
   new create(n: U64) =>
     None

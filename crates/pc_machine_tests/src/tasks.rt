@@ -61,6 +61,27 @@ fn values_are_compared_by_what_they_are(rt: HostRuntime) {
     assert!(rt; leaves(rt.alloc(), TRUTHS, 0, &TRUTHS_LOCALS));
 }
 
+const SIDES: &[u8] = b"actor Main
+  new create(env: Env) =>
+    var n = 0
+    let a = false and ((n = 1) == 0)
+    let b = true or ((n = 2) == 0)
+    let c = true and ((n = 3) == 0)
+    let d = false or ((n = 4) == 3)";
+
+const SIDES_LOCALS: [Held<'static>; 5] = [
+    Held::Number(4),
+    Held::Truth(false),
+    Held::Truth(true),
+    Held::Truth(true),
+    Held::Truth(true),
+];
+
+#[test]
+fn a_right_side_is_done_where_the_left_one_does_not_decide(rt: HostRuntime) {
+    assert!(rt; leaves(rt.alloc(), SIDES, 0, &SIDES_LOCALS));
+}
+
 const TURNS: &[u8] = b"actor Main
   new create(env: Env) =>
     var i = 0

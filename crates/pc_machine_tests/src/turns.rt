@@ -31,6 +31,7 @@ pub fn step(machine: &mut Machine<'_>, actor: u32) -> Result<Outcome, AllocError
     }
 }
 
+/// How many actors, objects, waiting messages and printed texts a machine has.
 pub fn counts(machine: &Machine<'_>) -> Counts {
     let texts = machine.printed().len();
     (

@@ -132,13 +132,16 @@ const COUNTS: &[u8] = b"actor Main
     while true do env.out.print(\"\") end
 ";
 
-// Whether a million turns to a sink are taken, in which tens of thousands of texts are printed.
+const COUNTED: &[u8] = b"\nsteps 974999 skipped 25001 actors 2 objects 3 waiting 0\n";
+
+// Whether a million turns to a sink are taken. Behind four steps the loop takes 12 each time, and the tenth of them sends: in
+// 900,000 turns that is 74,999 texts, each of which is a turn of the stream and a byte on the sink.
 fn takes_a_million_turns(alloc: Global, sink: &mut MemSink) -> bool {
     match run_program(alloc, COUNTS, b"1*900000 0*100000", sink) {
         Ok(report) => {
-            report.moved.checked_add(report.skipped) == Some(1_000_000)
-                && report.waiting == 0
-                && sink.bytes().len() > 50_000
+            has_numbers(report, (974_999, 25_001, 2, 3, 0))
+                && sink.bytes().len() == 75_055
+                && sink.bytes().ends_with(COUNTED)
         }
         Err(_) => false,
     }

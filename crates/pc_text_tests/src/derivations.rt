@@ -1,86 +1,8 @@
 //! Derivations as texts. The expected values are those of the format's description.
-use pc_caps::{Cap, Form, List};
+use pc_caps::{Form, List};
 use pc_deriv::{Ann, DerivFault, Mask, Note, Rule, read, write, write2};
+use pc_test_derivations::{LINES, LINES2, NODES, NodeRow, SLOTS, note, variant_of};
 use std::alloc::{AllocError, Global};
-
-/// The annotation of a class, and of an actor whose constructor defines a local of it.
-pub const EXAMPLE: [&[u8]; 12] = [
-    b"rcap-derivation 1 4 7\n",
-    b"s 6 ref\n",
-    b"s 7 ref\n",
-    b"s 4 val\n",
-    b"s 6 iso\n",
-    b"n prim 0 val 1 0 1 0\n",
-    b"n seq 0 val 1 0 1 0\n",
-    b"n body - 1 0 1 0\n",
-    b"n new 6 iso^ 3 0 3 0\n",
-    b"n define - 3 0 7 0\n",
-    b"n seq - 3 0 3 0\n",
-    b"n body - 3 0 3 0\n",
-];
-
-/// The same annotation in version 2.
-pub const EXAMPLE2: [&[u8]; 12] = [
-    b"rcap-derivation 2 4 7\n",
-    b"s 6 ref\n",
-    b"s 7 ref\n",
-    b"s 4 val\n",
-    b"s 6 iso\n",
-    b"n prim 0 val 1 0 0 0\n",
-    b"n seq 0 val 1 0 0 0\n",
-    b"n body - 1 0 0 0\n",
-    b"n new 6 iso^ 3 0 0 0\n",
-    b"n define - 3 0 4 0\n",
-    b"n seq - 3 0 0 0\n",
-    b"n body - 3 0 0 0\n",
-];
-
-/// The lines with other bytes for one of them, counted from 1.
-pub fn variant_of(
-    alloc: Global,
-    lines: &[&[u8]],
-    number: usize,
-    line: &[u8],
-) -> Result<Vec<u8>, AllocError> {
-    let mut text: Vec<u8> = Vec::new(alloc);
-    for at in 0..lines.len() {
-        if at + 1 == number {
-            text.extend_from_slice(line)?;
-        } else {
-            text.extend_from_slice(lines[at])?;
-        }
-    }
-    Ok(text)
-}
-
-/// A node of the example: its rule, its type, and the live masks before and after it.
-pub type NodeRow = (Rule, Option<(u32, Form)>, u64, u64);
-
-/// A note that sets nothing.
-pub fn note(row: NodeRow) -> Note {
-    Note {
-        rule: row.0,
-        ty: row.1,
-        live_before: Mask(row.2),
-        set_before: Mask(0),
-        live_after: Mask(row.3),
-        set_after: Mask(0),
-    }
-}
-
-/// The slots of the example.
-const SLOTS: [(u32, Cap); 4] = [(6, Cap::Ref), (7, Cap::Ref), (4, Cap::Val), (6, Cap::Iso)];
-
-/// Its nodes.
-pub const NODES: [NodeRow; 7] = [
-    (Rule::Prim, Some((0, Form::Val)), 1, 1),
-    (Rule::Seq, Some((0, Form::Val)), 1, 1),
-    (Rule::Body, None, 1, 1),
-    (Rule::New, Some((6, Form::IsoE)), 3, 3),
-    (Rule::Define, None, 3, 7),
-    (Rule::Seq, None, 3, 3),
-    (Rule::Body, None, 3, 3),
-];
 
 fn notes_of(alloc: Global, rows: &[NodeRow]) -> Result<List<Note>, AllocError> {
     let mut notes: List<Note> = List::new(alloc);
@@ -150,10 +72,10 @@ const HEAD2: &[u8] = b"rcap-derivation 2 4 7\n";
 #[test]
 fn the_example_is_read_and_written_in_both_versions(rt: HostRuntime) {
     let alloc = rt.alloc();
-    assert!(rt; is_read(alloc, &EXAMPLE, HEAD, &NODES) == Ok(true));
-    assert!(rt; is_read(alloc, &EXAMPLE2, HEAD2, &NODES) == Ok(true));
-    assert!(rt; is_written(alloc, false, &EXAMPLE) == Ok(true));
-    assert!(rt; is_written(alloc, true, &EXAMPLE2) == Ok(true));
+    assert!(rt; is_read(alloc, &LINES, HEAD, &NODES) == Ok(true));
+    assert!(rt; is_read(alloc, &LINES2, HEAD2, &NODES) == Ok(true));
+    assert!(rt; is_written(alloc, false, &LINES) == Ok(true));
+    assert!(rt; is_written(alloc, true, &LINES2) == Ok(true));
 }
 
 // Masks after that are taken for the bits that differ, and bits that differ that are taken for the masks after.
@@ -170,8 +92,8 @@ const OTHER_NODES: [NodeRow; 7] = [
 #[test]
 fn the_lines_of_one_version_say_other_masks_in_the_other(rt: HostRuntime) {
     let alloc = rt.alloc();
-    assert!(rt; is_read(alloc, &EXAMPLE, HEAD2, &OTHER_NODES) == Ok(true));
-    assert!(rt; is_read(alloc, &EXAMPLE2, HEAD, &OTHER_NODES) == Ok(true));
+    assert!(rt; is_read(alloc, &LINES, HEAD2, &OTHER_NODES) == Ok(true));
+    assert!(rt; is_read(alloc, &LINES2, HEAD, &OTHER_NODES) == Ok(true));
 }
 
 /// The number of a line, other bytes for it, and what is wrong then.
@@ -288,8 +210,8 @@ fn wrong_variant(alloc: Global, lines: &[&[u8]], variants: &[Variant]) -> Option
 
 #[test]
 fn variants_of_the_example_are_told_apart(rt: HostRuntime) {
-    assert_eq!(rt; wrong_variant(rt.alloc(), &EXAMPLE, &VARIANTS), None);
-    assert_eq!(rt; wrong_variant(rt.alloc(), &EXAMPLE2, &VARIANTS2), None);
+    assert_eq!(rt; wrong_variant(rt.alloc(), &LINES, &VARIANTS), None);
+    assert_eq!(rt; wrong_variant(rt.alloc(), &LINES2, &VARIANTS2), None);
 }
 
 const CRAFTED: [(&[u8], Option<DerivFault>); 13] = [

@@ -1,9 +1,8 @@
 //! Derivations that come in pieces. The expected values are those of the whole texts.
-use crate::derivations::{
-    EXAMPLE, EXAMPLE2, NODES, VARIANTS, VARIANTS2, Variant, note, variant_of,
-};
+use crate::derivations::{VARIANTS, VARIANTS2, Variant};
 use pc_caps::Cap;
 use pc_deriv::{DerivFault, Line, LineFault, Lines};
+use pc_test_derivations::{LINES, LINES2, NODES, note, variant_of};
 use std::alloc::{AllocError, Global};
 
 /// The lines of the example's slots.
@@ -128,14 +127,14 @@ fn is_taken(alloc: Global, version: u32, lines: &[&[u8]]) -> Result<bool, AllocE
 
 #[test]
 fn wherever_the_example_is_cut_its_lines_are_the_same(rt: HostRuntime) {
-    assert_eq!(rt; wrong_example(rt.alloc(), 1, &EXAMPLE), Ok(None));
-    assert!(rt; is_taken(rt.alloc(), 1, &EXAMPLE) == Ok(true));
+    assert_eq!(rt; wrong_example(rt.alloc(), 1, &LINES), Ok(None));
+    assert!(rt; is_taken(rt.alloc(), 1, &LINES) == Ok(true));
 }
 
 #[test]
 fn wherever_version_2_is_cut_its_lines_are_the_same(rt: HostRuntime) {
-    assert_eq!(rt; wrong_example(rt.alloc(), 2, &EXAMPLE2), Ok(None));
-    assert!(rt; is_taken(rt.alloc(), 2, &EXAMPLE2) == Ok(true));
+    assert_eq!(rt; wrong_example(rt.alloc(), 2, &LINES2), Ok(None));
+    assert!(rt; is_taken(rt.alloc(), 2, &LINES2) == Ok(true));
 }
 
 // What is wrong with two pieces.
@@ -184,13 +183,13 @@ fn wrong_variant(alloc: Global, lines: &[&[u8]], variants: &[Variant]) -> Option
 }
 
 #[test]
-fn wherever_a_variant_is_cut_its_fault_is_the_same(rt: HostRuntime) {
-    assert_eq!(rt; wrong_variant(rt.alloc(), &EXAMPLE, &VARIANTS), None);
+fn a_variant_cut_at_each_23rd_byte_has_its_fault(rt: HostRuntime) {
+    assert_eq!(rt; wrong_variant(rt.alloc(), &LINES, &VARIANTS), None);
 }
 
 #[test]
-fn wherever_a_variant_of_version_2_is_cut_its_fault_is_the_same(rt: HostRuntime) {
-    assert_eq!(rt; wrong_variant(rt.alloc(), &EXAMPLE2, &VARIANTS2), None);
+fn a_variant_of_version_2_cut_at_each_23rd_byte_has_its_fault(rt: HostRuntime) {
+    assert_eq!(rt; wrong_variant(rt.alloc(), &LINES2, &VARIANTS2), None);
 }
 
 // Two pieces, and what is wrong with both.

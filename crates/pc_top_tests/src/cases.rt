@@ -1,6 +1,6 @@
 //! The commands on whole texts, with files and sinks that fail.
 
-use crate::programs::FIRST;
+use crate::programs::{FIRST, OPEN};
 use crate::rows::{
     CHECK, Ending, Failure, JUDGE, NONE, Refused, Spoken, USAGE, all_end, all_end_within, all_fail,
     all_refused, all_words_end, made_ends, tells,
@@ -8,8 +8,6 @@ use crate::rows::{
 use crate::texts::repeated;
 use pc_test_sources::programs::ONE_OBJECT;
 use std::alloc::Global;
-
-const MAIN: &[u8] = b"class C\nactor Main\n  new create(env: Env) =>\n";
 
 const BODIES: &[Ending<'_>] = &[
     (b"    let a: C iso = C\n", 0, b""),
@@ -61,7 +59,7 @@ const BODIES: &[Ending<'_>] = &[
 
 #[test]
 fn bodies_are_accepted_or_refused(rt: HostRuntime) {
-    all_end_within(&rt, rt.alloc(), (MAIN, b""), BODIES);
+    all_end_within(&rt, rt.alloc(), (OPEN, b""), BODIES);
 }
 
 /// `FIRST` with another type of the new object.
@@ -104,9 +102,19 @@ fn derivations_are_judged(rt: HostRuntime) {
     all_refused(&rt, alloc, JUDGE, DERIVATIONS);
 }
 
+/// A local that is defined in the value of another.
+const NESTED: &[u8] =
+    b"actor Main\n  new create(env: Env) =>\n    let a: U64 = (let b: Bool = true; 1)\n";
+
+// The slots are in the order of the text, so `b` is the last, though it is defined first.
+const NESTED_FIRST: &[u8] = b"rcap-derivation 1 4 7\ns 6 ref\ns 4 val\ns 1 val\ns 2 val\n\
+n truth 2 val 3 0 3 0\nn define - 3 0 b 0\nn number 1 val b 0 b 0\nn seq 1 val 3 0 3 0\nn define - 3 0 7 0\n\
+n seq - 3 0 3 0\nn body - 3 0 3 0\n";
+
 #[test]
 fn a_derivation_is_written(rt: HostRuntime) {
     assert!(rt; tells(rt.alloc(), CHECK, ONE_OBJECT, b"", FIRST));
+    assert!(rt; tells(rt.alloc(), CHECK, NESTED, b"", NESTED_FIRST));
 }
 
 const CHECKS: &[Failure<'_>] = &[

@@ -1,11 +1,10 @@
 //! `check` and `judge` on the flow of a body: which locals hold something, in branches, loops and `recover`.
 
+use crate::programs::OPEN;
 use crate::rows::{CHECK, Ending, JUDGE, all_end_within, ends, refuses_made};
 use crate::running::{Done, is_done, run};
 use crate::texts::joined;
 use std::alloc::{AllocError, Global};
-
-const MAIN: &[u8] = b"class C\nactor Main\n  new create(env: Env) =>\n";
 
 /// A local that was consumed takes a new value.
 const REFILLED: &[u8] = b"\
@@ -58,7 +57,7 @@ const FLOWS: &[Ending<'_>] = &[
 fn flow_is_accepted_or_refused(rt: HostRuntime) {
     let alloc = rt.alloc();
     assert!(rt; ends(alloc, REFILLED, 0, b""));
-    all_end_within(&rt, alloc, (MAIN, b""), FLOWS);
+    all_end_within(&rt, alloc, (OPEN, b""), FLOWS);
 }
 
 // A derivation with a definition in place of its first assignment; of one without an assignment, nothing.

@@ -1,48 +1,10 @@
-//! Input that is cut short, deep, huge or crafted: the status and the line of each.
+//! Derivations and schedules that are cut short, huge or crafted: the status and the line of each.
 
-use crate::rows::{
-    CHECK, Ending, JUDGE, RUN, Refused, all_end, all_refused, made_ends, refuses, refuses_made,
-};
+use crate::rows::{CHECK, JUDGE, RUN, Refused, all_refused, refuses, refuses_made};
 use crate::running::{Done, is_done, run};
-use crate::texts::{joined, repeated};
+use crate::texts::joined;
 use pc_test_sources::programs::{HELLO, ONE_OBJECT};
 use std::alloc::{AllocError, Global};
-
-const SOURCES: &[Ending<'_>] = &[
-    (b"class", 3, b"a.pony:1:6: unexpected\n"),
-    (b"class C /* a /* b */", 3, b"a.pony:1:9: not closed\n"),
-    (b"class C \"\\q", 3, b"a.pony:1:9: not closed\n"),
-    (b"class C \"\\q\"", 3, b"a.pony:1:10: bad escape\n"),
-    (b"\xff", 3, b"a.pony:1:1: bad byte\n"),
-    (b"0b2", 3, b"a.pony:1:1: bad number\n"),
-    (b"1__2", 3, b"a.pony:1:1: bad number\n"),
-];
-
-// Whether a text with the same one so many times behind it is refused so.
-fn huge_is_refused(
-    alloc: Global,
-    before: &[u8],
-    part: &[u8],
-    times: usize,
-    refusal: (u8, &[u8]),
-) -> bool {
-    let source = repeated(alloc, before, part, times, b"");
-    made_ends(alloc, source, refusal.0, refusal.1)
-}
-
-const OPENS: &[u8] = b"actor Main new create(env: Env) => ";
-
-#[test]
-fn hostile_sources_are_refused_at_their_first_fault(rt: HostRuntime) {
-    let alloc = rt.alloc();
-    all_end(&rt, alloc, SOURCES);
-    let unexpected = b"a.pony:1:1: unexpected\n";
-    assert!(rt; huge_is_refused(alloc, b"", b".", 200_000, (3, unexpected)));
-    let many = b"a.pony:1:200001: too many tokens\n";
-    assert!(rt; huge_is_refused(alloc, b"", b".", 200_001, (8, many)));
-    let deep = b"a.pony:1:235: nested too deep\n";
-    assert!(rt; huge_is_refused(alloc, OPENS, b"(", 100_000, (8, deep)));
-}
 
 const DERIVATIONS: &[Refused<'_>] = &[
     (ONE_OBJECT, b"", 5, b"a.der:1: bad line\n"),

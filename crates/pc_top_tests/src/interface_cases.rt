@@ -1,5 +1,6 @@
 //! `check`, `judge` and `run` where an entity is below an interface by its methods.
 
+use crate::programs::IDLE;
 use crate::rows::{Ending, RUN, all_end_within, ends, tells};
 
 const NAMED: &[u8] = b"interface Named\n  fun name(): String\nclass Dog";
@@ -35,6 +36,12 @@ const BELOW: &[Ending<'_>] = &[
         1,
         b"a.pony:3:7: method missing\n",
     ),
+    // It names the interface, and asks for a receiver that may write.
+    (
+        b" is Named\n  fun ref name(): String => \"dog\"\n",
+        1,
+        b"a.pony:4:11: method does not fit\n",
+    ),
     (b" is Named\n  fun name(): String => \"dog\"\n", 0, b""),
 ];
 
@@ -57,8 +64,6 @@ actor Main
 fn a_trait_is_named(rt: HostRuntime) {
     assert!(rt; ends(rt.alloc(), TRAIT, 1, b"a.pony:7:5: no rule\n"));
 }
-
-const EMPTY: &[u8] = b"actor Main\n  new create(env: Env) => None\n";
 
 const DECLARED: &[Ending<'_>] = &[
     // Capabilities, behaviours, `is` lists; what is below one trait or interface may be so by a chain.
@@ -92,7 +97,7 @@ const DECLARED: &[Ending<'_>] = &[
 
 #[test]
 fn interfaces_stand_where_traits_do(rt: HostRuntime) {
-    all_end_within(&rt, rt.alloc(), (b"", EMPTY), DECLARED);
+    all_end_within(&rt, rt.alloc(), (b"", IDLE), DECLARED);
 }
 
 /// A method that is called through the interface.

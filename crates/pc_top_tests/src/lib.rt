@@ -35,6 +35,8 @@ mod referee_cases;
 #[cfg(test)]
 mod rows;
 #[cfg(test)]
+mod rule_cases;
+#[cfg(test)]
 mod run_cases;
 #[cfg(test)]
 mod running;

@@ -1,15 +1,14 @@
 //! Limits: the largest input that is taken, and the smallest that is not, each at its number and one past it.
 
+use crate::programs::IDLE;
 use crate::rows::{JUDGE, RUN, Refused, all_refused, made_ends, refuses, refuses_made, tells};
 use crate::texts::{add_numbered, add_repeated, repeated, spaces};
 use pc_test_sources::programs::{HELLO, ONE_OBJECT};
 use std::alloc::{AllocError, Global};
 
-const MAIN: &[u8] = b"actor Main\n  new create(env: Env) => None\n";
-
 fn add_classes(alloc: Global, source: &mut Vec<u8>, count: usize) -> Result<(), AllocError> {
     add_numbered(alloc, source, b"class C", count, b"\n")?;
-    source.extend_from_slice(MAIN)
+    source.extend_from_slice(IDLE)
 }
 
 // So many classes, and a Main behind them.
@@ -60,7 +59,7 @@ fn add_methods(alloc: Global, source: &mut Vec<u8>, last: usize) -> Result<(), A
     source.extend_from_slice(b"trait U is T\n")?;
     add_97_classes(alloc, source)?;
     add_entity(alloc, source, b"class Last\n", last, b"() => None\n")?;
-    source.extend_from_slice(MAIN)
+    source.extend_from_slice(IDLE)
 }
 
 // A source of so many methods.
@@ -81,7 +80,7 @@ fn a_file_may_have_so_many_methods(rt: HostRuntime) {
 fn add_fields(alloc: Global, source: &mut Vec<u8>, count: usize) -> Result<(), AllocError> {
     source.extend_from_slice(b"class C\n")?;
     add_numbered(alloc, source, b"  let f", count, b": U64 = 1\n")?;
-    source.extend_from_slice(MAIN)
+    source.extend_from_slice(IDLE)
 }
 
 // A class with so many fields, and a Main.

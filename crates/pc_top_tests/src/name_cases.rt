@@ -1,10 +1,9 @@
 //! `check` on sources whose names are at fault, or that pass a limit.
 
+use crate::programs::IDLE;
 use crate::rows::{Ending, all_end, all_end_within, ends, made_ends};
-use crate::texts::{add_numbered, add_repeated, repeated};
+use crate::texts::{add_numbered, repeated};
 use std::alloc::{AllocError, Global};
-
-const MAIN: &[u8] = b"actor Main\n  new create(env: Env) => None\n";
 
 const DECLARATIONS: &[Ending<'_>] = &[
     (b"class C\n", 4, b"a.pony: no Main\n"),
@@ -126,7 +125,7 @@ const TEXT: &[u8] = b"actor Main\n  new create(env: Env) =>\n    env.out.print(t
 fn faults_of_bodies_are_named(rt: HostRuntime) {
     let alloc = rt.alloc();
     all_end_within(&rt, alloc, (FUN, BEHIND), BODIES);
-    all_end_within(&rt, alloc, (b"", MAIN), OTHERS);
+    all_end_within(&rt, alloc, (b"", IDLE), OTHERS);
     assert!(rt; ends(alloc, TEXT, 4, b"a.pony:3:19: name unknown\n"));
 }
 
@@ -148,29 +147,6 @@ fn a_method_may_have_so_many_slots(rt: HostRuntime) {
     assert!(rt; made_ends(alloc, with_locals(alloc, 62), 0, b""));
     let more = b"a.pony:66:9: too many slots\n";
     assert!(rt; made_ends(alloc, with_locals(alloc, 63), 8, more));
-}
-
-fn add_initial(alloc: Global, source: &mut Vec<u8>, constructors: usize) -> Result<(), AllocError> {
-    add_repeated(source, b"class C\n  var f: U64 = 1", b" + 1", 997, b"\n")?;
-    add_numbered(alloc, source, b"  new c", constructors, b"() => None\n")?;
-    source.extend_from_slice(MAIN)
-}
-
-// A class with a field whose initial value is a sum of 998 ones, with so many constructors, and a Main.
-fn with_initial(alloc: Global, constructors: usize) -> Result<Vec<u8>, AllocError> {
-    let mut source: Vec<u8> = Vec::new(alloc);
-    add_initial(alloc, &mut source, constructors)?;
-    Ok(source)
-}
-
-#[test]
-fn a_program_may_have_so_many_nodes(rt: HostRuntime) {
-    let alloc = rt.alloc();
-    // Each constructor has the 1,995 nodes of the sum, a write of the field with its `this`, None, a sequence and a body:
-    // 2,000. Main has three.
-    assert!(rt; made_ends(alloc, with_initial(alloc, 99), 0, b""));
-    let more = b"a.pony:104:7: too many nodes\n";
-    assert!(rt; made_ends(alloc, with_initial(alloc, 100), 8, more));
 }
 
 // A Main that has a text of so many bytes as its body.

@@ -2,6 +2,7 @@
 
 use crate::counted_sink::CountedSink;
 use crate::programs::{FIRST, SECOND};
+use crate::rows::CHECK;
 use crate::running::{Failing, NOTHING, stored};
 use crate::texts::joined;
 use pc_io::MemFiles;
@@ -34,11 +35,7 @@ struct Written {
 /// What stands on a sink, and how often it was called.
 type Called<'a> = (&'a [u8], u32);
 
-const CHECK: &[&str] = &["check", "a.pony"];
-
 const JUDGE: &[&str] = &["judge", "a.pony", "other"];
-
-const SHOW: &[&str] = &["show", "a.pony"];
 
 const RUN: &[&str] = &["run", "a.pony", "other"];
 
@@ -70,7 +67,7 @@ const CASES: &[Writing<'_>] = &[
         line: b"",
     },
     Writing {
-        words: SHOW,
+        words: &["show", "a.pony"],
         source: ONE_OBJECT,
         other: b"",
         status: 0,
@@ -126,6 +123,22 @@ const CASES: &[Writing<'_>] = &[
         other: b"1*10 0",
         status: 0,
         pieces: &[b"1*9 0 1\n"],
+        line: b"",
+    },
+    Writing {
+        words: &["trace", "a.pony", "other"],
+        source: HELLO,
+        other: b"1*10 0",
+        status: 0,
+        pieces: &[b"8 1 read 0.1 0 clock 0,8\naccesses 1 ordered\n"],
+        line: b"",
+    },
+    Writing {
+        words: &["sends", "a.pony"],
+        source: HELLO,
+        other: b"",
+        status: 0,
+        pieces: &[b"Main sends OutStream.print\n"],
         line: b"",
     },
     Writing {

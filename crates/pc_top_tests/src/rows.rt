@@ -7,14 +7,19 @@ use pc_io::MemFiles;
 use std::alloc::{AllocError, Global};
 use std::process::Abort;
 
+/// The words that ask for the source to be checked.
 pub(crate) const CHECK: &[&str] = &["check", "a.pony"];
 
+/// The words that ask for its derivation to be judged.
 pub(crate) const JUDGE: &[&str] = &["judge", "a.pony", "a.der"];
 
+/// The words that ask for its derivation to be upgraded.
 pub(crate) const UPGRADE: &[&str] = &["upgrade", "a.pony", "a.der"];
 
+/// The words that ask for it to be run.
 pub(crate) const RUN: &[&str] = &["run", "a.pony", "a.sched"];
 
+/// The line of words that are refused.
 pub(crate) const USAGE: &[u8] = b"usage: rcap COMMAND ARGUMENT ...\n";
 
 /// A source, and the status and the line on err at which it ends. With status 0 it is checked, and what is written then is

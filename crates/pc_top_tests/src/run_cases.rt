@@ -10,6 +10,26 @@ use crate::texts::spaces;
 use pc_test_sources::programs::{BANK, CHAIN, DOUBLES, HELLO, READERS};
 use std::alloc::{AllocError, Global};
 
+const TRUTHS: &[u8] = b"\
+actor Main
+  new create(env: Env) =>
+    env.out.print(true.string())
+    env.out.print(false.string())
+";
+
+/// A primitive and an object, each called by its name alone.
+const APPLIED: &[u8] = b"\
+primitive P
+  fun apply(n: U64): U64 => n + 1
+class C
+  fun apply(): String => \"c\"
+actor Main
+  new create(env: Env) =>
+    let c: C = C
+    env.out.print(c())
+    env.out.print(P(1).string())
+";
+
 const RUNS: &[Told<'_>] = &[
     (
         HELLO,
@@ -46,6 +66,16 @@ const RUNS: &[Told<'_>] = &[
         BANK,
         b"1*200 2*300 3*300 0*10",
         b"ann: 70\nrefused 500\nbob: 0\nsteps 296 skipped 514 actors 4 objects 7 waiting 0\n",
+    ),
+    (
+        TRUTHS,
+        b"1*21 0*2",
+        b"true\nfalse\nsteps 23 skipped 0 actors 2 objects 3 waiting 0\n",
+    ),
+    (
+        APPLIED,
+        b"1*44 0*2",
+        b"c\n2\nsteps 46 skipped 0 actors 2 objects 4 waiting 0\n",
     ),
 ];
 

@@ -26,6 +26,21 @@ actor Main
     while true do A end
 ";
 
+/// A constructor that writes two fields, of which the second is read.
+const WRITES: &[u8] = b"\
+class C
+  let a: U64 = 1
+  var n: U64
+  new create(m: U64) => n = m
+actor Main
+  new create(env: Env) =>
+    let c: C = C(7)
+    env.out.print(c.n.string())
+";
+
+const WRITES_TOLD: &[u8] = b"13 1 write 1.1 0 clock 0,13\n18 1 write 1.1 1 clock 0,18\n\
+26 1 read 1.1 1 clock 0,26\n30 1 read 0.1 0 clock 0,30\naccesses 4 ordered\n";
+
 const TRACED: &[Told<'_>] = &[
     (
         HELLO,
@@ -40,6 +55,7 @@ const TRACED: &[Told<'_>] = &[
         b"10 1 read 0.1 0 clock 0,8\naccesses 1 ordered\n",
     ),
     (CROWD, b"1*505", b"accesses 0 ordered\n"),
+    (WRITES, b"1*32", WRITES_TOLD),
 ];
 
 #[test]

@@ -1,5 +1,6 @@
 //! Commands on sources with bodies in traits and interfaces.
 
+use crate::programs::IDLE;
 use crate::rows::{Ending, RUN, all_end_within, refuses, tells};
 
 /// A body that a class takes over.
@@ -29,8 +30,6 @@ fn a_class_runs_the_body_of_a_trait(rt: HostRuntime) {
     let err = b"a.pony:2:25: name unknown\n";
     assert!(rt; refuses(alloc, RUN, UNKNOWN, b"1*21 0", (4, err)));
 }
-
-const MAIN: &[u8] = b"actor Main\n  new create(env: Env) => None\n";
 
 const BODIES: &[Ending<'_>] = &[
     // Nothing takes over a body with an unknown name, or of another type than the result.
@@ -70,5 +69,5 @@ const BODIES: &[Ending<'_>] = &[
 
 #[test]
 fn bodies_of_traits_are_checked_where_they_are_taken_over(rt: HostRuntime) {
-    all_end_within(&rt, rt.alloc(), (b"", MAIN), BODIES);
+    all_end_within(&rt, rt.alloc(), (b"", IDLE), BODIES);
 }

@@ -233,15 +233,6 @@ fn upgraded_files_may_have_so_many_bytes(rt: HostRuntime) {
     assert!(rt;
         refuses_made(
             alloc,
-            JUDGE,
-            ONE_OBJECT,
-            spaces(alloc, 33_554_432),
-            (5, line)
-        )
-    );
-    assert!(rt;
-        refuses_made(
-            alloc,
             UPGRADE,
             ONE_OBJECT,
             spaces(alloc, 33_554_432),
@@ -249,15 +240,6 @@ fn upgraded_files_may_have_so_many_bytes(rt: HostRuntime) {
         )
     );
     let long = b"a.der: longer than 33554432 bytes\n";
-    assert!(rt;
-        refuses_made(
-            alloc,
-            JUDGE,
-            ONE_OBJECT,
-            spaces(alloc, 33_554_433),
-            (8, long)
-        )
-    );
     assert!(rt;
         refuses_made(
             alloc,

@@ -1,8 +1,8 @@
 //! Runs whose accesses, clocks and verdicts are known.
-use crate::traces::{Row, Turns, fault_of, is_accepted_with, verdict_of};
+use crate::traces::{Row, Turns, fault_of, is_accepted_with, refused_declaration, verdict_of};
+use pc_check::DeclFault;
 use pc_test_sources::programs::HELLO;
-use pc_trace::{AcceptedFault, TraceFault, Verdict};
-use std::alloc::Global;
+use pc_trace::{TraceFault, Verdict};
 
 const HELLO_TURNS: [Turns; 2] = [(1, 10), (0, 1)];
 
@@ -41,13 +41,21 @@ const CONFLICT: Verdict = Verdict::Conflict {
     second: 40,
 };
 
+// The parameter of the constructor of `R`, which is method 2: `print` and the `create` added to `C` stand before it.
+const NOT_SENDABLE: DeclFault = DeclFault::NotSendable {
+    method: 2,
+    parameter: 0,
+};
+
 /// Main sends one object to two actors, which is not accepted: both write its field, and no message is between them.
 #[test]
 fn two_writers_that_nothing_orders(rt: HostRuntime) {
     let verdict = verdict_of(rt.alloc(), WRITERS, &WRITERS_TURNS, &WRITERS_ROWS);
     assert_eq!(rt; verdict, Some(CONFLICT));
-    let accepted = is_accepted_with(rt.alloc(), WRITERS, &WRITERS_TURNS, &WRITERS_ROWS);
-    assert!(rt; accepted == Some(Err(AcceptedFault::Memory)));
+    assert_eq!(rt;
+        refused_declaration(rt.alloc(), WRITERS),
+        Some(NOT_SENDABLE)
+    );
 }
 
 const MANY: &[u8] = b"actor R
@@ -61,23 +69,12 @@ actor Main
     end
 ";
 
-// The place of the step that would make one actor too many.
-fn place_of_too_many(alloc: Global, turns: u32) -> Option<u64> {
-    match fault_of(alloc, MANY, &[(1, turns)]) {
-        Some(TraceFault::TooMany(place)) => Some(place),
-        _ => None,
-    }
-}
-
-// Whether a step behind the 64th is refused, and the steps before it are traced.
-fn is_refused_at_its_place(alloc: Global) -> Option<bool> {
-    let place = place_of_too_many(alloc, 2000)?;
-    let before = u32::try_from(place).ok()?.checked_sub(1)?;
-    Some(place > 64 && fault_of(alloc, MANY, &[(1, before)]).is_none())
-}
-
-/// The step that would make the 65th actor is refused, with its place.
+/// Behind eight steps the loop takes 18 each time, and the ninth of them makes an actor. There are two at the start, so the
+/// 63rd time would make the 65th.
 #[test]
-fn too_many_actors(rt: HostRuntime) {
-    assert!(rt; is_refused_at_its_place(rt.alloc()) == Some(true));
+fn the_step_that_would_make_the_65th_actor_is_refused(rt: HostRuntime) {
+    let fault = fault_of(rt.alloc(), MANY, &[(1, 2000)]);
+    assert_eq!(rt; fault, Some(TraceFault::TooMany(1133)));
+    let fault = fault_of(rt.alloc(), MANY, &[(1, 1132)]);
+    assert_eq!(rt; fault, None);
 }

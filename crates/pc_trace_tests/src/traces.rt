@@ -5,7 +5,7 @@ ghost use Rattle.pc_rules.specs.Valid.{Valid};
 
 use pc_ann::Ann;
 use pc_caps::List;
-use pc_check::check;
+use pc_check::{CheckFault, DeclFault, check};
 use pc_core::Core;
 use pc_safe::accepted_is_safe;
 use pc_test_sources::core_of;
@@ -60,6 +60,28 @@ fn touches_by(
     let _notes = &ann.notes;
     let _machine = accepted_is_safe(alloc, core, ann, &[]);
     accepted_trace(alloc, core, actors)
+}
+
+// The declaration that a fault names, if it names one.
+fn declaration_of(fault: &CheckFault) -> Option<DeclFault> {
+    match fault {
+        CheckFault::Decl(fault) => Some(*fault),
+        CheckFault::NoRule { .. } | CheckFault::Unset { .. } | CheckFault::Memory => None,
+    }
+}
+
+// The declaration for which a core is refused, if it is refused for one.
+fn declaration_in(alloc: Global, core: &Core) -> Option<DeclFault> {
+    match check(alloc, core) {
+        Ok(_) => None,
+        Err(fault) => declaration_of(&fault),
+    }
+}
+
+/// The declaration for which a program is refused, if it is refused for one.
+pub fn refused_declaration(alloc: Global, program: &[u8]) -> Option<DeclFault> {
+    let core = core_of(alloc, program)?;
+    declaration_in(alloc, &core)
 }
 
 // The accesses of a core, where it is accepted. What is not is answered as want of memory.

@@ -83,14 +83,14 @@ actor Main
 ";
 
 #[test]
-fn accepted_examples(rt: HostRuntime) {
+fn accepted_examples_are_printed_again(rt: HostRuntime) {
     assert!(rt; is_printed_again(rt.alloc(), BANK));
     assert!(rt; is_printed_again(rt.alloc(), COUNTER));
     assert!(rt; is_printed_again(rt.alloc(), FIRST));
 }
 
 #[test]
-fn refused_examples(rt: HostRuntime) {
+fn refused_examples_are_printed_again(rt: HostRuntime) {
     assert!(rt; is_printed_again(rt.alloc(), NOT_SENDABLE));
     assert!(rt; is_printed_again(rt.alloc(), REFUSED));
 }

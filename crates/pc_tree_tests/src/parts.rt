@@ -161,7 +161,7 @@ fn stops_as(alloc: Global, stop: Stop) -> bool {
 }
 
 // How many tokens are read, or the byte of the token at which none are.
-const STOPS: [Stop; 30] = [
+const STOPS: [Stop; 36] = [
     (Part::Seq, b"a + b - c", 1, Ok(3)),
     (Part::Seq, b"a\n- b", 1, Ok(1)),
     (Part::Seq, b"a -\nb", 1, Ok(3)),
@@ -207,6 +207,27 @@ const STOPS: [Stop; 30] = [
         199,
         Ok(11),
     ),
+    (
+        Part::Seq,
+        b"if a then b end",
+        200,
+        Err(ParseFault::TooDeep(0)),
+    ),
+    (
+        Part::Seq,
+        b"while a do b end",
+        200,
+        Err(ParseFault::TooDeep(0)),
+    ),
+    (Part::Seq, b"while a do b end", 199, Ok(5)),
+    (
+        Part::Seq,
+        b"recover a end",
+        200,
+        Err(ParseFault::TooDeep(0)),
+    ),
+    (Part::Seq, b"recover a end", 199, Ok(3)),
+    (Part::Seq, b"a = b", 200, Err(ParseFault::TooDeep(2))),
 ];
 
 // The place of the first of these texts whose reading stops elsewhere.

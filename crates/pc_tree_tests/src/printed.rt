@@ -53,6 +53,6 @@ fn some_methods_of_a_trait_have_bodies(rt: HostRuntime) {
 }
 
 #[test]
-fn what_was_printed(rt: HostRuntime) {
+fn what_was_printed_is_printed_again(rt: HostRuntime) {
     assert!(rt; prints(rt.alloc(), LINES, LINES));
 }

@@ -14,6 +14,7 @@ pub struct Rows {
 }
 
 impl Rows {
+    /// No rows.
     pub fn new(alloc: Global) -> Rows {
         Rows {
             found: Vec::new(alloc),
@@ -70,6 +71,7 @@ fn label_of(e: &Expr) -> &'static str {
     }
 }
 
+/// Adds the rows of a sequence.
 #[cycle(rows)]
 pub fn of_seq(rows: &mut Rows, seq: &Seq) {
     rows.add("seq", seq.span);
@@ -106,6 +108,7 @@ fn of_exprs(rows: &mut Rows, exprs: &[Expr]) {
     }
 }
 
+/// Adds the rows of an expression.
 #[cycle(rows)]
 pub fn of_expr(rows: &mut Rows, e: &Expr) {
     rows.add(label_of(e), span_of(e));
