@@ -6,7 +6,7 @@
 //! `Lines` takes a text in pieces, of any length, and without memory: its lines are those of the annotation read, with
 //! the node's own masks in both versions, and its first fault is that of `read`.
 //!
-//! Only tested: that it is linear; the example's text, its cuts and variants.
+//! Not proved: time. Tests have the example's text, its cuts and variants, and look at no clock.
 #![tactic(auto)]
 
 mod fault;

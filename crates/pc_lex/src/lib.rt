@@ -3,7 +3,7 @@
 //! Proved: `lex` is the token list of the definition, where there is one within the limits, and else the first fault
 //! with its byte; a text has one list or one first fault, and not both.
 //!
-//! Only tested: that it is linear.
+//! Not proved: time. Tests go to the limits, and look at no clock.
 #![tactic(auto)]
 
 mod classes;

@@ -5,7 +5,7 @@
 //! that steps reach and every actor; `access`, `ahead` and the counts are the configuration's, and take no memory. After want
 //! of memory the configuration is as it was.
 //!
-//! Only tested: that a million steps take about a second.
+//! Not proved: time. A test takes a million steps, and looks at no clock.
 #![tactic(auto)]
 
 mod access;

@@ -4,7 +4,7 @@
 //! Proved: `read` is Ok with exactly the turns that a schedule's text spells, or else names the first word that spells
 //! none or makes them too many; a text has turns or one first fault, and not both.
 //!
-//! Only tested: that it is linear.
+//! Not proved: time. Tests go to the limits, and look at no clock.
 #![tactic(auto)]
 
 mod fault;
