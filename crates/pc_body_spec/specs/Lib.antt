@@ -1,3 +1,4 @@
+pub mod Texts
 pub mod Roses
 pub mod Scopes
 pub mod Expressions

@@ -15,7 +15,7 @@ use Rattle.pc_names.proofs.OtherTexts.{members_differ}
 use Rattle.pc_lists.proofs.Bools.{true_false}
 use Rattle.pc_lists.proofs.Elements.{differ_none, has_front, has_behind}
 use Rattle.pc_body_spec.specs.Scopes.{text_from}
-use Rattle.pc_file_spec.specs.Texts.{entities_texts}
+use Rattle.pc_body_spec.specs.Texts.{entities_texts}
 use Rattle.pc_file_spec.specs.Known.{texts_of}
 use Rattle.pc_file_spec.specs.Laws.{IsNeeded, TextsAreThere}
 

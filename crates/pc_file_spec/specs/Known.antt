@@ -10,7 +10,7 @@ use Rattle.pc_names.specs.Texts.{built_in_texts, with_members}
 use Rattle.pc_members.specs.Tables.{with_names}
 use Rattle.pc_body_spec.specs.Scopes.{Known, Constructor}
 use Rattle.pc_body_spec.specs.Slots.{cap_or}
-use Rattle.pc_file_spec.specs.Texts.{entities_texts}
+use Rattle.pc_body_spec.specs.Texts.{entities_texts}
 use Rattle.pc_members.specs.Members.{Member, members, member_text, is_constructor}
 
 -- ---- texts

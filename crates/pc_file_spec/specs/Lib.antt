@@ -1,4 +1,3 @@
-pub mod Texts
 pub mod Members
 pub mod Known
 pub mod Signatures

@@ -12,7 +12,7 @@ use Rattle.pc_members.specs.Tables.{with_name, with_names}
 use Rattle.pc_members.proofs.Tables.{names_in_parts}
 use Rattle.pc_members.proofs.Differences.{among_has, has_among}
 use Rattle.pc_names.specs.Texts.{with_members}
-use Rattle.pc_file_spec.specs.Texts.{entities_texts}
+use Rattle.pc_body_spec.specs.Texts.{entities_texts}
 use Rattle.pc_file_spec.specs.Known.{texts_of}
 use Rattle.pc_stands.specs.Texts.{declared_texts, needed_texts, Before, AreFirsts}
 

@@ -3,7 +3,7 @@ use Rattle.std.specs.Prelude.{◌≡◌, ◌↔◌, ℕ, ◌<◌, List, [], ◌�
 use Rattle.pc_lists.specs.Places.{Has}
 use Rattle.pc_tree.specs.Tree as t
 use Rattle.pc_members.specs.Words.{Text, field_texts, method_texts}
-use Rattle.pc_file_spec.specs.Texts.{entities_texts}
+use Rattle.pc_body_spec.specs.Texts.{entities_texts}
 
 -- The names of the fields and methods, entity by entity.
 abbrev pub declared_texts : List t.Entity → List Text
