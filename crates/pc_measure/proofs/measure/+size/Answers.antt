@@ -1,0 +1,25 @@
+use Rattle.std.proofs.Common.{arith}
+use Rattle.std.proofs.lemmas.List.{at_drop_all}
+use Rattle.pc_measure.specs.Sizes.{items_size, exprs_size, suffixes_size, arms_size}
+use Rattle.pc_tree.specs.View.{items_view, exprs_view, suffixes_view, arms_view}
+use Rattle.pc_measure.proofs.measure.+size.Goals as goal
+
+pub of_items-returns : goal.of_items-returns
+of_items-returns t c =
+    let end = at_drop_all (λ xs. items_size (items_view xs)) c.args.xs.now c.loop-x.x-index (omega arith) in
+    omega (arith, c.loop-x.invariant.0, c.loop-x.invariant.1, end)
+
+pub of_exprs-returns : goal.of_exprs-returns
+of_exprs-returns t c =
+    let end = at_drop_all (λ xs. exprs_size (exprs_view xs)) c.args.xs.now c.loop-x.x-index (omega arith) in
+    omega (arith, c.loop-x.invariant.0, c.loop-x.invariant.1, end)
+
+pub of_suffixes-returns : goal.of_suffixes-returns
+of_suffixes-returns t c =
+    let end = at_drop_all (λ xs. suffixes_size (suffixes_view xs)) c.args.xs.now c.loop-x.x-index (omega arith) in
+    omega (arith, c.loop-x.invariant.0, c.loop-x.invariant.1, end)
+
+pub of_arms-returns : goal.of_arms-returns
+of_arms-returns t c =
+    let end = at_drop_all (λ xs. arms_size (arms_view xs)) c.args.xs.now c.loop-x.x-index (omega arith) in
+    omega (arith, c.loop-x.invariant.0, c.loop-x.invariant.1, end)
