@@ -1,7 +1,7 @@
 //! What a derivation says of a core.
 
-use crate::mask::Mask;
 use pc_caps::{Cap, Form, List};
+use pc_masks::Mask;
 
 /// The typing rules. Each belongs to one kind of node, or to a few. Those that the paper of 2015 has no rule for are
 /// this project's profile.

@@ -3,7 +3,8 @@ use Rattle.std.proofs.Common.{◌≡◌, ◌∙◌, ℕ, List, [], ◌∷◌, So
 use Rattle.std.specs.Prelude.{if◌then◌else◌, option_and_then}
 use Rattle.clap.specs.Words.{fault_of, subcommand_of, takes}
 use Rattle.clap.proofs.OnLiterals.{clap_on_literals}
-use Rattle.pc_args.specs.Asked.{Asked, Text, check, command_of, has_fault, is_refused, judge, make, named, run, sends, show, swap, trace, upgrade}
+use Rattle.pc_lists.specs.Texts.{Text}
+use Rattle.pc_args.specs.Asked.{Asked, check, command_of, has_fault, is_refused, judge, make, named, run, sends, show, swap, trace, upgrade}
 use Rattle.pc_args.specs.Forms.{AskFor, WrittenFormsAreTaken, check_words, is_plain, judge_words, make_words, run_words, sends_words, show_words, swap_words, trace_words, upgrade_words}
 use Rattle.pc_args.specs.Line.{rcap}
 use Rattle.std.proofs.lemmas.Bool.{not-true}

@@ -1,7 +1,8 @@
 -- The written forms of commands.
 use Rattle.std.specs.Prelude.{◌≡◌, ◌==◌, Bool, true, false, not, List, [], ◌∷◌, Some, codes}
 use Rattle.clap.specs.Words.{takes}
-use Rattle.pc_args.specs.Asked.{Asked, Text, check, command_of, judge, make, run, sends, show, swap, trace, upgrade}
+use Rattle.pc_lists.specs.Texts.{Text}
+use Rattle.pc_args.specs.Asked.{Asked, check, command_of, judge, make, run, sends, show, swap, trace, upgrade}
 use Rattle.pc_args.specs.Line.{rcap}
 
 -- A name or number that is not empty and does not begin with `-`.

@@ -1,5 +1,6 @@
 pub mod Asked
 pub mod Forms
 pub mod Line
-pub mod Reads
+pub mod ReadingEnds
+pub mod Numbers
 pub mod Refused

@@ -1,6 +1,7 @@
 -- Which words ask for nothing.
 use Rattle.std.specs.Prelude.{◌≡◌, true, List, None}
-use Rattle.pc_args.specs.Asked.{Text, command_of, is_refused}
+use Rattle.pc_lists.specs.Texts.{Text}
+use Rattle.pc_args.specs.Asked.{command_of, is_refused}
 
 -- Exactly those that are refused.
 pub record OnlyRefusedAskForNothing : Type 0 where

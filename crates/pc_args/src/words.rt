@@ -3,7 +3,7 @@ ghost use Rattle.std.specs.Prelude.{◌≡◌, [], option_and_then, option_map, 
 ghost use Rattle.clap.specs.Matches.{first_value};
 ghost use Rattle.clap.specs.Words.{found_of, rows_of, subcommand_rows_of};
 ghost use Rattle.pc_args.specs.Asked.{asked_by, named, texts, value};
-ghost use Rattle.pc_args.specs.Reads.{Reads};
+ghost use Rattle.pc_args.specs.ReadingEnds.{ReadingEnds};
 
 use crate::line::read_matches;
 use clap::ArgMatches;
@@ -70,7 +70,7 @@ pub enum WordsFault {
 /// Reads the words after the program's name. Whatever they ask for by their definition is the answer, or they are refused,
 /// or memory ran out.
 pub fn read_words<'a>(alloc: Global, words: &'a [&'a str]) -> Result<Command<'a>, WordsFault>
-    ensures { Reads (texts words.entry.now) result }
+    ensures { ReadingEnds (texts words.entry.now) result }
 {
     match read_matches(alloc, words) {
         Ok(matches) => match command_in(&matches) {

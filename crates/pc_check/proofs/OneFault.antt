@@ -11,7 +11,7 @@ use Rattle.pc_core.specs.CoreData.{CoreData}
 use Rattle.pc_core.specs.Formed.{Formed}
 use Rattle.pc_ann.specs.declared.annotation.Note.{Note}
 use Rattle.pc_ann.specs.declared.annotation.Ann.{Ann}
-use Rattle.pc_ann.specs.Masks.{first}
+use Rattle.pc_masks.specs.Masks.{first}
 use Rattle.pc_rules.specs.Parts.{Masks, before, after}
 use Rattle.pc_rules.specs.Control.{start_set}
 use Rattle.pc_rules.specs.Rules.{Meets}

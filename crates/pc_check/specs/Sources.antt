@@ -6,7 +6,7 @@ use Rattle.pc_core.specs.CoreData.{CoreData}
 use Rattle.pc_lists.specs.Places.{Each, Has}
 use Rattle.pc_ann.specs.declared.annotation.Note.{Note}
 use Rattle.pc_ann.specs.declared.annotation.Ann.{Ann}
-use Rattle.pc_ann.specs.Masks.{first}
+use Rattle.pc_masks.specs.Masks.{first}
 use Rattle.pc_rules.specs.Parts.{Masks, after}
 use Rattle.pc_rules.specs.Control.{start_set}
 use Rattle.pc_rules.specs.Trees.{Tree}

@@ -1,7 +1,8 @@
 //! Why a core has no annotation.
 ghost use Rattle.std.specs.Prelude.{◌≡◌};
 
-use pc_ann::{Ann, Mask};
+use pc_ann::Ann;
+use pc_masks::Mask;
 use pc_sub::DeclFault;
 use std::alloc::AllocError;
 

@@ -3,8 +3,9 @@ ghost use Rattle.std.specs.Prelude.{◌≡◌, slice_get};
 ghost use Rattle.pc_check.specs.Inference as spec;
 
 use crate::sources::Source;
-use pc_ann::{Ann, Mask, Note, Rule};
+use pc_ann::{Ann, Note, Rule};
 use pc_core::{Core, Node, NodeKind};
+use pc_masks::Mask;
 use pc_rules::{Said, constructs, full, says, start_live, start_set};
 
 // The masks with which a method starts.

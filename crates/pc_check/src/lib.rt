@@ -19,5 +19,4 @@ pub use laws::{
     faults_are_one, nothing_is_derivable_with_a_declaration_that_fails,
     nothing_is_derivable_with_a_field_unset, nothing_is_derivable_without_a_rule,
 };
-pub use pc_ann::{Ann, Mask, Note, Rule};
 pub use pc_sub::DeclFault;

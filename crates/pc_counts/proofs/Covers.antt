@@ -8,7 +8,8 @@ use Rattle.pc_lists.proofs.Elements.{differ_none, has_on, has_either}
 use Rattle.pc_lists.proofs.Gets.{get_map}
 use Rattle.pc_tree.specs.declared.names.Name.{Name}
 use Rattle.pc_tree.specs.Tree as t
-use Rattle.pc_members.specs.Words.{Text, is_among, method_texts}
+use Rattle.pc_lists.specs.Texts.{Text}
+use Rattle.pc_members.specs.Words.{is_among, method_texts}
 use Rattle.pc_members.specs.Tables.{with_names}
 use Rattle.pc_members.specs.Members.{firsts, entity_named, of_entity, of_each, trait_methods}
 use Rattle.pc_members.proofs.Differences.{names_differ, among_has, has_among}

@@ -9,7 +9,8 @@ use Rattle.pc_lists.proofs.Bools.{true_false}
 use Rattle.pc_lists.proofs.Gets.{get_below, get_map, get_set_same, get_set_other}
 use Rattle.pc_tree.specs.Kinds.{is_abstract}
 use Rattle.pc_tree.specs.Tree as t
-use Rattle.pc_members.specs.Words.{Text, entity_names}
+use Rattle.pc_lists.specs.Texts.{Text}
+use Rattle.pc_members.specs.Words.{entity_names}
 use Rattle.pc_members.specs.Chains.{IsFounded}
 use Rattle.pc_members.specs.Rounds.{rank, ClosesOwn, IsReached}
 use Rattle.pc_members.proofs.Ranks.{target, rank_less, rank_few, named_by}

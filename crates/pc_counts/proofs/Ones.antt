@@ -7,11 +7,11 @@ use Rattle.std.proofs.lemmas.Option.{same_Some, none-some}
 use Rattle.std.proofs.lemmas.Nat.Bits.{bit_at-lt, same_from_bits}
 use Rattle.std.proofs.lemmas.Simd.{bit_mask_l, ones-mask_l}
 use lib.Lanes.{mask_l}
-use Rattle.pc_ann.specs.declared.mask.Mask.{Mask}
-use Rattle.pc_ann.specs.Masks.{has}
+use Rattle.pc_masks.specs.declared.mask.Mask.{Mask}
+use Rattle.pc_masks.specs.Masks.{has}
 use Rattle.pc_lists.proofs.Bools.{true_false}
 use Rattle.pc_lists.proofs.Gets.{get_within}
-use Rattle.pc_members.specs.Words.{Text}
+use Rattle.pc_lists.specs.Texts.{Text}
 
 bit_is : (n : ℕ) → n < 2 → (b : Bool) → nat_eq n 1 ≡ b → n ≡ cond b 1 0
 bit_is zero l true e = absurd (true_false (sym e))

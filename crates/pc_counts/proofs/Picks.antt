@@ -11,7 +11,8 @@ use Rattle.pc_lists.proofs.Bools.{true_false}
 use Rattle.pc_lists.proofs.Elements.{has_on}
 use Rattle.pc_tree.specs.declared.kinds.EntityKind.{EntityKind}
 use Rattle.pc_tree.specs.Tree as t
-use Rattle.pc_members.specs.Words.{Text, is_among, method_texts}
+use Rattle.pc_lists.specs.Texts.{Text}
+use Rattle.pc_members.specs.Words.{is_among, method_texts}
 use Rattle.pc_members.specs.Members.{firsts, taken, is_takable}
 use Rattle.pc_members.proofs.Differences.{same_text, equal_texts}
 use Rattle.pc_counts.specs.Totals.{takes}

@@ -7,11 +7,12 @@ use Rattle.std.proofs.lemmas.Bool.{eqb-true, eq-eqb, ne_eqb, ltb-true, ltb-false
 use Rattle.std.proofs.lemmas.Option.{same_Some, none-some, get_or_from_slice_get}
 use Rattle.std.proofs.lemmas.List.Sums.{prefix_len-le-length}
 use Rattle.std.proofs.lemmas.List.Quantifiers.{position-Some}
-use Rattle.pc_ann.specs.declared.mask.Mask.{Mask}
-use Rattle.pc_ann.specs.Masks.{has, without_number}
+use Rattle.pc_masks.specs.declared.mask.Mask.{Mask}
+use Rattle.pc_masks.specs.Masks.{has, without_number}
 use Rattle.pc_lists.specs.Places.{Differ}
 use Rattle.pc_lists.proofs.Gets.{get_below}
-use Rattle.pc_members.specs.Words.{Text, is_among}
+use Rattle.pc_lists.specs.Texts.{Text}
+use Rattle.pc_members.specs.Words.{is_among}
 use Rattle.pc_members.specs.Tables.{find_name}
 use Rattle.pc_members.proofs.Differences.{same_text, equal_texts}
 use Rattle.pc_members.proofs.Ranks.{name_place}

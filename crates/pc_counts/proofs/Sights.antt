@@ -6,7 +6,8 @@ use Rattle.pc_tree.specs.declared.kinds.EntityKind.{EntityKind}
 use Rattle.pc_tree.specs.declared.kinds.EntityKind.TheVariants as kind
 use Rattle.pc_tree.specs.Kinds.{is_abstract}
 use Rattle.pc_tree.specs.Tree as t
-use Rattle.pc_members.specs.Words.{Text, is_among, method_texts}
+use Rattle.pc_lists.specs.Texts.{Text}
+use Rattle.pc_members.specs.Words.{is_among, method_texts}
 use Rattle.pc_members.specs.Members.{firsts, is_takable}
 use Rattle.pc_members.proofs.Differences.{equal_texts}
 use Rattle.pc_members.proofs.Completed.{among_parts}

@@ -8,7 +8,8 @@ use Rattle.pc_lists.specs.Places.{Has}
 use Rattle.pc_lists.proofs.Elements.{has_on}
 use Rattle.pc_tree.specs.Kinds.{is_abstract}
 use Rattle.pc_tree.specs.Tree as t
-use Rattle.pc_members.specs.Words.{Text, is_among, method_texts, has_added}
+use Rattle.pc_lists.specs.Texts.{Text}
+use Rattle.pc_members.specs.Words.{is_among, method_texts, has_added}
 use Rattle.pc_members.specs.Members.{written, without_body, firsts, taken_over, of_each, trait_methods, abstract_methods, own_texts, added_if, members, abstract_members, concrete_members}
 use Rattle.pc_counts.specs.Numbers.{method_names}
 use Rattle.pc_counts.specs.Totals.{takes, gets, got, own_count, totals}

@@ -7,13 +7,14 @@ use Rattle.std.proofs.lemmas.List.{length-take, length-drop}
 use Rattle.std.proofs.lemmas.List.Sums.{sum_by-append}
 use Rattle.std.proofs.lemmas.List.Folds.{list_any-append}
 use Rattle.std.proofs.Math.Seq.{take-add}
-use Rattle.pc_ann.specs.declared.mask.Mask.{Mask}
-use Rattle.pc_ann.specs.Masks.{has, empty, first, meet}
+use Rattle.pc_masks.specs.declared.mask.Mask.{Mask}
+use Rattle.pc_masks.specs.Masks.{has, empty, first, meet}
 use Rattle.pc_lists.specs.Places.{Differ}
 use Rattle.pc_lists.proofs.Gets.{get_below, get_take, get_drop}
 use Rattle.pc_tree.specs.Kinds.{is_abstract}
 use Rattle.pc_tree.specs.Tree as t
-use Rattle.pc_members.specs.Words.{Text, is_among, field_texts, method_texts, entity_names, has_added}
+use Rattle.pc_lists.specs.Texts.{Text}
+use Rattle.pc_members.specs.Words.{is_among, field_texts, method_texts, entity_names, has_added}
 use Rattle.pc_members.specs.Chains.{IsFounded}
 use Rattle.pc_members.specs.Members.{added_text, own_texts, of_each, abstract_methods}
 use Rattle.pc_members.specs.Rounds.{ClosesOwn}

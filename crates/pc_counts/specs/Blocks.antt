@@ -1,7 +1,7 @@
 -- As the code computes it: what stands of 64 names in a row, by masks.
 use Rattle.std.specs.Prelude.{ℕ, Bool, true, false}
-use Rattle.pc_ann.specs.declared.mask.Mask.{Mask}
-use Rattle.pc_ann.specs.Masks.{empty, first, with_number, without_number, meet, join}
+use Rattle.pc_masks.specs.declared.mask.Mask.{Mask}
+use Rattle.pc_masks.specs.Masks.{empty, first, with_number, without_number, meet, join}
 use Rattle.pc_tree.specs.declared.kinds.EntityKind.{EntityKind}
 use Rattle.pc_tree.specs.declared.kinds.EntityKind.TheVariants as kind
 use Rattle.pc_tree.specs.Tree as t

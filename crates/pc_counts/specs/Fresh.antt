@@ -1,7 +1,7 @@
 -- As the code computes it: how many of some names each entity gets beside those that are written in it, by masks.
 use Rattle.std.specs.Prelude.{ℕ, ◌+◌, ◌-◌, List, [], ◌∷◌, count_ones, if◌then◌else◌}
-use Rattle.pc_ann.specs.declared.mask.Mask.{Mask}
-use Rattle.pc_ann.specs.Masks.{empty, first, without_number, meet, join}
+use Rattle.pc_masks.specs.declared.mask.Mask.{Mask}
+use Rattle.pc_masks.specs.Masks.{empty, first, without_number, meet, join}
 use Rattle.pc_tree.specs.declared.kinds.EntityKind.{EntityKind}
 use Rattle.pc_tree.specs.Kinds.{is_abstract}
 use Rattle.pc_tree.specs.Tree as t

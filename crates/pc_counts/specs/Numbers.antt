@@ -3,7 +3,8 @@ use Rattle.std.specs.Prelude.{ℕ, List, [], ◌∷◌, ◌++◌, map}
 use Rattle.std.specs.List.{position_or_len}
 use Rattle.std.specs.Str.{bytes_eq}
 use Rattle.pc_tree.specs.Tree as t
-use Rattle.pc_members.specs.Words.{Text, field_texts, method_texts, has_added}
+use Rattle.pc_lists.specs.Texts.{Text}
+use Rattle.pc_members.specs.Words.{field_texts, method_texts, has_added}
 use Rattle.pc_members.specs.Tables.{with_names}
 use Rattle.pc_members.specs.Chains.{numbers_of}
 use Rattle.pc_members.specs.Members.{added_text}

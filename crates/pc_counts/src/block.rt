@@ -4,7 +4,7 @@ ghost use Rattle.pc_tree.specs.View.{method_view};
 ghost use Rattle.pc_members.specs.Members.{is_takable as takes_over};
 ghost use Rattle.pc_counts.specs.Blocks as spec;
 
-use pc_ann::Mask;
+use pc_masks::Mask;
 use pc_tree::{EntityKind, MethodDef};
 
 /// For each of 64 names, what the first method of the name is in a list of methods.

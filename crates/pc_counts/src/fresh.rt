@@ -1,15 +1,15 @@
 //! How many of 64 names each entity gets beside those that are written in it.
 ghost use Rattle.std.specs.Prelude.{◌≡◌, ◌<◌, ◌^◌, [], map, length, All, IfOk};
 ghost use Rattle.pc_tree.specs.View.{entity_view};
-ghost use Rattle.pc_ann.specs.Masks.{empty};
+ghost use Rattle.pc_masks.specs.Masks.{empty};
 ghost use Rattle.pc_counts.specs.Fresh as spec;
 ghost use Rattle.pc_counts.specs.Windows as windows;
 
 use crate::block::Block;
 use crate::listing::Listing;
 use crate::window::{block_at, is_within};
-use pc_ann::Mask;
 use pc_caps::List;
+use pc_masks::Mask;
 use pc_tree::{Entity, EntityKind};
 use std::alloc::{AllocError, Global};
 

@@ -9,14 +9,15 @@ use Rattle.pc_caps.specs.declared.capability.Cap.{Cap}
 use Rattle.pc_caps.specs.declared.capability.Cap.TheVariants as cap
 use Rattle.pc_caps.specs.declared.capability.Form.{Form}
 use Rattle.pc_caps.specs.declared.capability.Form.TheVariants as form
-use Rattle.pc_ann.specs.declared.mask.Mask.{Mask}
+use Rattle.pc_masks.specs.declared.mask.Mask.{Mask}
 use Rattle.pc_ann.specs.declared.annotation.Rule.{Rule}
 use Rattle.pc_ann.specs.declared.annotation.Rule.TheVariants as rule
 use Rattle.pc_ann.specs.declared.annotation.Note.{Note}
 use Rattle.pc_deriv.specs.declared.version.Version.{Version}
 use Rattle.pc_deriv.specs.declared.version.Version.TheVariants as version
 use Rattle.pc_deriv.specs.Names.{version_name, rule_name, cap_name, form_name}
-use Rattle.pc_deriv.specs.Text.{line_end, blank, slot_line, type_text, mask_text, shown_after, masks_text, note_line, SlotFits, TypeFits, MaskFits, NoteFits}
+use Rattle.pc_lists.specs.Texts.{line_end}
+use Rattle.pc_deriv.specs.Text.{blank, slot_line, type_text, mask_text, shown_after, masks_text, note_line, SlotFits, TypeFits, MaskFits, NoteFits}
 use Rattle.pc_deriv.specs.Reading.{digit_of}
 use Rattle.pc_deriv.specs.Faults.{NoLine}
 use Rattle.pc_deriv.specs.Lines.{longest_line}

@@ -3,12 +3,13 @@ use Rattle.std.proofs.Common.{◌≡◌, ℕ, ◌-◌, ◌^◌, ◌<◌, List, �
 use Rattle.std.specs.Prelude.{codes, decimal, ⊤}
 use Rattle.pc_caps.specs.declared.capability.Cap.{Cap}
 use Rattle.pc_caps.specs.declared.capability.Form.{Form}
-use Rattle.pc_ann.specs.declared.mask.Mask.{Mask}
+use Rattle.pc_masks.specs.declared.mask.Mask.{Mask}
 use Rattle.pc_ann.specs.declared.annotation.Rule.{Rule}
 use Rattle.pc_ann.specs.declared.annotation.Note.{Note}
 use Rattle.pc_deriv.specs.declared.version.Version.{Version}
 use Rattle.pc_deriv.specs.Names.{version_name, rule_name, cap_name, form_name}
-use Rattle.pc_deriv.specs.Text.{line_end, head_line, slot_line, type_text, mask_text, shown_after, note_line, CountsFit, SlotFits, TypeFits, MaskFits, NoteFits}
+use Rattle.pc_lists.specs.Texts.{line_end}
+use Rattle.pc_deriv.specs.Text.{head_line, slot_line, type_text, mask_text, shown_after, note_line, CountsFit, SlotFits, TypeFits, MaskFits, NoteFits}
 use Rattle.pc_deriv.specs.Reading.{digit_of, after, or_else, beside, version_at, rule_at, cap_at, form_at, number_at, decimal_at, mask_at, head_at, slot_at, some_type_at, type_at, masks_at, note_at}
 use Rattle.pc_lists.specs.Options.{◌>>=◌}
 use Rattle.pc_deriv.proofs.Digits.{ten, sixteen}

@@ -1,17 +1,15 @@
 -- The derivation text of an annotation, in each version.
 use Rattle.std.specs.Prelude.{ℕ, ◌<◌, ◌^◌, false, List, [], ◌∷◌, ◌++◌, length, Option, None, Some, codes, decimal, bit_xor, ⊤}
 use Rattle.std.specs.Fmt.{digits}
+use Rattle.pc_lists.specs.Texts.{line_end}
 use Rattle.pc_caps.specs.declared.capability.Cap.{Cap}
 use Rattle.pc_caps.specs.declared.capability.Form.{Form}
-use Rattle.pc_ann.specs.declared.mask.Mask.{Mask}
+use Rattle.pc_masks.specs.declared.mask.Mask.{Mask}
 use Rattle.pc_ann.specs.declared.annotation.Note.{Note}
 use Rattle.pc_ann.specs.declared.annotation.Ann.{Ann}
 use Rattle.pc_deriv.specs.Names.{version_name, rule_name, cap_name, form_name}
 use Rattle.pc_deriv.specs.declared.version.Version.{Version}
 use Rattle.pc_deriv.specs.declared.version.Version.TheVariants as version
-
-abbrev pub line_end : List ℕ
-line_end = 10 ∷ []
 
 abbrev pub blank : List ℕ
 blank = 32 ∷ []

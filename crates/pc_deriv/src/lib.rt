@@ -25,7 +25,6 @@ mod writing;
 pub use fault::DerivFault;
 pub use laws::{annotations_are_one, faults_are_one, pieces_are_read};
 pub use line::{Line, LineFault};
-pub use pc_ann::{Ann, Mask, Note, Rule};
 pub use pieces::Lines;
 pub use reading::read;
 pub use version::Version;

@@ -5,8 +5,9 @@ ghost use Rattle.pc_deriv.specs.Reading as reading;
 use crate::names::{after, cap_at, form_at, rule_at, version_at};
 use crate::numbers::{decimal_at, mask_at};
 use crate::version::{Version, shown_after};
-use pc_ann::{Mask, Note};
+use pc_ann::Note;
 use pc_caps::{Cap, Form};
+use pc_masks::Mask;
 
 /// The version and the counts of slots and of nodes in the first line, and what follows the line.
 #[tactic(auto, unfolding(crate::specs::Reading::head_at))]

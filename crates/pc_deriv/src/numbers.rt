@@ -2,7 +2,7 @@
 ghost use Rattle.std.specs.Prelude.{◌≡◌, ◌<◌, ◌-◌, ◌^◌, option_map, IfSome};
 ghost use Rattle.pc_deriv.specs.Reading as reading;
 
-use pc_ann::Mask;
+use pc_masks::Mask;
 
 /// Masks from here on have no further digit.
 const FULL_MASK: u64 = 1 << 60;

@@ -4,7 +4,7 @@ ghost use Rattle.pc_deriv.specs.Lines as lines;
 ghost use Rattle.pc_deriv.specs.Names as names;
 ghost use Rattle.pc_deriv.specs.Text as text;
 
-use pc_ann::Mask;
+use pc_masks::Mask;
 
 /// A version of the derivation text. The first line names it.
 #[derive(Clone, Copy, Debug, PartialEq, Eq)]

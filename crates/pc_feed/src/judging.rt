@@ -13,12 +13,12 @@ ghost use Rattle.pc_feed.specs.Streams.{Judged};
 
 use crate::fault::StreamFault;
 use crate::nodes::{has_counts, leaves_unset, may_have};
+use pc_ann::Note;
 use pc_caps::{Cap, List};
 use pc_core::{Core, Node, NodeKind};
 use pc_deriv::Line;
 use pc_judge::JudgeFault;
 use pc_referee::Referee;
-use pc_rules::Note;
 use pc_sub::declarations;
 use std::alloc::{AllocError, Global};
 

@@ -3,9 +3,10 @@ ghost use Rattle.std.specs.Prelude.{◌≡◌, ◌↔◌, IsTrue, Some, length, 
 ghost use Rattle.pc_judge.specs.Computed as computed;
 ghost use Rattle.pc_feed.specs.Steps.{HasWritten, MayHave};
 
+use pc_ann::Note;
 use pc_caps::Cap;
 use pc_core::{Core, Method, Slot};
-use pc_rules::{Note, constructs, full};
+use pc_rules::{constructs, full};
 
 /// Whether there are so many slots and so many nodes.
 pub fn has_counts(core: &Core, slots: u32, nodes: u32) -> bool

@@ -1,9 +1,9 @@
 //! A small program, its derivation, and what a judge says of its variants.
+use pc_ann::Note;
 use pc_core::Core;
 use pc_feed::{Stream, StreamFault};
 use pc_judge::JudgeFault;
 use pc_referee::{ListReferee, Rules};
-use pc_rules::Note;
 use pc_test_derivations::{LINES, LINES2, NODES, note, variant_of};
 use pc_test_sources::core_of;
 use pc_test_sources::programs::ONE_OBJECT;

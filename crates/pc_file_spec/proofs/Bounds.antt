@@ -8,7 +8,8 @@ use Rattle.pc_tree.specs.declared.names.Name.{Name}
 use Rattle.pc_tree.specs.Kinds.{is_abstract}
 use Rattle.pc_tree.specs.Tree as t
 use Rattle.pc_lists.specs.Places.{Has, Differ}
-use Rattle.pc_members.specs.Words.{Text, is_among, built_in_names, texts_of, entity_names}
+use Rattle.pc_lists.specs.Texts.{Text}
+use Rattle.pc_members.specs.Words.{is_among, built_in_names, texts_of, entity_names}
 use Rattle.pc_members.specs.Words.{method_texts}
 use Rattle.pc_members.proofs.Differences.{same_text, among_has}
 use Rattle.pc_members.proofs.Named.{named_is, one_entity}

@@ -11,7 +11,8 @@ use Rattle.pc_tree.specs.Tree as t
 use Rattle.pc_lists.specs.Places.{Has, Differ}
 use Rattle.pc_names.specs.declared.fault.NameFault.TheVariants as fault
 use Rattle.pc_names.specs.declared.fault.Which.TheVariants as which
-use Rattle.pc_members.specs.Words.{Text, is_among, built_in_names, entity_names, has_added}
+use Rattle.pc_lists.specs.Texts.{Text}
+use Rattle.pc_members.specs.Words.{is_among, built_in_names, entity_names, has_added}
 use Rattle.pc_members.specs.Tables.{trait_names}
 use Rattle.pc_names.specs.Faults.{where_, either, type_faults, result_faults, provided_faults, field_faults, param_faults, signature_faults, method_faults, is_taken, added_faults, entity_faults, entities_faults, entity_name_faults, declaration_faults, entity_limit, field_limit}
 use Rattle.pc_members.specs.Words.{field_texts, method_texts}

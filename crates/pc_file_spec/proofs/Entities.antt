@@ -17,7 +17,8 @@ use Rattle.pc_core.specs.CoreData.{CoreData}
 use Rattle.pc_core.specs.Entities.{built_in, built_in_value, out_field, print_method, EntityFits, IsAbstract, Names, Leads, one, more}
 use Rattle.pc_core.specs.Lookup.{own_methods, field_name, method_name}
 use Rattle.pc_lists.specs.Places.{Each, Has, Differ, Ascends, IsIn}
-use Rattle.pc_members.specs.Words.{Text, built_in_names, texts_of, entity_names}
+use Rattle.pc_lists.specs.Texts.{Text}
+use Rattle.pc_members.specs.Words.{built_in_names, texts_of, entity_names}
 use Rattle.pc_members.specs.Words.{field_texts, method_texts}
 use Rattle.pc_members.specs.Reach.{or_nil}
 use Rattle.pc_members.specs.Chains.{first_own, IsAbove, numbers_of}

@@ -13,7 +13,8 @@ use Rattle.pc_tree.specs.Tree as t
 use Rattle.pc_tree.proofs.KindFacts.{created, no_fields}
 use Rattle.pc_lists.specs.Places.{Has, Differ}
 use Rattle.pc_lists.proofs.Gets.{map_get}
-use Rattle.pc_members.specs.Words.{Text, is_among, has_added, has_constructor}
+use Rattle.pc_lists.specs.Texts.{Text}
+use Rattle.pc_members.specs.Words.{is_among, has_added, has_constructor}
 use Rattle.pc_members.specs.Words.{field_texts, method_texts}
 use Rattle.pc_members.proofs.Differences.{differ_push}
 use Rattle.pc_members.proofs.Named.{named_is, one_entity, is_trait_named}

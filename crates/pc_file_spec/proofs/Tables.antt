@@ -6,7 +6,8 @@ use Rattle.std.proofs.lemmas.Option.{same_Some, none-some}
 use Rattle.pc_lists.proofs.Gets.{get_front, get_behind, get_below}
 use Rattle.pc_lists.specs.Places.{Has, Differ}
 use Rattle.pc_tree.specs.Tree as t
-use Rattle.pc_members.specs.Words.{Text, is_among}
+use Rattle.pc_lists.specs.Texts.{Text}
+use Rattle.pc_members.specs.Words.{is_among}
 use Rattle.pc_members.specs.Words.{field_texts, method_texts}
 use Rattle.pc_names.specs.Texts.{with_members}
 use Rattle.pc_members.specs.Tables.{with_name, with_names}

@@ -5,7 +5,7 @@ use Rattle.pc_caps.specs.declared.capability.Cap.TheVariants as cap
 use Rattle.pc_tree.specs.declared.kinds.EntityKind.{EntityKind}
 use Rattle.pc_tree.specs.declared.kinds.EntityKind.TheVariants as kind
 use Rattle.pc_tree.specs.Tree as t
-use Rattle.pc_members.specs.Words.{Text}
+use Rattle.pc_lists.specs.Texts.{Text}
 use Rattle.pc_names.specs.Texts.{built_in_texts, with_members}
 use Rattle.pc_members.specs.Tables.{with_names}
 use Rattle.pc_body_spec.specs.Scopes.{Known, Constructor}

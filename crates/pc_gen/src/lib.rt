@@ -3,18 +3,16 @@
 //! `docs/generator.md` says what the program is, `specs/Program.antt` defines it.
 //!
 //! Proved: `make` gives the tree of the program of a seed and a size, as it is defined from the draws of the seed.
-//! `schedule_of` gives the turns by which it is run, which are not too many; `seed_of` and `size_of` read the two
-//! numbers from words, or say that they spell none. That these programs are accepted is not proved.
+//! `schedule_of` gives the turns by which it is run, which are not too many. That these programs are accepted is not
+//! proved.
 #![tactic(auto)]
 
 mod bodies;
 mod draws;
-mod numbers;
 mod parts;
 mod program;
 mod schedule;
 mod task;
 
-pub use numbers::{seed_of, size_of};
 pub use program::make;
 pub use schedule::schedule_of;

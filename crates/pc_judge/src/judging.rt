@@ -7,8 +7,8 @@ ghost use Rattle.pc_judge.specs.Faults as spec;
 use crate::faults::JudgeFault;
 use crate::nodes::judge_nodes;
 use crate::slots::wrong_slot;
+use pc_ann::Ann;
 use pc_core::Core;
-use pc_rules::Ann;
 use pc_sub::declarations;
 
 /// Whether the annotation is valid for the core, whatever numbers it has. The fault is the first one in this order: the

@@ -5,8 +5,9 @@ ghost use Rattle.pc_judge.specs.Faults as spec;
 ghost use Rattle.pc_judge.specs.Computed as computed;
 
 use crate::faults::JudgeFault;
+use pc_ann::{Ann, Note};
 use pc_core::{Core, Method, Node};
-use pc_rules::{Ann, Note, constructs, full, rule_holds};
+use pc_rules::{constructs, full, rule_holds};
 
 // Whether the node of this number is the body of the method.
 fn ends(body: Option<u32>, number: u32) -> bool

@@ -3,8 +3,8 @@ ghost use Rattle.std.specs.Prelude.{◌↔◌, IsTrue, MatchOption};
 ghost use Rattle.pc_rules.specs.Valid.{KeepsWritten};
 ghost use Rattle.pc_judge.specs.Faults as spec;
 
+use pc_ann::Ann;
 use pc_core::{Core, Slot};
-use pc_rules::Ann;
 
 // Whether the slot of this number has the type that is written for it, if one is.
 fn keeps_type(ann: &Ann, number: u32, slot: Slot) -> bool

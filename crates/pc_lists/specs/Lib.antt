@@ -3,3 +3,4 @@ pub mod Places
 pub mod Ranges
 pub mod Lookup
 pub mod Counts
+pub mod Texts

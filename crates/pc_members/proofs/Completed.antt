@@ -5,7 +5,8 @@ use Rattle.std.specs.Str.{bytes_eq}
 use Rattle.pc_tree.specs.declared.kinds.EntityKind.{EntityKind}
 use Rattle.pc_tree.specs.Kinds.{is_abstract}
 use Rattle.pc_tree.specs.Tree as t
-use Rattle.pc_members.specs.Words.{Text, is_among, entity_names, has_added}
+use Rattle.pc_lists.specs.Texts.{Text}
+use Rattle.pc_members.specs.Words.{is_among, entity_names, has_added}
 use Rattle.pc_members.specs.Tables.{with_name, with_names}
 use Rattle.pc_members.specs.Chains.{Closes, IsFounded}
 use Rattle.pc_members.specs.Members.{Member, written, without_body, is_takable, taken, of_each, abstract_methods, own_texts, added_if, members, abstract_members, concrete_members}

@@ -8,7 +8,8 @@ use Rattle.pc_tree.specs.Tree as t
 use Rattle.pc_lists.specs.Places.{Has, Differ}
 use Rattle.pc_lists.proofs.Gets.{get_append, get_map}
 use Rattle.pc_lists.proofs.Elements.{has_on, has_either}
-use Rattle.pc_members.specs.Words.{Text, is_among, built_in_names, texts_of, entity_names}
+use Rattle.pc_lists.specs.Texts.{Text}
+use Rattle.pc_members.specs.Words.{is_among, built_in_names, texts_of, entity_names}
 use Rattle.pc_members.specs.Tables.{with_name, with_traits, trait_names}
 use Rattle.pc_members.specs.Members.{entity_named}
 use Rattle.pc_members.proofs.Differences.{equal_texts}

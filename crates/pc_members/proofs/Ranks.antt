@@ -14,7 +14,8 @@ use Rattle.pc_tree.specs.declared.names.Name.{Name}
 use Rattle.pc_tree.specs.Kinds.{is_abstract}
 use Rattle.pc_tree.specs.Tree as t
 use Rattle.pc_lists.specs.Places.{Has, Differ, Ascends}
-use Rattle.pc_members.specs.Words.{Text, is_among, built_in_names, texts_of, entity_names}
+use Rattle.pc_lists.specs.Texts.{Text}
+use Rattle.pc_members.specs.Words.{is_among, built_in_names, texts_of, entity_names}
 use Rattle.pc_members.specs.Reach.{or_nil}
 use Rattle.pc_members.specs.Tables.{find_name}
 use Rattle.pc_members.specs.Chains.{first_own, entity_at, Names, Leads, one, more, IsAbove, Closes, IsFounded}

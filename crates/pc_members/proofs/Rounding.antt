@@ -6,7 +6,8 @@ use Rattle.std.proofs.lemmas.List.{length-set}
 use Rattle.pc_lists.proofs.Gets.{get_below, get_drop, get_set_same, get_set_other}
 use Rattle.pc_tree.specs.Kinds.{is_abstract}
 use Rattle.pc_tree.specs.Tree as t
-use Rattle.pc_members.specs.Words.{Text, entity_names}
+use Rattle.pc_lists.specs.Texts.{Text}
+use Rattle.pc_members.specs.Words.{entity_names}
 use Rattle.pc_members.specs.Chains.{first_own, IsFounded}
 use Rattle.pc_members.specs.Members.{Member}
 use Rattle.pc_members.specs.Reach.{or_nil}

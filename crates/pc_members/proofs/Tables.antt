@@ -1,7 +1,8 @@
 -- Tables of names that grow.
 use Rattle.std.proofs.Common.{◌≡◌, List, [], ◌∷◌, ◌++◌, refl, sym, ap, ◌∙◌, append_assoc}
 use Rattle.pc_tree.specs.Tree as t
-use Rattle.pc_members.specs.Words.{Text, field_texts, method_texts, has_added}
+use Rattle.pc_lists.specs.Texts.{Text}
+use Rattle.pc_members.specs.Words.{field_texts, method_texts, has_added}
 use Rattle.pc_members.specs.Members.{added_text, own_texts}
 use Rattle.pc_members.specs.Tables.{with_name, with_names}
 

@@ -4,7 +4,8 @@ use Rattle.pc_lists.specs.Places.{Each, Has, Differ, Ascends}
 use Rattle.pc_tree.specs.declared.names.Name.{Name}
 use Rattle.pc_tree.specs.Kinds.{is_abstract}
 use Rattle.pc_tree.specs.Tree as t
-use Rattle.pc_members.specs.Words.{Text, entity_names, entity_of}
+use Rattle.pc_lists.specs.Texts.{Text}
+use Rattle.pc_members.specs.Words.{entity_names, entity_of}
 use Rattle.pc_members.specs.Reach.{Edges}
 use Rattle.pc_members.specs.Tables.{trait_names}
 use Rattle.std.specs.Str.{bytes_eq}

@@ -6,7 +6,8 @@ use Rattle.pc_tree.specs.declared.kinds.EntityKind.{EntityKind}
 use Rattle.pc_tree.specs.declared.names.Name.{Name}
 use Rattle.pc_tree.specs.Kinds.{is_abstract, may_stand}
 use Rattle.pc_tree.specs.Tree as t
-use Rattle.pc_members.specs.Words.{Text, is_among, is_new, field_texts, method_texts, has_added}
+use Rattle.pc_lists.specs.Texts.{Text}
+use Rattle.pc_members.specs.Words.{is_among, is_new, field_texts, method_texts, has_added}
 
 pub data Member : Type 0 where
   -- a method that is written, in the entity itself or in a trait or an interface from which it is taken over

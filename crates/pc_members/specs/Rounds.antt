@@ -5,7 +5,8 @@ use Rattle.pc_tree.specs.declared.kinds.EntityKind.{EntityKind}
 use Rattle.pc_tree.specs.declared.names.Name.{Name}
 use Rattle.pc_tree.specs.Kinds.{is_abstract}
 use Rattle.pc_tree.specs.Tree as t
-use Rattle.pc_members.specs.Words.{Text, is_among, has_added}
+use Rattle.pc_lists.specs.Texts.{Text}
+use Rattle.pc_members.specs.Words.{is_among, has_added}
 use Rattle.pc_members.specs.Tables.{find_name, with_names}
 use Rattle.pc_members.specs.Chains.{first_own, Closes}
 use Rattle.pc_members.specs.Reach.{or_nil}

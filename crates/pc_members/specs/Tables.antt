@@ -1,7 +1,8 @@
 -- Lists of names that differ.
 use Rattle.std.specs.Prelude.{ℕ, List, [], ◌∷◌, ◌++◌, Option, position, if◌then◌else◌}
 use Rattle.std.specs.Str.{bytes_eq}
-use Rattle.pc_members.specs.Words.{Text, is_among}
+use Rattle.pc_lists.specs.Texts.{Text}
+use Rattle.pc_members.specs.Words.{is_among}
 use Rattle.pc_tree.specs.Kinds.{is_abstract}
 use Rattle.pc_tree.specs.Tree as t
 

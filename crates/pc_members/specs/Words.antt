@@ -2,13 +2,11 @@
 use Rattle.std.specs.Prelude.{ℕ, Bool, true, false, List, [], ◌∷◌, ◌++◌, map, Option, position, codes, if◌then◌else◌}
 use Rattle.std.specs.List.{list_any}
 use Rattle.std.specs.Str.{bytes_eq}
+use Rattle.pc_lists.specs.Texts.{Text}
 use Rattle.pc_tree.specs.declared.kinds.MethodWord.{MethodWord}
 use Rattle.pc_tree.specs.declared.kinds.MethodWord.TheVariants as word
 use Rattle.pc_tree.specs.Kinds.{may_stand}
 use Rattle.pc_tree.specs.Tree as t
-
-abbrev pub Text : Type 0
-Text = List ℕ
 
 -- The text stands in the list.
 abbrev pub is_among : Text → List Text → Bool

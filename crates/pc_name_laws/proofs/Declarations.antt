@@ -16,7 +16,8 @@ use Rattle.pc_tree.specs.Tree as t
 use Rattle.pc_names.specs.declared.fault.NameFault.{NameFault}
 use Rattle.pc_names.specs.declared.fault.NameFault.TheVariants as fault
 use Rattle.pc_names.specs.declared.fault.Which.TheVariants as which
-use Rattle.pc_members.specs.Words.{Text, is_among, built_in_names, entity_names, texts_of, has_added}
+use Rattle.pc_lists.specs.Texts.{Text}
+use Rattle.pc_members.specs.Words.{is_among, built_in_names, entity_names, texts_of, has_added}
 use Rattle.pc_members.specs.Tables.{with_name, with_traits, trait_names}
 use Rattle.pc_names.specs.Faults as spec
 use Rattle.pc_names.specs.Faults.{where_, either}

@@ -7,7 +7,8 @@ use Rattle.pc_lists.proofs.Bools.{true_false}
 use Rattle.pc_lists.proofs.Elements.{has_front, has_behind, has_either}
 use Rattle.pc_lists.proofs.Gets.{get_take, take_get}
 use Rattle.pc_names.specs.declared.fault.NameFault.{NameFault}
-use Rattle.pc_members.specs.Words.{Text, is_among}
+use Rattle.pc_lists.specs.Texts.{Text}
+use Rattle.pc_members.specs.Words.{is_among}
 use Rattle.pc_names.specs.Faults.{where_, either}
 use Rattle.pc_members.proofs.Differences.{among_has, has_among}
 use Rattle.pc_name_laws.specs.Declared.{HasBefore}

@@ -9,7 +9,7 @@ use Rattle.pc_lists.proofs.Bools.{true_false}
 use Rattle.pc_lists.proofs.Elements.{has_on}
 use Rattle.pc_tree.specs.declared.kinds.EntityKind.{EntityKind}
 use Rattle.pc_tree.specs.declared.kinds.EntityKind.TheVariants as kind
-use Rattle.pc_members.specs.Words.{Text}
+use Rattle.pc_lists.specs.Texts.{Text}
 use Rattle.pc_members.proofs.Differences.{same_text, equal_texts}
 use Rattle.pc_body_spec.specs.Scopes.{Context, Known, Constructor, Scope, Visible, is_among, slot_of, TypeMeaning, primitive, created, no_value, is_own, by_kind, type_from, type_meaning, constructor_named}
 use Rattle.pc_body_spec.specs.Faults.{is_entity}

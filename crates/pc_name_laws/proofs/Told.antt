@@ -9,7 +9,8 @@ use Rattle.pc_lists.proofs.Gets.{get_map, map_get}
 use Rattle.pc_tree.specs.Tree as t
 use Rattle.pc_names.specs.declared.fault.NameFault.{NameFault}
 use Rattle.pc_names.specs.declared.fault.NameFault.TheVariants as fault
-use Rattle.pc_members.specs.Words.{Text, built_in_names, entity_names}
+use Rattle.pc_lists.specs.Texts.{Text}
+use Rattle.pc_members.specs.Words.{built_in_names, entity_names}
 use Rattle.pc_members.specs.Tables.{trait_names}
 use Rattle.pc_names.specs.Faults.{entity_faults, entities_faults, entity_name_faults, declaration_faults}
 use Rattle.pc_members.specs.Chains as chains

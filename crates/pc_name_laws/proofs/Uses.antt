@@ -7,7 +7,7 @@ use Rattle.pc_lists.proofs.Bools.{false_true}
 use Rattle.pc_caps.specs.declared.span.Span.{Span}
 use Rattle.pc_tree.specs.declared.names.Name.{Name}
 use Rattle.pc_tree.specs.declared.names.TypeRef.{TypeRef}
-use Rattle.pc_members.specs.Words.{Text}
+use Rattle.pc_lists.specs.Texts.{Text}
 use Rattle.pc_body_spec.specs.Scopes.{Context, Scope, Known, Meaning, local, field, method, nothing, member, unless_local, slot_of, resolve, is_among, TypeMeaning, primitive, created, no_value, type_meaning, constructor_named}
 use Rattle.pc_body_spec.specs.Expressions.{Start, with_method, with_type, with_value, start_with_name, create_name}
 use Rattle.pc_body_spec.specs.Faults.{Fault, unknown, double, long_text, when, unless_some, is_taken, is_entity, name_faults, type_faults, written_faults, Next, arguments, name, end, start_faults, dot_faults}

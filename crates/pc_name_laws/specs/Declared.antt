@@ -9,7 +9,8 @@ use Rattle.pc_tree.specs.Tree as t
 use Rattle.pc_names.specs.declared.fault.NameFault.{NameFault}
 use Rattle.pc_names.specs.declared.fault.NameFault.TheVariants as fault
 use Rattle.pc_names.specs.declared.fault.Which.TheVariants as which
-use Rattle.pc_members.specs.Words.{Text, built_in_names, entity_names, texts_of, has_added}
+use Rattle.pc_lists.specs.Texts.{Text}
+use Rattle.pc_members.specs.Words.{built_in_names, entity_names, texts_of, has_added}
 use Rattle.pc_members.specs.Words.{field_texts, method_texts}
 use Rattle.pc_name_laws.specs.Uses.{param_texts}
 

@@ -5,7 +5,7 @@ use Rattle.pc_lists.specs.Places.{Has}
 use Rattle.pc_caps.specs.declared.span.Span.{Span}
 use Rattle.pc_tree.specs.declared.kinds.EntityKind.TheVariants as kind
 use Rattle.pc_tree.specs.Tree as t
-use Rattle.pc_members.specs.Words.{Text}
+use Rattle.pc_lists.specs.Texts.{Text}
 use Rattle.pc_body_spec.specs.Scopes.{Context, Known, Constructor}
 use Rattle.pc_body_spec.specs.Faults.{Fault, unknown, double, long_text, arguments, name}
 use Rattle.pc_members.specs.Members.{Member}

@@ -12,7 +12,8 @@ use Rattle.pc_lists.proofs.Cuts.{nil_left, nil_right}
 use Rattle.pc_names.specs.declared.fault.NameFault.{NameFault}
 use Rattle.pc_names.specs.declared.fault.NameFault.TheVariants as fault
 use Rattle.pc_names.specs.declared.fault.Which.TheVariants as which
-use Rattle.pc_members.specs.Words.{Text, is_among, built_in_names, texts_of, entity_names}
+use Rattle.pc_lists.specs.Texts.{Text}
+use Rattle.pc_members.specs.Words.{is_among, built_in_names, texts_of, entity_names}
 use Rattle.pc_members.specs.Tables.{trait_names}
 use Rattle.pc_members.specs.Chains.{first_own, Closes, IsFounded}
 use Rattle.pc_members.proofs.Differences.{differ_push, among_has}

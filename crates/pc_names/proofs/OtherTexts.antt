@@ -2,7 +2,8 @@
 use Rattle.std.proofs.Common.{List, [], ◌∷◌, ◌++◌}
 use Rattle.pc_lists.specs.Places.{Differ}
 use Rattle.pc_tree.specs.Tree as t
-use Rattle.pc_members.specs.Words.{Text, field_texts, method_texts}
+use Rattle.pc_lists.specs.Texts.{Text}
+use Rattle.pc_members.specs.Words.{field_texts, method_texts}
 use Rattle.pc_members.specs.Tables.{with_names}
 use Rattle.pc_names.specs.Texts.{with_members, other_texts, built_in_texts}
 use Rattle.pc_members.proofs.Differences.{names_differ}

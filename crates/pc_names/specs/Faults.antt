@@ -8,7 +8,8 @@ use Rattle.pc_tree.specs.Tree as t
 use Rattle.pc_names.specs.declared.fault.NameFault.{NameFault}
 use Rattle.pc_names.specs.declared.fault.NameFault.TheVariants as fault
 use Rattle.pc_names.specs.declared.fault.Which.TheVariants as which
-use Rattle.pc_members.specs.Words.{Text, is_among, entity_names, field_texts, method_texts, has_added}
+use Rattle.pc_lists.specs.Texts.{Text}
+use Rattle.pc_members.specs.Words.{is_among, entity_names, field_texts, method_texts, has_added}
 use Rattle.pc_members.specs.Tables.{trait_names}
 
 -- A fault where the test holds.

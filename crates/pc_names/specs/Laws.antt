@@ -7,7 +7,7 @@ use Rattle.pc_tree.specs.declared.names.TypeRef.{TypeRef}
 use Rattle.pc_tree.specs.Tree as t
 use Rattle.pc_names.specs.declared.fault.NameFault.{NameFault}
 use Rattle.pc_names.specs.declared.fault.NameFault.TheVariants as fault
-use Rattle.pc_members.specs.Words.{Text}
+use Rattle.pc_lists.specs.Texts.{Text}
 use Rattle.pc_names.specs.Faults.{IsFirst, entity_faults}
 use Rattle.pc_members.specs.Chains.{Closes, InCycle, entity_at, first_own}
 use Rattle.pc_names.specs.Cycles.{cycle_faults}

@@ -3,7 +3,8 @@ use Rattle.std.specs.Prelude.{◌≡◌, ℕ, List, [], ◌++◌, drop}
 use Rattle.pc_lists.specs.Places.{Differ}
 use Rattle.pc_tree.specs.Tree as t
 use Rattle.pc_names.specs.declared.fault.NameFault.{NameFault}
-use Rattle.pc_members.specs.Words.{Text, built_in_names, entity_names}
+use Rattle.pc_lists.specs.Texts.{Text}
+use Rattle.pc_members.specs.Words.{built_in_names, entity_names}
 use Rattle.pc_names.specs.Faults.{IsFirst, entity_name_faults, declaration_faults}
 use Rattle.pc_members.specs.Chains.{Closes, first_own}
 use Rattle.pc_names.specs.Cycles.{cycle_faults}

@@ -1,7 +1,7 @@
 -- The texts of a file that are no entities' names.
 use Rattle.std.specs.Prelude.{List, [], ◌∷◌, ◌++◌, codes}
 use Rattle.pc_tree.specs.Tree as t
-use Rattle.pc_members.specs.Words.{Text}
+use Rattle.pc_lists.specs.Texts.{Text}
 use Rattle.pc_members.specs.Words.{field_texts, method_texts}
 use Rattle.pc_members.specs.Tables.{with_names}
 

@@ -4,9 +4,10 @@ ghost use Rattle.pc_rules.specs.Rules.{Holds};
 ghost use Rattle.pc_referee.specs.Asked.{pairs_after};
 
 use crate::Referee;
+use pc_ann::Note;
 use pc_caps::{Cap, List};
 use pc_core::Core;
-use pc_rules::{Note, holds};
+use pc_rules::holds;
 use std::alloc::{AllocError, Global};
 use std::marker::Model;
 

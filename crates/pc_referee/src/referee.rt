@@ -5,9 +5,9 @@ ghost use Rattle.pc_ann.specs.declared.annotation.Note.{Note as NoteIs};
 ghost use Rattle.pc_rules.specs.Rules.{Holds};
 ghost use Rattle.pc_referee.specs.Asked.{asked_after};
 
+use pc_ann::Note;
 use pc_caps::Cap;
 use pc_core::Core;
-use pc_rules::Note;
 use std::alloc::AllocError;
 
 /// One that is asked of nodes, one by one, whether they meet their rules.

@@ -3,9 +3,10 @@ ghost use Rattle.std.specs.Prelude.{◌≡◌, ◌↔◌, ◌<◌, None, length,
 ghost use Rattle.pc_rules.specs.Rules.{Holds};
 
 use crate::Referee;
+use pc_ann::Note;
 use pc_caps::Cap;
 use pc_core::Core;
-use pc_rules::{Note, holds};
+use pc_rules::holds;
 use std::alloc::AllocError;
 
 /// The referee that answers by the rules, keeps nothing and takes no memory.

@@ -16,11 +16,11 @@ use Rattle.pc_core.specs.declared.nodes.NodeKind.TheVariants as nodes
 use Rattle.pc_core.specs.CoreData.{CoreData}
 use Rattle.pc_core.specs.Nodes.{inner_depth}
 use Rattle.pc_lists.specs.Places.{Each}
-use Rattle.pc_ann.specs.declared.mask.Mask.{Mask}
+use Rattle.pc_masks.specs.declared.mask.Mask.{Mask}
 use Rattle.pc_ann.specs.declared.annotation.Note.{Note}
 use Rattle.pc_ann.specs.declared.annotation.Ann.{Ann}
-use Rattle.pc_ann.specs.Masks.{meet}
-use Rattle.pc_ann.specs.MaskLaws.{meet_bits, within_bits}
+use Rattle.pc_masks.specs.Masks.{meet}
+use Rattle.pc_masks.specs.MaskLaws.{meet_bits, within_bits}
 use Rattle.pc_sub.specs.Sub.{is_sub}
 use Rattle.pc_semantics.specs.declared.frames.Frame.{Frame}
 use Rattle.pc_semantics.specs.declared.frames.Task.{Task}

@@ -13,8 +13,8 @@ use Rattle.pc_core.specs.CoreData.{CoreData}
 use Rattle.pc_lists.proofs.Options.{bind_some}
 use Rattle.pc_core.specs.Methods.{this_slot, param_slot}
 use Rattle.pc_ann.specs.declared.annotation.Ann.{Ann}
-use Rattle.pc_ann.specs.Masks.{first}
-use Rattle.pc_ann.specs.MaskLaws.{first_bits}
+use Rattle.pc_masks.specs.Masks.{first}
+use Rattle.pc_masks.specs.MaskLaws.{first_bits}
 use Rattle.pc_semantics.specs.Around.{first_slots}
 use Rattle.pc_rules.proofs.ByNumber.{slot_of}
 use Rattle.pc_regions.proofs.World.{World, Place, InSlot, InMail, Fits}

@@ -11,7 +11,7 @@ use Rattle.pc_caps.specs.Tables.{unalias}
 use Rattle.pc_caps.specs.declared.capability.Form.{Form}
 use Rattle.pc_core.specs.declared.declarations.ParamInfo.{ParamInfo}
 use Rattle.pc_core.specs.CoreData.{CoreData}
-use Rattle.pc_ann.specs.declared.mask.Mask.{Mask}
+use Rattle.pc_masks.specs.declared.mask.Mask.{Mask}
 use Rattle.pc_ann.specs.declared.annotation.Ann.{Ann}
 use Rattle.pc_semantics.specs.declared.frames.Frame.{Frame}
 use Rattle.pc_semantics.specs.Configurations.{blank_object, fields_in}

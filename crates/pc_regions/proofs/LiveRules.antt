@@ -13,13 +13,13 @@ use Rattle.pc_core.specs.declared.nodes.NodeKind.TheVariants as node
 use Rattle.pc_core.specs.CoreData.{CoreData}
 use Rattle.pc_lists.specs.Options.{◌>>=◌}
 use Rattle.pc_lists.proofs.Options.{bind_some, kept, kept_otherwise}
-use Rattle.pc_ann.specs.declared.mask.Mask.{Mask}
+use Rattle.pc_masks.specs.declared.mask.Mask.{Mask}
 use Rattle.pc_ann.specs.declared.annotation.Note.{Note}
 use Rattle.pc_ann.specs.declared.annotation.Ann.{Ann}
 use Rattle.pc_ann.specs.declared.annotation.Rule.{Rule}
 use Rattle.pc_ann.specs.declared.annotation.Rule.TheVariants as rule
-use Rattle.pc_ann.specs.Masks.{IsIn, with_number, without_number, meet}
-use Rattle.pc_ann.specs.MaskLaws.{meet_bits, with_number_bits, without_number_bits}
+use Rattle.pc_masks.specs.Masks.{IsIn, with_number, without_number, meet}
+use Rattle.pc_masks.specs.MaskLaws.{meet_bits, with_number_bits, without_number_bits}
 use Rattle.pc_rules.specs.declared.said.Said.{Said}
 use Rattle.pc_rules.specs.Parts.{Ty, Masks, says_of, before, after, through, type_of, one_child}
 use Rattle.pc_rules.specs.Values.{defines, old_value, assigns}

@@ -16,11 +16,11 @@ use Rattle.pc_lists.specs.Places.{Each}
 use Rattle.pc_core.specs.Lookup.{own_slots}
 use Rattle.pc_core.specs.Methods.{LocalFits, SlotsFit, Uses, this_slot, param_slot}
 use Rattle.pc_core.specs.Nodes.{NamesFit, NamesLocal, NamesSlot, inner_depth}
-use Rattle.pc_ann.specs.declared.mask.Mask.{Mask}
+use Rattle.pc_masks.specs.declared.mask.Mask.{Mask}
 use Rattle.pc_ann.specs.declared.annotation.Note.{Note}
 use Rattle.pc_ann.specs.declared.annotation.Ann.{Ann}
-use Rattle.pc_ann.specs.Masks.{IsIn, first, same}
-use Rattle.pc_ann.specs.MaskLaws.{first_bits}
+use Rattle.pc_masks.specs.Masks.{IsIn, first, same}
+use Rattle.pc_masks.specs.MaskLaws.{first_bits}
 use Rattle.pc_rules.specs.Parts.{before}
 use Rattle.pc_rules.specs.Control.{start_set}
 use Rattle.pc_rules.specs.Rules.{said_by}

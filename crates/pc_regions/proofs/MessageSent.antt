@@ -7,7 +7,7 @@ use Rattle.pc_heap.specs.declared.value.Value.{Value}
 use Rattle.pc_caps.specs.Tables.{unalias}
 use Rattle.pc_caps.specs.declared.capability.Form.{Form}
 use Rattle.pc_core.specs.CoreData.{CoreData}
-use Rattle.pc_ann.specs.declared.mask.Mask.{Mask}
+use Rattle.pc_masks.specs.declared.mask.Mask.{Mask}
 use Rattle.pc_ann.specs.declared.annotation.Ann.{Ann}
 use Rattle.pc_semantics.specs.declared.frames.Frame.{Frame}
 use Rattle.pc_regions.proofs.World.{Place, InSlot, OnStack, InField, InMail, World, home, Over, Fits, Alias, WorldOk}

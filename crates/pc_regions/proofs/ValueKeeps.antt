@@ -18,11 +18,11 @@ use Rattle.pc_core.specs.declared.nodes.Slot.{Slot}
 use Rattle.pc_core.specs.CoreData.{CoreData}
 use Rattle.pc_lists.proofs.Options.{bind_some}
 use Rattle.pc_core.specs.Methods.{this_slot}
-use Rattle.pc_ann.specs.declared.mask.Mask.{Mask}
+use Rattle.pc_masks.specs.declared.mask.Mask.{Mask}
 use Rattle.pc_ann.specs.declared.annotation.Note.{Note}
 use Rattle.pc_ann.specs.declared.annotation.Ann.{Ann}
-use Rattle.pc_ann.specs.Masks.{IsIn, without_number}
-use Rattle.pc_ann.specs.MaskLaws.{without_number_bits}
+use Rattle.pc_masks.specs.Masks.{IsIn, without_number}
+use Rattle.pc_masks.specs.MaskLaws.{without_number_bits}
 use Rattle.pc_semantics.specs.declared.frames.Frame.{Frame}
 use Rattle.pc_semantics.specs.declared.frames.Task.TheVariants as task
 use Rattle.pc_semantics.specs.Around.{Around, Goes, pushed, with_slot}

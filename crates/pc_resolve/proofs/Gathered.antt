@@ -1,7 +1,7 @@
 -- What is gathered part by part is the list of all names behind a `.`, behind those of the table.
 use Rattle.std.proofs.Common.{◌≡◌, List, [], ◌∷◌, ◌++◌, Option, Some, None, refl, sym, ap, ◌∙◌}
 use Rattle.pc_tree.specs.Tree as t
-use Rattle.pc_members.specs.Words.{Text}
+use Rattle.pc_lists.specs.Texts.{Text}
 use Rattle.pc_members.specs.Tables.{with_names}
 use Rattle.pc_members.proofs.Tables.{names_in_parts}
 use Rattle.pc_body_spec.specs.Texts.{expr_texts, exprs_texts, suffix_texts, suffixes_texts, arm_texts, arms_texts, other_texts, seq_texts, items_texts, item_texts, value_texts, body_texts, values_texts, bodies_texts, entities_texts}

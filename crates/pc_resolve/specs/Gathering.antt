@@ -1,7 +1,7 @@
 -- The names of a table with those behind a `.` in a part of a body, in the order of the text.
 use Rattle.std.specs.Prelude.{List, [], ◌∷◌, Option, Some, None}
 use Rattle.pc_tree.specs.Tree as t
-use Rattle.pc_members.specs.Words.{Text}
+use Rattle.pc_lists.specs.Texts.{Text}
 use Rattle.pc_members.specs.Tables.{with_name}
 
 abbrev mutual

@@ -16,12 +16,12 @@ use Rattle.pc_core.specs.declared.nodes.NodeKind.TheVariants as node
 use Rattle.pc_core.specs.CoreData.{CoreData}
 use Rattle.pc_core.specs.Lookup.{method_named}
 use Rattle.pc_lists.specs.Options.{◌>>=◌}
-use Rattle.pc_ann.specs.declared.mask.Mask.{Mask}
+use Rattle.pc_masks.specs.declared.mask.Mask.{Mask}
 use Rattle.pc_ann.specs.declared.annotation.Note.{Note}
 use Rattle.pc_ann.specs.declared.annotation.Ann.{Ann}
 use Rattle.pc_ann.specs.declared.annotation.Rule.{Rule}
 use Rattle.pc_ann.specs.declared.annotation.Rule.TheVariants as rule
-use Rattle.pc_ann.specs.Masks.{has, with_number, without_number, within, same}
+use Rattle.pc_masks.specs.Masks.{has, with_number, without_number, within, same}
 use Rattle.pc_rules.specs.declared.said.Said.{Said}
 use Rattle.pc_rules.specs.Parts.{Ty, Masks, says_of, reads_as, reachable, constructs, before, through, type_of, one_child, last_child}
 use Rattle.pc_rules.specs.Values.{literal_says, this_form, defines, assigns, old_value}

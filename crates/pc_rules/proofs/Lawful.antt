@@ -7,10 +7,10 @@ use Rattle.pc_core.specs.declared.nodes.NodeKind.{NodeKind}
 use Rattle.pc_core.specs.declared.nodes.NodeKind.TheVariants as node
 use Rattle.pc_core.specs.CoreData.{CoreData}
 use Rattle.pc_lists.proofs.Options.{bind_some}
-use Rattle.pc_ann.specs.declared.mask.Mask.{Mask}
+use Rattle.pc_masks.specs.declared.mask.Mask.{Mask}
 use Rattle.pc_ann.specs.declared.annotation.Rule.TheVariants as rule
-use Rattle.pc_ann.specs.Masks.{IsIn, with_number}
-use Rattle.pc_ann.specs.MaskLaws.{without_number_bits, with_number_bits}
+use Rattle.pc_masks.specs.Masks.{IsIn, with_number}
+use Rattle.pc_masks.specs.MaskLaws.{without_number_bits, with_number_bits}
 use Rattle.pc_rules.specs.declared.said.Said.{Said}
 use Rattle.pc_rules.specs.Parts.{Masks, before, through, one_child, type_of, last_child}
 use Rattle.pc_rules.specs.Values.{defines}

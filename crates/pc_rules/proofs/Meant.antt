@@ -19,9 +19,9 @@ use Rattle.pc_core.specs.declared.nodes.NodeKind.TheVariants as node
 use Rattle.pc_core.specs.CoreData.{CoreData}
 use Rattle.pc_lists.proofs.Options.{bind_some, kept, kept_otherwise, bind_is}
 use Rattle.pc_lists.specs.Options.{◌>>=◌}
-use Rattle.pc_ann.specs.declared.mask.Mask.{Mask}
+use Rattle.pc_masks.specs.declared.mask.Mask.{Mask}
 use Rattle.pc_ann.specs.declared.annotation.Note.{Note}
-use Rattle.pc_ann.specs.Masks.{has, same, with_number, without_number}
+use Rattle.pc_masks.specs.Masks.{has, same, with_number, without_number}
 use Rattle.pc_rules.specs.declared.said.Said.{Said}
 use Rattle.pc_rules.specs.Parts.{Ty, Masks, Slots, says_of, starts, before, after, constructs, full, reachable, readable, reads_as, goes_to, slot_of, last_child, through_notes, one_note, two_notes, three_notes, last_note, one_type, types_of, two_types}
 use Rattle.pc_rules.specs.Values.{literal_says, this_form, this_says, used, local_says, consume_says, same_cap, same_place, defined_type, defines, defined, define_says, is_var, old_value, assigns, assigned, assign_says}

@@ -23,7 +23,7 @@ use Rattle.pc_lists.specs.Options.{◌>>=◌}
 use Rattle.pc_ann.specs.declared.annotation.Note.{Note}
 use Rattle.pc_ann.specs.declared.annotation.Rule.{Rule}
 use Rattle.pc_ann.specs.declared.annotation.Rule.TheVariants as rule
-use Rattle.pc_ann.specs.Masks.{same, within, first}
+use Rattle.pc_masks.specs.Masks.{same, within, first}
 use Rattle.pc_rules.specs.Parts.{Ty, Slots, says_of, starts, before, after, lower, reads_as, goes_to, through_notes, one_note, two_notes, three_notes, last_note, one_type, two_types}
 use Rattle.pc_rules.specs.Calls.{argument_goes, arguments_go, arguments, called, is_function, is_behaviour, calls, call_says, new_says, spawn_says, is_isolated, is_lent, argument_sendable, arguments_sendable, lends, recovers, recovered_result, callrecover_says, sends, send_says, same_text, has_text, has_string, builtin_says}
 use Rattle.pc_rules.specs.Operators.{is_arithmetic, is_comparison, is_equality, is_add, is_xor, both_read_as, comparable, value_says, arith_says, compare_says, equal_says, join_says, xor_says, meet_masks}

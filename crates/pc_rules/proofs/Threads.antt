@@ -14,12 +14,12 @@ use Rattle.pc_core.specs.CoreData.{CoreData}
 use Rattle.pc_lists.specs.Options.{◌>>=◌}
 use Rattle.pc_lists.proofs.Options.{bind_some, kept, kept_otherwise, bind_is}
 use Rattle.pc_core.specs.Nodes.{HasArity}
-use Rattle.pc_ann.specs.declared.mask.Mask.{Mask}
+use Rattle.pc_masks.specs.declared.mask.Mask.{Mask}
 use Rattle.pc_ann.specs.declared.annotation.Note.{Note}
 use Rattle.pc_ann.specs.declared.annotation.Ann.{Ann}
 use Rattle.pc_ann.specs.declared.annotation.Rule.{Rule}
 use Rattle.pc_ann.specs.declared.annotation.Rule.TheVariants as rule
-use Rattle.pc_ann.specs.Masks.{same}
+use Rattle.pc_masks.specs.Masks.{same}
 use Rattle.pc_rules.specs.declared.said.Said.{Said}
 use Rattle.pc_rules.specs.Parts.{Ty, Masks, starts, before, after, through, type_of, one_child, last_child}
 use Rattle.pc_rules.specs.Values.{defines, assigns}

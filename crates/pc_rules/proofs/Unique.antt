@@ -18,7 +18,7 @@ use Rattle.pc_lists.proofs.Ranges.{run_around}
 use Rattle.pc_lists.proofs.Options.{bind_some, kept}
 use Rattle.pc_ann.specs.declared.annotation.Note.{Note}
 use Rattle.pc_ann.specs.declared.annotation.Ann.{Ann}
-use Rattle.pc_ann.specs.Masks.{same}
+use Rattle.pc_masks.specs.Masks.{same}
 use Rattle.pc_rules.specs.Parts.{Masks, starts, before, after, through}
 use Rattle.pc_rules.specs.Rules.{said_by, Meets}
 use Rattle.pc_rules.specs.Valid.{Valid}

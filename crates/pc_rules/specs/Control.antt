@@ -14,9 +14,9 @@ use Rattle.pc_core.specs.declared.nodes.NodeKind.{NodeKind}
 use Rattle.pc_core.specs.declared.nodes.NodeKind.TheVariants as node
 use Rattle.pc_core.specs.CoreData.{CoreData}
 use Rattle.pc_lists.specs.Options.{◌>>=◌}
-use Rattle.pc_ann.specs.declared.mask.Mask.{Mask}
+use Rattle.pc_masks.specs.declared.mask.Mask.{Mask}
 use Rattle.pc_ann.specs.declared.annotation.Note.{Note}
-use Rattle.pc_ann.specs.Masks.{empty, first, without_number, within, same}
+use Rattle.pc_masks.specs.Masks.{empty, first, without_number, within, same}
 use Rattle.pc_rules.specs.declared.said.Said.{Said}
 
 -- ---- sequences

@@ -21,7 +21,7 @@ use Rattle.pc_core.specs.Lookup.{method_named}
 use Rattle.pc_ann.specs.declared.annotation.Note.{Note}
 use Rattle.pc_ann.specs.declared.annotation.Rule.{Rule}
 use Rattle.pc_ann.specs.declared.annotation.Rule.TheVariants as rule
-use Rattle.pc_ann.specs.Masks.{IsIn, with_number, without_number, within, first}
+use Rattle.pc_masks.specs.Masks.{IsIn, with_number, without_number, within, first}
 use Rattle.pc_rules.specs.Parts.{Ty, Masks, Slots, slot_of, goes_to, readable, lower, constructs, full, before, after}
 use Rattle.pc_rules.specs.Values.{defined_type, old_value}
 use Rattle.pc_rules.specs.Fields.{field_of, own_field, place, own_old}

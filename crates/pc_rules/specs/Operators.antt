@@ -6,7 +6,7 @@ use Rattle.pc_rules.specs.Parts.{Ty, Masks, says_of, reads_as, starts, after, th
 use Rattle.pc_caps.specs.declared.capability.Form.TheVariants as form
 use Rattle.pc_lists.specs.Options.{◌>>=◌}
 use Rattle.pc_ann.specs.declared.annotation.Note.{Note}
-use Rattle.pc_ann.specs.Masks.{meet}
+use Rattle.pc_masks.specs.Masks.{meet}
 use Rattle.pc_rules.specs.declared.said.Said.{Said}
 
 abbrev pub is_arithmetic : Op → Bool

@@ -15,7 +15,7 @@ use Rattle.pc_core.specs.CoreData.{CoreData}
 use Rattle.pc_lists.specs.Places.{Each}
 use Rattle.pc_ann.specs.declared.annotation.Note.{Note}
 use Rattle.pc_ann.specs.declared.annotation.Ann.{Ann}
-use Rattle.pc_ann.specs.Masks.{first}
+use Rattle.pc_masks.specs.Masks.{first}
 
 -- Each slot with a written type has that type.
 abbrev pub KeepsWritten : CoreData → Ann → Type 0

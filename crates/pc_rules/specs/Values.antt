@@ -12,9 +12,9 @@ use Rattle.pc_core.specs.declared.nodes.SlotKind.TheVariants as slot
 use Rattle.pc_core.specs.declared.nodes.Node.{Node}
 use Rattle.pc_core.specs.CoreData.{CoreData}
 use Rattle.pc_lists.specs.Options.{◌>>=◌}
-use Rattle.pc_ann.specs.declared.mask.Mask.{Mask}
+use Rattle.pc_masks.specs.declared.mask.Mask.{Mask}
 use Rattle.pc_ann.specs.declared.annotation.Note.{Note}
-use Rattle.pc_ann.specs.Masks.{has, with_number, without_number}
+use Rattle.pc_masks.specs.Masks.{has, with_number, without_number}
 use Rattle.pc_rules.specs.declared.said.Said.{Said}
 
 -- A literal: U64, Bool, String or the primitive e, as `val`.

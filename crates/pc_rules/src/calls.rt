@@ -6,9 +6,9 @@ ghost use Rattle.pc_rules.specs.Children.{type_at as type_is, goes_at as goes_is
 use crate::children::Children;
 use crate::parts::{goes_to, last_note, one_type, reads_as, says_of, through_notes};
 use crate::said::Said;
-use pc_ann::Mask;
 use pc_caps::{Cap, Form, fits, sendable, sendable_form};
 use pc_core::{Core, Method, MethodKind, ParamInfo};
+use pc_masks::Mask;
 
 // Whether the argument of this type goes to the parameter.
 fn argument_goes(core: &Core, param: ParamInfo, argument: Option<(u32, Form)>) -> bool

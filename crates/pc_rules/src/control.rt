@@ -1,6 +1,6 @@
 //! Rules for sequences, branches, loops, recover and bodies.
 ghost use Rattle.std.specs.Prelude.{◌≡◌, slice_get, length, ◌+◌};
-ghost use Rattle.pc_ann.specs.Masks.{first};
+ghost use Rattle.pc_masks.specs.Masks.{first};
 ghost use Rattle.pc_rules.specs.Control as spec;
 
 use crate::children::Children;
@@ -10,9 +10,10 @@ use crate::parts::{
     three_notes, through_notes, two_notes,
 };
 use crate::said::Said;
-use pc_ann::{Mask, Note};
+use pc_ann::Note;
 use pc_caps::{Cap, Form, fits, lift, unalias};
 use pc_core::{Core, Method, MethodKind, Node, NodeKind};
+use pc_masks::Mask;
 
 // The live mask without the slot that a node defines.
 fn without_definition(kind: &NodeKind, live: Mask) -> Mask

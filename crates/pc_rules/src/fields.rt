@@ -8,9 +8,9 @@ use crate::parts::{
     two_types,
 };
 use crate::said::Said;
-use pc_ann::Mask;
 use pc_caps::{Cap, Form, may_write, taken, view};
 use pc_core::{Core, FieldInfo, Node, NodeKind};
+use pc_masks::Mask;
 
 // A field of an entity by its name, with its index.
 fn field_of(core: &Core, entity: u32, name: u32) -> Option<(u32, FieldInfo)>

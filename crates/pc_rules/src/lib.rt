@@ -27,6 +27,5 @@ pub use laws::{
     seq_takes_out,
 };
 pub use parts::{constructs, full};
-pub use pc_ann::{Ann, Mask, Note, Rule};
 pub use rules::{holds, rule_holds, says};
 pub use said::Said;

@@ -7,8 +7,8 @@ use crate::parts::{
     after, one_type, reads_as, says_of, starts, through_notes, two_notes, two_types,
 };
 use crate::said::Said;
-use pc_ann::Mask;
 use pc_caps::Form;
+use pc_masks::Mask;
 use pc_tree::Op;
 
 fn is_arithmetic(op: Op) -> bool

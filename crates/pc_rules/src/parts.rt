@@ -1,13 +1,14 @@
 //! What the rules look at: slots, masks, the notes of children and their types.
 ghost use Rattle.std.specs.Prelude.{◌≡◌, length, slice_get};
-ghost use Rattle.pc_ann.specs.Masks.{first};
+ghost use Rattle.pc_masks.specs.Masks.{first};
 ghost use Rattle.pc_rules.specs.Parts as spec;
 
 use crate::children::Children;
 use crate::said::Said;
-use pc_ann::{Ann, Mask, Note};
+use pc_ann::{Ann, Note};
 use pc_caps::{Cap, Form, below, fits, sendable};
 use pc_core::{Core, EntityDef, MethodKind, Node, Slot};
+use pc_masks::Mask;
 use pc_sub::is_sub;
 
 // What a rule says: this type, or none, and these masks.

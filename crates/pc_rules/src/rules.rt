@@ -14,9 +14,10 @@ use crate::operators::{
 use crate::parts::note_at;
 use crate::said::Said;
 use crate::values::{assign_says, consume_says, define_says, literal_says, local_says, this_says};
-use pc_ann::{Ann, Mask, Note, Rule};
+use pc_ann::{Ann, Note, Rule};
 use pc_caps::Cap;
 use pc_core::{Core, Node, NodeKind};
+use pc_masks::Mask;
 
 // What the rule says of this node, by the types of the slots and the notes of its children.
 fn rule_says(

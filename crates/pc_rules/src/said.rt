@@ -1,7 +1,7 @@
 //! What a rule says.
 
-use pc_ann::Mask;
 use pc_caps::Form;
+use pc_masks::Mask;
 
 /// What a rule says of a node: its type and the masks after it.
 #[derive(Clone, Copy, Debug, PartialEq, Eq)]

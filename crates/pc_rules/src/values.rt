@@ -5,9 +5,9 @@ ghost use Rattle.pc_rules.specs.Values as spec;
 use crate::children::Children;
 use crate::parts::{full, goes_to, one_type, reachable, says_of, slot_of, through_notes};
 use crate::said::Said;
-use pc_ann::Mask;
 use pc_caps::{Cap, Form, plain, stored, unalias};
 use pc_core::{Core, Node, Slot, SlotKind};
+use pc_masks::Mask;
 
 // A literal of this entity.
 pub(crate) fn literal_says(entity: u32, masks: (Mask, Mask)) -> Option<Said>

@@ -3,7 +3,8 @@ ghost use Rattle.std.specs.Prelude.{◌≤◌, length};
 ghost use Rattle.pc_rules.specs.Valid.{Valid};
 ghost use Rattle.pc_steps.specs.Ends.{list_limit};
 
-use pc_check::{Ann, check};
+use pc_ann::Ann;
+use pc_check::check;
 use pc_core::Core;
 use pc_machine::Machine;
 use pc_safe::{accepted_is_safe, accepted_runs};

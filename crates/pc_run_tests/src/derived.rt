@@ -1,6 +1,7 @@
 //! The derivation that is found for the smallest program with a local.
+use pc_ann::{Ann, Note};
 use pc_caps::Cap;
-use pc_check::{Ann, Note, check};
+use pc_check::check;
 use pc_core::Core;
 use pc_test_derivations::{NODES, NodeRow, SLOTS, note};
 use pc_test_sources::core_of;

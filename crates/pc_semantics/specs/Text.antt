@@ -2,6 +2,7 @@
 use Rattle.std.specs.Prelude.{ℕ, ◌+◌, Bool, true, false, List, [], ◌∷◌, ◌++◌, length, map, replicate, flat_map, Option, Some, None, codes, decimal, sum}
 use Rattle.std.specs.List.{count_by}
 use Rattle.std.specs.FinMap.{len}
+use Rattle.pc_lists.specs.Texts.{line_end}
 use Rattle.pc_core.specs.CoreData.{CoreData}
 use Rattle.pc_semantics.specs.declared.actors.Actor.{Actor}
 use Rattle.pc_semantics.specs.declared.outcome.Outcome.{Outcome}
@@ -30,9 +31,6 @@ abbrev pub waiting : Configuration → ℕ
 waiting c = sum (map (λ (a : Actor). length a.mailbox) c.actors)
 
 -- ---- the text
-
-abbrev pub line_end : List ℕ
-line_end = 10 ∷ []
 
 abbrev pub lines : List (List ℕ) → List ℕ
 lines texts = flat_map (λ t. t ++ line_end) texts

@@ -16,7 +16,7 @@ use Rattle.pc_core.specs.declared.declarations.ParamInfo.{ParamInfo}
 use Rattle.pc_core.specs.declared.nodes.Slot.{Slot}
 use Rattle.pc_core.specs.declared.nodes.SlotKind.{SlotKind}
 use Rattle.pc_core.specs.CoreData.{CoreData}
-use Rattle.pc_members.specs.Words.{Text}
+use Rattle.pc_lists.specs.Texts.{Text}
 use Rattle.pc_members.specs.Members.{Member, written, added}
 use Rattle.pc_body_spec.specs.Scopes.{Context, Known, text_from}
 use Rattle.pc_body_spec.specs.Slots.{Local, local_slot, type_of, written_of}

@@ -25,7 +25,8 @@ use Rattle.pc_core.specs.CoreData.{CoreData}
 use Rattle.pc_core.specs.Entities.{print_method, built_in, built_in_value, out_field}
 use Rattle.pc_core.specs.Lookup.{own_methods}
 use Rattle.pc_members.specs.Words as words
-use Rattle.pc_members.specs.Words.{Text, built_in_names, entity_names}
+use Rattle.pc_lists.specs.Texts.{Text}
+use Rattle.pc_members.specs.Words.{built_in_names, entity_names}
 use Rattle.pc_members.specs.Chains.{first_own, numbers_of}
 use Rattle.pc_members.specs.Members.{members}
 use Rattle.pc_members.specs.Reach.{or_nil}

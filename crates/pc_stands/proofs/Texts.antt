@@ -7,7 +7,8 @@ use Rattle.pc_lists.proofs.Bools.{true_false}
 use Rattle.pc_lists.proofs.Elements.{has_front, has_behind, has_either}
 use Rattle.pc_lists.proofs.Gets.{get_below, get_front, get_push, append_get}
 use Rattle.pc_tree.specs.Tree as t
-use Rattle.pc_members.specs.Words.{Text, is_among, field_texts, method_texts}
+use Rattle.pc_lists.specs.Texts.{Text}
+use Rattle.pc_members.specs.Words.{is_among, field_texts, method_texts}
 use Rattle.pc_members.specs.Tables.{with_name, with_names}
 use Rattle.pc_members.proofs.Tables.{names_in_parts}
 use Rattle.pc_members.proofs.Differences.{among_has, has_among}

@@ -2,7 +2,8 @@
 use Rattle.std.specs.Prelude.{◌≡◌, ◌↔◌, ℕ, ◌<◌, List, [], ◌∷◌, ◌++◌, Some, slice_get, codes}
 use Rattle.pc_lists.specs.Places.{Has}
 use Rattle.pc_tree.specs.Tree as t
-use Rattle.pc_members.specs.Words.{Text, field_texts, method_texts}
+use Rattle.pc_lists.specs.Texts.{Text}
+use Rattle.pc_members.specs.Words.{field_texts, method_texts}
 use Rattle.pc_body_spec.specs.Texts.{entities_texts}
 
 -- The names of the fields and methods, entity by entity.

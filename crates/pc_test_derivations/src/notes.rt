@@ -1,6 +1,7 @@
 //! The derivation as an annotation.
-use pc_ann::{Mask, Note, Rule};
+use pc_ann::{Note, Rule};
 use pc_caps::{Cap, Form};
+use pc_masks::Mask;
 
 /// A node of the derivation: its rule, its type, and the live masks before and after it.
 pub type NodeRow = (Rule, Option<(u32, Form)>, u64, u64);

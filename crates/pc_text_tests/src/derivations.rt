@@ -1,6 +1,8 @@
 //! Derivations as texts. The expected values are those of the format's description.
+use pc_ann::{Ann, Note, Rule};
 use pc_caps::{Form, List};
-use pc_deriv::{Ann, DerivFault, Mask, Note, Rule, read, write, write2};
+use pc_deriv::{DerivFault, read, write, write2};
+use pc_masks::Mask;
 use pc_test_derivations::{LINES, LINES2, NODES, NodeRow, SLOTS, note, variant_of};
 use std::alloc::{AllocError, Global};
 

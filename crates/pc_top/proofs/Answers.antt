@@ -6,7 +6,8 @@ use Rattle.std.specs.Io.KnownBytes.{Appends, Keeps}
 use Rattle.pc_top.specs.Answer.{Answer, Finishes, LineEnds, IsWordsRefusal}
 use Rattle.pc_top.specs.Answer.Answer.{told, file, out_failed, err_failed, file_err_failed, no_memory}
 use Rattle.pc_top.specs.Asked.{IsVerdict, IsVerdictOf, FailedIn, FailedOf}
-use Rattle.pc_args.specs.Asked.{Text, Asked, command_of}
+use Rattle.pc_lists.specs.Texts.{Text}
+use Rattle.pc_args.specs.Asked.{Asked, command_of}
 use Rattle.pc_top.specs.Complete.{Completes}
 use Rattle.pc_io.specs.Change.{Change, change}
 use Rattle.pc_top.specs.Ends.{Ends, CommandStops, Tells}

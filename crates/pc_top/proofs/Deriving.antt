@@ -18,7 +18,7 @@ use Rattle.pc_elab.specs.Cores.{CoresAreFormed as FilesAreFormed}
 use Rattle.pc_top.specs.After.After.{goes}
 use Rattle.pc_top.specs.Accepting.{AcceptedStage, Typing}
 use Rattle.pc_top.specs.Accepting.Typing.{typed, declared, no_rule, unset}
-use Rattle.pc_args.specs.Asked.{Text}
+use Rattle.pc_lists.specs.Texts.{Text}
 use Rattle.pc_top.specs.CoreFaults.{IsCoreRefusal, IsSmall, node_start}
 use Rattle.pc_top.specs.CoreOf.{CoreOf, CoresAreFormed}
 use Rattle.pc_top.specs.Named.{Reading, whole, longer}

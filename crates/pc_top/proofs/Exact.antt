@@ -4,9 +4,10 @@ use Rattle.std.specs.Prelude.{◌↔◌, IfSome, IsTrue}
 use Rattle.std.proofs.lemmas.Option.{none-some, same_Some}
 use Rattle.pc_check.specs.Laws.{NoneWithoutRule, NoneWithUnset, NoneWithFault}
 use Rattle.pc_core.specs.CoreData.{CoreData}
-use Rattle.pc_gen.specs.Numbers.{IsSeed, IsSize}
+use Rattle.pc_args.specs.Numbers.{IsSeed, IsSize}
 use Rattle.pc_rules.specs.Valid.{Derivable}
-use Rattle.pc_args.specs.Asked.{Text, Asked, check, judge, run, show, make, swap, trace, sends, upgrade}
+use Rattle.pc_lists.specs.Texts.{Text}
+use Rattle.pc_args.specs.Asked.{Asked, check, judge, run, show, make, swap, trace, sends, upgrade}
 use Rattle.pc_top.specs.Accepting.{AcceptedStage}
 use Rattle.pc_top.specs.After.After.{stops, goes}
 use Rattle.pc_top.specs.Asked.{IsVerdictOf}

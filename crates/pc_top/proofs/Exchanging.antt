@@ -15,7 +15,7 @@ use Rattle.pc_swap.specs.Swapping.{SwapEnds}
 use Rattle.pc_swap.specs.declared.kept.Kept.{Kept}
 use Rattle.pc_swap.specs.declared.kept.SwapFault.{SwapFault}
 use Rattle.pc_swap.specs.declared.kept.SwapFault.TheVariants as fault
-use Rattle.pc_args.specs.Asked.{Text}
+use Rattle.pc_lists.specs.Texts.{Text}
 use Rattle.pc_top.specs.Accepting.{AcceptedStage}
 use Rattle.pc_top.specs.Answer.{IsWordsRefusal}
 use Rattle.pc_top.specs.CoreOf.{CoresAreFormed}

@@ -21,7 +21,7 @@ use Rattle.pc_elab.specs.Cores.{IsFirstFault, Spelled}
 use Rattle.pc_file_spec.specs.Cores.{IsElabFault}
 use Rattle.pc_grammar.specs.SpellsFile.{SpellsFile}
 use Rattle.pc_top.specs.After.After.{stops, goes}
-use Rattle.pc_args.specs.Asked.{Text}
+use Rattle.pc_lists.specs.Texts.{Text}
 use Rattle.pc_top.specs.Refusal.{IsPlaceRefusal, offset_line}
 use Rattle.pc_top.specs.Faults.{IsFaultRefusal}
 use Rattle.pc_top.specs.Lines.{longer_line}

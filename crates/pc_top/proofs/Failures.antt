@@ -3,7 +3,8 @@ use Rattle.std.proofs.Common.{◌≡◌, ◌≤◌, ℕ, List, Option, Some, Non
 use Rattle.std.specs.Prelude.{◌⊎◌, Result}
 use Rattle.pc_ann.specs.declared.annotation.Ann.{Ann}
 use Rattle.pc_core.specs.CoreData.{CoreData}
-use Rattle.pc_args.specs.Asked.{Text, Asked, check, judge, run, show, make, swap, trace, sends, upgrade, command_of}
+use Rattle.pc_lists.specs.Texts.{Text}
+use Rattle.pc_args.specs.Asked.{Asked, check, judge, run, show, make, swap, trace, sends, upgrade, command_of}
 use Rattle.pc_io.specs.Change.{Change}
 use Rattle.pc_top.specs.After.After.{stops, goes}
 use Rattle.pc_top.specs.Accepting.{AcceptedStage}

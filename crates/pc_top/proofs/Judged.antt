@@ -13,7 +13,7 @@ use Rattle.pc_feed.specs.declared.parts.DerivationFault.{DerivationFault}
 use Rattle.pc_feed.specs.declared.parts.DerivationFault.TheVariants as parts
 use Rattle.pc_feed.specs.Laws.{ValidAsksAll}
 use Rattle.pc_feed.specs.Parts.{Asks, FileJudged, ReadWhole}
-use Rattle.pc_args.specs.Asked.{Text}
+use Rattle.pc_lists.specs.Texts.{Text}
 use Rattle.pc_io.specs.Change.{Change, change}
 use Rattle.pc_top.specs.After.After.{stops, goes}
 use Rattle.pc_top.specs.Ends.{CommandStops}

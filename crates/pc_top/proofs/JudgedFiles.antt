@@ -2,7 +2,7 @@
 use Rattle.std.proofs.Common.{◌≡◌, ◌≤◌, ℕ, ◌+◌, [], ◌∷◌, Option, Err, inl, inr, subst}
 use Rattle.pc_core.specs.CoreData.{CoreData}
 use Rattle.pc_referee.specs.Asked.{Pairs}
-use Rattle.pc_args.specs.Asked.{Text}
+use Rattle.pc_lists.specs.Texts.{Text}
 use Rattle.pc_io.specs.Change.{change}
 use Rattle.pc_top.specs.Ends.{CommandStops}
 use Rattle.pc_top.specs.Judge.{DerivationJudged, DerivationStage, IsJudge, Judged, derivation_limit, in_parts}

@@ -10,7 +10,7 @@ use Rattle.pc_io.specs.Sink.{GrowsByPrefix}
 use Rattle.pc_io.proofs.Prefixes.{grows_more, grows_on, rose_before}
 use Rattle.pc_run.specs.Ends.{NeverLacks}
 use Rattle.pc_run.specs.Spreading.{spread}
-use Rattle.pc_args.specs.Asked.{Text}
+use Rattle.pc_lists.specs.Texts.{Text}
 use Rattle.pc_top.specs.Answer.{IsWordsRefusal}
 use Rattle.pc_top.specs.Ends.{Ends, CommandStops, TellsPart}
 use Rattle.pc_top.specs.Lines.{usage_line}

@@ -10,7 +10,7 @@ use Rattle.pc_names.specs.Laws.{NotBoth as NotBothNames, OneFault as OneNameFaul
 use Rattle.pc_names.specs.declared.fault.NameFault.{NameFault}
 use Rattle.pc_file_spec.specs.Laws.{OneCore, NotBoth as NotBothMembers, OneFault as OneMemberFault}
 use Rattle.pc_tree.specs.Tree as t
-use Rattle.pc_args.specs.Asked.{Text}
+use Rattle.pc_lists.specs.Texts.{Text}
 use Rattle.pc_top.specs.After.{After, IsOne}
 use Rattle.pc_top.specs.After.After.{stops, goes}
 use Rattle.pc_top.specs.Faults.{fault_status, fault_line}

@@ -12,7 +12,7 @@ use Rattle.pc_swap.specs.Kept.{IsKept}
 use Rattle.pc_swap.specs.Laws.{KeptAreNotApart}
 use Rattle.pc_swap.specs.declared.kept.Kept.{Kept}
 use Rattle.pc_swap.specs.declared.kept.Kept.TheVariants.{SameActor, NotMoved, OneMailbox, BothSpawn}
-use Rattle.pc_args.specs.Asked.{Text}
+use Rattle.pc_lists.specs.Texts.{Text}
 use Rattle.pc_top.specs.After.{IsOne}
 use Rattle.pc_top.specs.Lines.{too_long_line}
 use Rattle.pc_top.specs.Swap.{IsPlace, Neighbours, SwapText, Swapped, Swapping, kept_line, swapped}

@@ -14,7 +14,7 @@ use Rattle.pc_semantics.specs.declared.outcome.Outcome.{Outcome}
 use Rattle.pc_semantics.specs.declared.outcome.Outcome.TheVariants as outcome
 use Rattle.pc_trace.specs.Traces.{AllTouches, TooManyAt, TouchAt, actor_limit}
 use Rattle.pc_trace.specs.declared.touch.Touch.{Touch}
-use Rattle.pc_args.specs.Asked.{Text}
+use Rattle.pc_lists.specs.Texts.{Text}
 use Rattle.pc_top.specs.After.{IsOne}
 use Rattle.pc_top.specs.Lines.{many_actors_line, too_long_line}
 use Rattle.pc_top.specs.Trace.{TracedSo, Tracing, trace_text, traced}

@@ -2,7 +2,8 @@
 use Rattle.std.proofs.Common.{◌≡◌, ℕ, Option, Some, None, Ok, Err, refl, sym, subst, ◌∙◌, inl, inr, arith}
 use Rattle.std.specs.Prelude.{Result}
 use Rattle.pc_referee.specs.Asked.{Pairs}
-use Rattle.pc_args.specs.Asked.{Text, Asked, check, judge, make, run, sends, show, swap, trace, upgrade}
+use Rattle.pc_lists.specs.Texts.{Text}
+use Rattle.pc_args.specs.Asked.{Asked, check, judge, make, run, sends, show, swap, trace, upgrade}
 use Rattle.pc_io.specs.Change.{Change}
 use Rattle.pc_top.specs.Answer.{Finishes, LineEnds, StopFinishes}
 use Rattle.pc_top.specs.Referee.{Asks, AsksSo, JudgeAsks, JudgedAll, NotDone}

@@ -13,7 +13,7 @@ use Rattle.pc_semantics.specs.Step.{step}
 use Rattle.pc_semantics.specs.Text.{ended_at, end_of, run_text}
 use Rattle.pc_semantics.specs.declared.outcome.Outcome.{Outcome}
 use Rattle.pc_semantics.specs.declared.outcome.Outcome.TheVariants.{Moved, Skipped, Lacks, TooLong}
-use Rattle.pc_args.specs.Asked.{Text}
+use Rattle.pc_lists.specs.Texts.{Text}
 use Rattle.pc_io.specs.Change.{Change}
 use Rattle.pc_top.specs.Ends.{Tells, TellsPart}
 use Rattle.pc_top.specs.Lines.{too_long_line}

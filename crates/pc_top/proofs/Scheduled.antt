@@ -5,7 +5,7 @@ use Rattle.pc_sched.specs.Limits.{turn_limit}
 use Rattle.pc_sched.specs.Schedules.{FirstFault, TurnList, total}
 use Rattle.pc_sched.specs.declared.fault.SchedFault.TheVariants.{BadWord, TooMany}
 use Rattle.pc_sched.specs.declared.turns.Turn.{Turn}
-use Rattle.pc_args.specs.Asked.{Text}
+use Rattle.pc_lists.specs.Texts.{Text}
 use Rattle.pc_top.specs.After.After.{goes}
 use Rattle.pc_top.specs.Named.{Reading, whole}
 use Rattle.pc_top.specs.Refusal.{IsPlaceRefusal}

@@ -19,7 +19,7 @@ use Rattle.pc_sends.specs.Tables.{IsTable}
 use Rattle.pc_sends.specs.declared.table.Table.{Table}
 use Rattle.pc_sends.proofs.Tabled.{table_tells}
 use Rattle.pc_sends.proofs.There.{reach_below}
-use Rattle.pc_args.specs.Asked.{Text}
+use Rattle.pc_lists.specs.Texts.{Text}
 use Rattle.pc_top.specs.Accepting.{AcceptedStage}
 use Rattle.pc_top.specs.CoreOf.{CoresAreFormed}
 use Rattle.pc_top.specs.Named.{Named}

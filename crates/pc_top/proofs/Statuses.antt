@@ -6,7 +6,7 @@ use Rattle.pc_deriv.specs.declared.fault.DerivFault.{DerivFault}
 use Rattle.pc_deriv.specs.declared.fault.DerivFault.TheVariants as deriv
 use Rattle.pc_names.specs.declared.fault.NameFault.{NameFault}
 use Rattle.pc_names.specs.declared.fault.NameFault.TheVariants as names
-use Rattle.pc_args.specs.Asked.{Text}
+use Rattle.pc_lists.specs.Texts.{Text}
 use Rattle.pc_top.specs.After.After.{stops, goes}
 use Rattle.pc_top.specs.Accepting.{AcceptedStage, Typing}
 use Rattle.pc_top.specs.Accepting.Typing.{declared, no_rule, unset}

@@ -3,7 +3,7 @@ use Rattle.std.proofs.Common.{◌≡◌, ℕ, List, Option, Err, inl, refl, sym,
 use Rattle.pc_core.specs.CoreData.{CoreData}
 use Rattle.pc_io.specs.Change.{change}
 use Rattle.pc_trace.specs.Traces.{TooLongAt, TooManyAt}
-use Rattle.pc_args.specs.Asked.{Text}
+use Rattle.pc_lists.specs.Texts.{Text}
 use Rattle.pc_top.specs.Ends.{CommandStops}
 use Rattle.pc_top.specs.Lines.{many_actors_line, too_long_line}
 use Rattle.pc_top.specs.Stages.{StageStops}

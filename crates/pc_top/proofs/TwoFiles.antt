@@ -1,7 +1,7 @@
 -- Commands that read two files, one after the other.
 use Rattle.std.proofs.Common.{◌≡◌, ◌≤◌, ℕ, [], ◌∷◌, Option, Ok, Err, inl, inr}
 use Rattle.std.specs.Prelude.{Result}
-use Rattle.pc_args.specs.Asked.{Text}
+use Rattle.pc_lists.specs.Texts.{Text}
 use Rattle.pc_io.specs.Change.{Change, change}
 use Rattle.pc_top.specs.Ends.{Ends, CommandStops}
 use Rattle.pc_top.specs.FromFile.{FromFile}

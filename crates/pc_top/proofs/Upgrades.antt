@@ -10,7 +10,7 @@ use Rattle.pc_deriv.specs.declared.fault.DerivFault.{DerivFault}
 use Rattle.pc_deriv.specs.declared.fault.DerivFault.TheVariants as deriv
 use Rattle.pc_deriv.specs.declared.version.Version.TheVariants as version
 use Rattle.pc_rules.specs.Valid.{Valid}
-use Rattle.pc_args.specs.Asked.{Text}
+use Rattle.pc_lists.specs.Texts.{Text}
 use Rattle.pc_io.specs.Change.{Change, change}
 use Rattle.pc_top.specs.After.After.{goes}
 use Rattle.pc_top.specs.Ends.{CommandStops}

@@ -4,7 +4,7 @@ use Rattle.pc_ann.specs.declared.annotation.Ann.{Ann}
 use Rattle.pc_sub.specs.Declarations.{first_fault}
 use Rattle.pc_sub.specs.declared.faults.DeclFault.{DeclFault}
 use Rattle.pc_rules.specs.Valid.{Valid, NoRule, Unset}
-use Rattle.pc_args.specs.Asked.{Text}
+use Rattle.pc_lists.specs.Texts.{Text}
 use Rattle.pc_top.specs.After.{After}
 use Rattle.pc_top.specs.CoreFaults.{decl_offset, decl_text}
 use Rattle.pc_top.specs.Named.{Reading}

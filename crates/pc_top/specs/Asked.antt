@@ -1,7 +1,8 @@
 -- The verdict on the words of a command line.
 use Rattle.std.specs.Prelude.{ℕ, ◌≡◌, Option, Some, None, List, IfSome, IsTrue}
-use Rattle.pc_gen.specs.Numbers.{IsSeed, IsSize}
-use Rattle.pc_args.specs.Asked.{Text, Asked, check, judge, run, show, make, swap, trace, sends, upgrade, command_of}
+use Rattle.pc_args.specs.Numbers.{IsSeed, IsSize}
+use Rattle.pc_lists.specs.Texts.{Text}
+use Rattle.pc_args.specs.Asked.{Asked, check, judge, run, show, make, swap, trace, sends, upgrade, command_of}
 use Rattle.pc_top.specs.Check.{IsCheck}
 use Rattle.pc_top.specs.Commands.{files_of, infers}
 use Rattle.pc_top.specs.CoreOf.{IsDerivable, IsUnderivable, HasSafeCore}

@@ -1,6 +1,7 @@
 -- What each command reads.
 use Rattle.std.specs.Prelude.{Bool, true, false, List, [], ◌∷◌, Option, Some, None}
-use Rattle.pc_args.specs.Asked.{Text, Asked, check, judge, make, run, sends, show, swap, trace, upgrade}
+use Rattle.pc_lists.specs.Texts.{Text}
+use Rattle.pc_args.specs.Asked.{Asked, check, judge, make, run, sends, show, swap, trace, upgrade}
 
 -- The files that a command reads, in this order.
 abbrev pub files_of : Asked → List Text

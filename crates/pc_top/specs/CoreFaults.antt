@@ -10,7 +10,7 @@ use Rattle.pc_sub.specs.declared.faults.DeclFault.TheVariants as decl
 use Rattle.pc_check.specs.declared.fault.CheckFault.{CheckFault}
 use Rattle.pc_check.specs.declared.fault.CheckFault.TheVariants as fault
 use Rattle.pc_deriv.specs.Limits.{slot_limit, node_limit}
-use Rattle.pc_args.specs.Asked.{Text}
+use Rattle.pc_lists.specs.Texts.{Text}
 use Rattle.pc_top.specs.Refusal.{offset_line}
 use Rattle.pc_top.specs.declared.source.Source.{Source}
 use Rattle.pc_top.specs.declared.stop.Stop.{Stop}

@@ -3,7 +3,7 @@ use Rattle.std.specs.Prelude.{ℕ, ◌≡◌, ◌⊎◌, [], Result, MatchResult
 use Rattle.std.specs.Io.KnownBytes.{Appends, Keeps}
 use Rattle.pc_io.specs.Change.{Change}
 use Rattle.pc_io.specs.Sink.{Rose, GrowsByPrefix}
-use Rattle.pc_args.specs.Asked.{Text}
+use Rattle.pc_lists.specs.Texts.{Text}
 use Rattle.pc_top.specs.Verdict.{Verdict}
 use Rattle.pc_top.specs.declared.stop.Stop.{Stop}
 use Rattle.pc_top.specs.declared.stop.Stop.TheVariants.{Refused, File, Sink, Memory}

@@ -1,7 +1,8 @@
 -- What the statuses 0 and 1 say of a source, exactly.
 use Rattle.std.specs.Prelude.{ℕ, ◌≡◌, ◌↔◌, Some, List, IsTrue}
-use Rattle.pc_gen.specs.Numbers.{IsSeed, IsSize}
-use Rattle.pc_args.specs.Asked.{Text, Asked, check, judge, run, show, make, swap, trace, sends, upgrade, command_of}
+use Rattle.pc_args.specs.Numbers.{IsSeed, IsSize}
+use Rattle.pc_lists.specs.Texts.{Text}
+use Rattle.pc_args.specs.Asked.{Asked, check, judge, run, show, make, swap, trace, sends, upgrade, command_of}
 use Rattle.pc_top.specs.Asked.{IsVerdict}
 use Rattle.pc_top.specs.Commands.{infers, source_of}
 use Rattle.pc_top.specs.CoreOf.{IsDerivable, IsUnderivable}

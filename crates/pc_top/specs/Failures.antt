@@ -1,7 +1,7 @@
 -- The statuses of failures and of want of memory are no verdict's.
 use Rattle.std.specs.Prelude.{ℕ, ◌≡◌, ◌≤◌, ◌⊎◌, List}
 use Rattle.std.specs.Io.KnownBytes.{Appends, Keeps}
-use Rattle.pc_args.specs.Asked.{Text}
+use Rattle.pc_lists.specs.Texts.{Text}
 use Rattle.pc_io.specs.Change.{Change}
 use Rattle.pc_io.specs.Sink.{Rose, GrowsByPrefix}
 use Rattle.pc_top.specs.Answer.{Answer}

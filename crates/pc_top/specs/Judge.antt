@@ -12,10 +12,10 @@ use Rattle.pc_judge.specs.Faults.{FirstFault}
 use Rattle.pc_judge.specs.declared.faults.JudgeFault.{JudgeFault}
 use Rattle.pc_judge.specs.declared.faults.JudgeFault.TheVariants as fault
 use Rattle.pc_top.specs.After.{After}
-use Rattle.pc_args.specs.Asked.{Text}
+use Rattle.pc_lists.specs.Texts.{Text, line_end}
 use Rattle.pc_top.specs.CoreFaults.{decl_offset, decl_text}
 use Rattle.pc_top.specs.FromFile.{FromFile}
-use Rattle.pc_top.specs.Lines.{line_end, longer_line, bad_line, many_line, shape_line, slot_line, node_line, unset_line}
+use Rattle.pc_top.specs.Lines.{longer_line, bad_line, many_line, shape_line, slot_line, node_line, unset_line}
 use Rattle.pc_top.specs.Named.{Named, Reading}
 use Rattle.pc_top.specs.Refusal.{offset_line}
 use Rattle.pc_top.specs.Source.{Length, SourceStage, source_limit}

@@ -1,9 +1,6 @@
 -- The lines on err, and the first line of `make`.
-use Rattle.std.specs.Prelude.{ℕ, [], ◌∷◌, ◌++◌, codes, decimal}
-use Rattle.pc_args.specs.Asked.{Text}
-
-abbrev pub line_end : Text
-line_end = 10 ∷ []
+use Rattle.std.specs.Prelude.{ℕ, ◌++◌, codes, decimal}
+use Rattle.pc_lists.specs.Texts.{Text, line_end}
 
 abbrev pub usage_line : Text
 usage_line = codes "usage: rcap COMMAND ARGUMENT ..." ++ line_end

@@ -1,11 +1,11 @@
 -- `make SEED SIZE`.
 use Rattle.std.specs.Prelude.{ℕ, ◌≡◌, Option, Some, None, length, codes}
-use Rattle.pc_gen.specs.Numbers.{IsSeed, IsSize}
+use Rattle.pc_args.specs.Numbers.{IsSeed, IsSize}
 use Rattle.pc_gen.specs.Program.{program}
 use Rattle.pc_gen.specs.Schedule.{schedule}
 use Rattle.pc_print.specs.Printing.{printed}
 use Rattle.pc_run.specs.Spreading.{spread}
-use Rattle.pc_args.specs.Asked.{Text}
+use Rattle.pc_lists.specs.Texts.{Text}
 use Rattle.pc_top.specs.Accepting.{AcceptedStage}
 use Rattle.pc_top.specs.FromFile.{FromFile}
 use Rattle.pc_top.specs.Lines.{counts_line, usage_line}

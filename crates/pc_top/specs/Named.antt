@@ -1,6 +1,6 @@
 -- The files of a command, and what reading one gives.
 use Rattle.std.specs.Prelude.{ℕ, ◌≡◌, ◌<◌, ◌≤◌, ◌⊎◌, List, [], ◌∷◌, length, Option, Some, IfSome, IsSome}
-use Rattle.pc_args.specs.Asked.{Text}
+use Rattle.pc_lists.specs.Texts.{Text}
 
 -- A file by its name: the bytes that are told, and how often its reading had failed before and after a call.
 pub record Named : Type 0 where

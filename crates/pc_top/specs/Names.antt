@@ -5,7 +5,7 @@ use Rattle.pc_names.specs.declared.fault.NameFault.{NameFault}
 use Rattle.pc_names.specs.declared.fault.NameFault.TheVariants as fault
 use Rattle.pc_names.specs.declared.fault.Which.{Which}
 use Rattle.pc_names.specs.declared.fault.Which.TheVariants as which
-use Rattle.pc_args.specs.Asked.{Text}
+use Rattle.pc_lists.specs.Texts.{Text}
 use Rattle.pc_top.specs.Refusal.{offset_line}
 use Rattle.pc_top.specs.Lines.{no_main_line}
 use Rattle.pc_top.specs.declared.stop.Stop.{Stop}

@@ -8,7 +8,7 @@ use Rattle.pc_print.specs.Printing.{printed}
 use Rattle.pc_token.specs.declared.kinds.Token.{Token}
 use Rattle.pc_tree.specs.Tree as t
 use Rattle.pc_ann.specs.declared.annotation.Ann.{Ann}
-use Rattle.pc_gen.specs.Numbers.{IsSeed, IsSize}
+use Rattle.pc_args.specs.Numbers.{IsSeed, IsSize}
 use Rattle.pc_gen.specs.Schedule.{schedule}
 use Rattle.pc_noted.specs.Noted.{entities}
 use Rattle.pc_rules.specs.Valid.{Valid}
@@ -22,7 +22,8 @@ use Rattle.pc_trace.specs.declared.touch.Touch.{Touch}
 use Rattle.pc_deriv.specs.Faults.{IsText}
 use Rattle.pc_deriv.specs.Text.{deriv_text}
 use Rattle.pc_deriv.specs.declared.version.Version.TheVariants as version
-use Rattle.pc_args.specs.Asked.{Text, Asked, check, judge, run, show, make, swap, trace, sends, upgrade, command_of}
+use Rattle.pc_lists.specs.Texts.{Text}
+use Rattle.pc_args.specs.Asked.{Asked, check, judge, run, show, make, swap, trace, sends, upgrade, command_of}
 use Rattle.pc_top.specs.Asked.{IsVerdict}
 use Rattle.pc_top.specs.CoreOf.{CoreOf}
 use Rattle.pc_io.specs.Change.{Change}

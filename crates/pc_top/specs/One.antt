@@ -1,6 +1,7 @@
 -- There is one verdict for the words and for what the files tell.
 use Rattle.std.specs.Prelude.{◌≡◌, Option, Some, None, List}
-use Rattle.pc_args.specs.Asked.{Text, Asked, command_of}
+use Rattle.pc_lists.specs.Texts.{Text}
+use Rattle.pc_args.specs.Asked.{Asked, command_of}
 use Rattle.pc_top.specs.Asked.{IsVerdict}
 use Rattle.pc_top.specs.Commands.{files_of}
 use Rattle.pc_top.specs.Named.{Files, AllTold}

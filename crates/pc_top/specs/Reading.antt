@@ -1,7 +1,7 @@
 -- What reading a file answers inside a command.
 use Rattle.std.specs.Prelude.{ℕ, ◌≡◌, ◌<◌, List, Option, Result, MatchResult}
 use Rattle.pc_io.specs.declared.bytes.Bytes.{Bytes}
-use Rattle.pc_args.specs.Asked.{Text}
+use Rattle.pc_lists.specs.Texts.{Text}
 use Rattle.pc_top.specs.Lines.{longer_line}
 use Rattle.pc_top.specs.Named.{IsReading, whole, longer}
 use Rattle.pc_top.specs.declared.stop.Stop.{Stop}

@@ -1,6 +1,6 @@
 -- Refusals that name a byte of a file.
 use Rattle.std.specs.Prelude.{ℕ, ◌≡◌, take}
-use Rattle.pc_args.specs.Asked.{Text}
+use Rattle.pc_lists.specs.Texts.{Text}
 use Rattle.pc_top.specs.Lines.{place_line}
 use Rattle.pc_top.specs.Place.{line_behind, column_behind}
 use Rattle.pc_top.specs.declared.stop.Stop.{Stop}

@@ -6,7 +6,7 @@ use Rattle.pc_sched.specs.Limits.{schedule_limit}
 use Rattle.pc_semantics.specs.Runs.{outcomes}
 use Rattle.pc_semantics.specs.Text.{end_of, run_text}
 use Rattle.pc_semantics.specs.declared.outcome.Outcome.TheVariants.{TooLong}
-use Rattle.pc_args.specs.Asked.{Text}
+use Rattle.pc_lists.specs.Texts.{Text}
 use Rattle.pc_top.specs.Accepting.{AcceptedStage}
 use Rattle.pc_top.specs.FromFile.{FromFile}
 use Rattle.pc_top.specs.Lines.{too_long_line}

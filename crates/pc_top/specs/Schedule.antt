@@ -4,7 +4,7 @@ use Rattle.pc_sched.specs.Limits.{schedule_limit}
 use Rattle.pc_sched.specs.Schedules.{TurnList, FirstFault}
 use Rattle.pc_sched.specs.declared.fault.SchedFault.TheVariants.{BadWord, TooMany}
 use Rattle.pc_sched.specs.declared.turns.Turn.{Turn}
-use Rattle.pc_args.specs.Asked.{Text}
+use Rattle.pc_lists.specs.Texts.{Text}
 use Rattle.pc_top.specs.After.{After}
 use Rattle.pc_top.specs.Named.{Reading}
 use Rattle.pc_top.specs.Refusal.{offset_line}

@@ -11,11 +11,10 @@ use Rattle.pc_semantics.specs.Runs.{after}
 use Rattle.pc_sends.specs.Tables.{IsTable, Tells}
 use Rattle.pc_sends.specs.declared.table.Row.{Row}
 use Rattle.pc_sends.specs.declared.table.Table.{Table}
-use Rattle.pc_args.specs.Asked.{Text}
+use Rattle.pc_lists.specs.Texts.{Text, line_end}
 use Rattle.pc_top.specs.Accepting.{AcceptedStage}
 use Rattle.pc_top.specs.CoreOf.{CoreOf}
 use Rattle.pc_top.specs.FromFile.{FromFile}
-use Rattle.pc_top.specs.Lines.{line_end}
 use Rattle.pc_top.specs.Named.{Named}
 use Rattle.pc_top.specs.Source.{source_limit}
 use Rattle.pc_top.specs.Verdict.{Verdict, done}

@@ -12,7 +12,7 @@ use Rattle.pc_names.specs.Names.{IsNameFault}
 use Rattle.pc_names.specs.declared.fault.NameFault.{NameFault}
 use Rattle.pc_file_spec.specs.Cores.{Stands, IsElabFault}
 use Rattle.pc_top.specs.After.{After}
-use Rattle.pc_args.specs.Asked.{Text}
+use Rattle.pc_lists.specs.Texts.{Text}
 use Rattle.pc_top.specs.Refusal.{offset_line}
 use Rattle.pc_top.specs.Faults.{fault_status, fault_line}
 use Rattle.pc_top.specs.Lines.{longer_line}

@@ -1,7 +1,7 @@
 -- `swap SRC SCHED PLACE`.
 use Rattle.std.specs.Prelude.{ℕ, ◌≡◌, ◌+◌, ◌≤◌, List, ◌∷◌, ◌++◌, length, Result, Ok, Err, Some, None, codes}
 use Rattle.pc_core.specs.CoreData.{CoreData}
-use Rattle.pc_gen.specs.Numbers.{IsNumber}
+use Rattle.pc_args.specs.Numbers.{IsNumber}
 use Rattle.pc_rows.specs.Lines.{IsLine}
 use Rattle.pc_run.specs.Spreading.{spread}
 use Rattle.pc_sched.specs.Limits.{schedule_limit}
@@ -12,10 +12,10 @@ use Rattle.pc_swap.specs.Kept.{IsKept}
 use Rattle.pc_swap.specs.Swapping.{Exchanged}
 use Rattle.pc_swap.specs.declared.kept.Kept.{Kept}
 use Rattle.pc_swap.specs.declared.kept.Kept.TheVariants as kept
-use Rattle.pc_args.specs.Asked.{Text}
+use Rattle.pc_lists.specs.Texts.{Text, line_end}
 use Rattle.pc_top.specs.Accepting.{AcceptedStage}
 use Rattle.pc_top.specs.FromFile.{FromFile}
-use Rattle.pc_top.specs.Lines.{line_end, no_place_line, too_long_line, usage_line}
+use Rattle.pc_top.specs.Lines.{no_place_line, too_long_line, usage_line}
 use Rattle.pc_top.specs.Named.{Named}
 use Rattle.pc_top.specs.Schedule.{ScheduleStage}
 use Rattle.pc_top.specs.Source.{source_limit}

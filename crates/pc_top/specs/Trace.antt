@@ -6,10 +6,10 @@ use Rattle.pc_sched.specs.Limits.{schedule_limit}
 use Rattle.pc_trace.specs.Traces.{AllTouches, RanOn, TooLongAt, TooManyAt, VerdictIs}
 use Rattle.pc_trace.specs.declared.touch.Touch.{Touch}
 use Rattle.pc_trace.specs.declared.touch.Verdict.TheVariants.{Ordered}
-use Rattle.pc_args.specs.Asked.{Text}
+use Rattle.pc_lists.specs.Texts.{Text, line_end}
 use Rattle.pc_top.specs.Accepting.{AcceptedStage}
 use Rattle.pc_top.specs.FromFile.{FromFile}
-use Rattle.pc_top.specs.Lines.{line_end, many_actors_line, too_long_line}
+use Rattle.pc_top.specs.Lines.{many_actors_line, too_long_line}
 use Rattle.pc_top.specs.Named.{Named}
 use Rattle.pc_top.specs.Schedule.{ScheduleStage}
 use Rattle.pc_top.specs.Source.{source_limit}

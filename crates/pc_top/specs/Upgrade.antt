@@ -5,7 +5,7 @@ use Rattle.pc_deriv.specs.Text.{deriv_text}
 use Rattle.pc_deriv.specs.declared.fault.DerivFault.{DerivFault}
 use Rattle.pc_deriv.specs.declared.fault.DerivFault.TheVariants as deriv
 use Rattle.pc_deriv.specs.declared.version.Version.TheVariants as version
-use Rattle.pc_args.specs.Asked.{Text}
+use Rattle.pc_lists.specs.Texts.{Text}
 use Rattle.pc_top.specs.FromFile.{FromFile}
 use Rattle.pc_top.specs.Judge.{DerivationStage, IsRefusal, Judging, derivation_limit, text_line, text_status}
 use Rattle.pc_top.specs.Named.{Named}

@@ -1,6 +1,6 @@
 -- What a command answers where no file or sink fails and memory suffices.
 use Rattle.std.specs.Prelude.{ℕ, ◌≡◌, ◌⊎◌, [], ◌++◌}
-use Rattle.pc_args.specs.Asked.{Text}
+use Rattle.pc_lists.specs.Texts.{Text}
 
 -- The exit status, the text on out and the line on err.
 pub record Verdict : Type 0 where

@@ -8,8 +8,8 @@ ghost use Rattle.pc_top.specs.Stages.{PartEnds, StageEnds};
 use crate::core_faults::refuse_core;
 use crate::source::{Source, read_source, take_source};
 use crate::stop::Stop;
+use pc_ann::Ann;
 use pc_check::check;
-use pc_deriv::Ann;
 use pc_io::{Bytes, Files};
 use std::alloc::Global;
 

@@ -1,6 +1,6 @@
 //! A derivation, which is read in parts and judged as it comes.
 ghost use Rattle.std.specs.Prelude.{◌≡◌, ◌≤◌, ℕ, List as Sequence, IfOk};
-ghost use Rattle.pc_args.specs.Asked.{Text};
+ghost use Rattle.pc_lists.specs.Texts.{Text};
 ghost use Rattle.pc_top.specs.Judge.{DerivationJudged, IsDerivationStop, IsRefusal, in_parts, judge_line, text_line, text_status};
 ghost use Rattle.pc_deriv.specs.Laws.{as_read};
 ghost use Rattle.pc_top.specs.Named.{file_at};

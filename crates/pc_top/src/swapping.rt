@@ -1,6 +1,6 @@
 //! `swap SRC SCHED PLACE`.
 ghost use Rattle.std.specs.Prelude.{◌≡◌, ◌<◌, ◌≤◌, ◌^◌, ℕ, IfOk, List as Sequence, [], ◌∷◌, length};
-ghost use Rattle.pc_gen.specs.Numbers.{IsNumber, Reads};
+ghost use Rattle.pc_args.specs.Numbers.{IsNumber, Reads};
 ghost use Rattle.pc_io.specs.Change.{change};
 ghost use Rattle.pc_run.specs.Spreading.{spread};
 ghost use Rattle.pc_sched.specs.Limits.{turn_limit};

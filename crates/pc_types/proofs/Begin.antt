@@ -15,8 +15,8 @@ use Rattle.pc_core.specs.CoreData.{CoreData}
 use Rattle.pc_lists.proofs.Options.{bind_some, kept}
 use Rattle.pc_ann.specs.declared.annotation.Note.{Note}
 use Rattle.pc_ann.specs.declared.annotation.Ann.{Ann}
-use Rattle.pc_ann.specs.Masks.{first, same}
-use Rattle.pc_ann.specs.MaskLaws.{first_bits}
+use Rattle.pc_masks.specs.Masks.{first, same}
+use Rattle.pc_masks.specs.MaskLaws.{first_bits}
 use Rattle.pc_semantics.specs.Around.{first_slots, first_frame}
 use Rattle.pc_rules.specs.declared.said.Said.{Said}
 use Rattle.pc_rules.specs.Parts.{Masks, before, through, one_child}

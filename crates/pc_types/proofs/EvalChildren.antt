@@ -8,11 +8,11 @@ use Rattle.pc_core.specs.declared.nodes.NodeKind.TheVariants as nodes
 use Rattle.pc_core.specs.CoreData.{CoreData}
 use Rattle.pc_lists.specs.Places.{Each}
 use Rattle.pc_lists.proofs.Options.{bind_some, kept, bind_is}
-use Rattle.pc_ann.specs.declared.mask.Mask.{Mask}
+use Rattle.pc_masks.specs.declared.mask.Mask.{Mask}
 use Rattle.pc_ann.specs.declared.annotation.Note.{Note}
 use Rattle.pc_ann.specs.declared.annotation.Ann.{Ann}
-use Rattle.pc_ann.specs.Masks.{IsIn}
-use Rattle.pc_ann.specs.MaskLaws.{without_number_bits}
+use Rattle.pc_masks.specs.Masks.{IsIn}
+use Rattle.pc_masks.specs.MaskLaws.{without_number_bits}
 use Rattle.pc_semantics.specs.declared.frames.Task.{Task}
 use Rattle.pc_semantics.specs.declared.frames.Task.TheVariants as task
 use Rattle.pc_semantics.specs.Children.{evaluations}

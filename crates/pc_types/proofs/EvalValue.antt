@@ -15,10 +15,10 @@ use Rattle.pc_core.specs.declared.nodes.NodeKind.{NodeKind}
 use Rattle.pc_core.specs.declared.nodes.NodeKind.TheVariants as nodes
 use Rattle.pc_core.specs.declared.nodes.Slot.{Slot}
 use Rattle.pc_core.specs.CoreData.{CoreData}
-use Rattle.pc_ann.specs.declared.mask.Mask.{Mask}
+use Rattle.pc_masks.specs.declared.mask.Mask.{Mask}
 use Rattle.pc_ann.specs.declared.annotation.Ann.{Ann}
-use Rattle.pc_ann.specs.Masks.{without_number}
-use Rattle.pc_ann.specs.MaskLaws.{within_bits, without_number_bits}
+use Rattle.pc_masks.specs.Masks.{without_number}
+use Rattle.pc_masks.specs.MaskLaws.{within_bits, without_number_bits}
 use Rattle.pc_semantics.specs.declared.frames.Frame.{Frame}
 use Rattle.pc_semantics.specs.Around.{Around, Goes, pushed}
 use Rattle.pc_semantics.specs.Evaluation.{push_slot, take_slot}

@@ -13,12 +13,12 @@ use Rattle.pc_core.specs.declared.nodes.Node.{Node}
 use Rattle.pc_core.specs.declared.nodes.NodeKind.TheVariants as nodes
 use Rattle.pc_core.specs.CoreData.{CoreData}
 use Rattle.pc_lists.proofs.Options.{bind_some, kept}
-use Rattle.pc_ann.specs.declared.mask.Mask.{Mask}
+use Rattle.pc_masks.specs.declared.mask.Mask.{Mask}
 use Rattle.pc_ann.specs.declared.annotation.Note.{Note}
 use Rattle.pc_ann.specs.declared.annotation.Ann.{Ann}
 use Rattle.pc_ann.specs.declared.annotation.Rule.{Rule}
 use Rattle.pc_ann.specs.declared.annotation.Rule.TheVariants as rule
-use Rattle.pc_ann.specs.Masks.{has, without_number, within, same}
+use Rattle.pc_masks.specs.Masks.{has, without_number, within, same}
 use Rattle.pc_rules.specs.declared.said.Said.{Said}
 use Rattle.pc_rules.specs.Parts.{Ty, Masks, says_of, reads_as, readable, reachable, before, through, type_of, one_child, last_child}
 use Rattle.pc_rules.specs.Values.{this_form}

@@ -11,10 +11,10 @@ use Rattle.pc_core.specs.declared.nodes.Node.{Node}
 use Rattle.pc_core.specs.declared.nodes.Slot.{Slot}
 use Rattle.pc_core.specs.CoreData.{CoreData}
 use Rattle.pc_lists.proofs.Options.{bind_some}
-use Rattle.pc_ann.specs.declared.mask.Mask.{Mask}
+use Rattle.pc_masks.specs.declared.mask.Mask.{Mask}
 use Rattle.pc_ann.specs.declared.annotation.Note.{Note}
 use Rattle.pc_ann.specs.declared.annotation.Ann.{Ann}
-use Rattle.pc_ann.specs.Masks.{same}
+use Rattle.pc_masks.specs.Masks.{same}
 use Rattle.pc_rules.specs.Parts.{before}
 use Rattle.pc_rules.specs.Rules.{said_by}
 use Rattle.pc_rules.proofs.ByNumber.{slot_of, Meets, says}

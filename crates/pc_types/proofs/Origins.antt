@@ -19,9 +19,9 @@ use Rattle.pc_tree.specs.Kinds.{may_have_fields}
 use Rattle.pc_tree.proofs.KindFacts.{concrete}
 use Rattle.pc_core.specs.Lookup.{field_named}
 use Rattle.pc_lists.proofs.Options.{bind_some, kept}
-use Rattle.pc_ann.specs.declared.mask.Mask.{Mask}
+use Rattle.pc_masks.specs.declared.mask.Mask.{Mask}
 use Rattle.pc_ann.specs.declared.annotation.Ann.{Ann}
-use Rattle.pc_ann.specs.Masks.{IsIn}
+use Rattle.pc_masks.specs.Masks.{IsIn}
 use Rattle.pc_semantics.specs.Around.{entity_of}
 use Rattle.pc_rules.specs.Parts.{Ty, constructs, last_child}
 use Rattle.pc_rules.specs.Fields.{field_of, is_this, lacks_fields}

@@ -1,5 +1,5 @@
 use Rattle.std.proofs.Common.{◌≡◌, drop}
-use Rattle.pc_ann.specs.Masks.{empty}
+use Rattle.pc_masks.specs.Masks.{empty}
 use Rattle.pc_counts.specs.Fresh.{taken_from}
 use Rattle.pc_counts.proofs.fresh.taken_from.Given as goal
 

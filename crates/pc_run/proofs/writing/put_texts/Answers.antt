@@ -1,5 +1,6 @@
 use Rattle.std.proofs.Common.{◌≡◌, ℕ, ◌+◌, ◌<◌, List, ◌++◌, length, take, drop, ap, ◌∙◌, subst, arith}
-use Rattle.pc_semantics.specs.Text.{line_end, lines}
+use Rattle.pc_lists.specs.Texts.{line_end}
+use Rattle.pc_semantics.specs.Text.{lines}
 use Rattle.pc_run.specs.declared.report.RunFault.TheVariants.{Memory}
 use Rattle.pc_io.specs.Change.{change}
 use Rattle.pc_run.specs.Writing.{WriteStops}

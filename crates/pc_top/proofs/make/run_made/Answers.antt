@@ -6,7 +6,7 @@ use Rattle.pc_gen.specs.Schedule.{schedule}
 use Rattle.pc_io.specs.Change.{change}
 use Rattle.pc_run.specs.Spreading.{spread}
 use Rattle.pc_sched.specs.declared.turns.Turn.{Turn}
-use Rattle.pc_args.specs.Asked.{Text}
+use Rattle.pc_lists.specs.Texts.{Text}
 use Rattle.pc_top.specs.Accepting.{AcceptedStage}
 use Rattle.pc_top.specs.Ends.{Ends}
 use Rattle.pc_top.specs.Lines.{counts_line}

@@ -3,7 +3,7 @@ use Rattle.std.specs.Prelude.{nat_eq}
 use Rattle.std.specs.Int.{bit_at}
 use Rattle.std.proofs.lemmas.Bool.{le-ltb}
 use Rattle.std.proofs.lemmas.Nat.Bits.{bit_at_above}
-use Rattle.pc_ann.proofs.mask.Mask.has.Goals as goal
+use Rattle.pc_masks.proofs.mask.Mask.has.Goals as goal
 
 pub returns-else-number-lt64 : goal.returns-else-number-lt64
 returns-else-number-lt64 c =

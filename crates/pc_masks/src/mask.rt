@@ -1,6 +1,6 @@
 //! Sets of at most 64 small numbers.
 ghost use Rattle.std.specs.Prelude.{◌≡◌, ◌≢◌, ◌⊎◌, ◌↔◌, ℕ, ◌<◌, IsTrue};
-ghost use Rattle.pc_ann.specs.Masks as spec;
+ghost use Rattle.pc_masks.specs.Masks as spec;
 
 /// A set of numbers below 64: number i is in it where bit i is 1.
 #[derive(Clone, Copy, Debug, PartialEq, Eq)]

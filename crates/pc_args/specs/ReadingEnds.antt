@@ -1,6 +1,7 @@
 -- How the reading of words ends.
 use Rattle.std.specs.Prelude.{◌≡◌, true, List, Some, Result, MatchResult}
-use Rattle.pc_args.specs.Asked.{Text, asked_by, command_of, is_refused}
+use Rattle.pc_lists.specs.Texts.{Text}
+use Rattle.pc_args.specs.Asked.{asked_by, command_of, is_refused}
 use Rattle.pc_args.specs.declared.words.Command.{Command}
 use Rattle.pc_args.specs.declared.words.WordsFault.{WordsFault}
 use Rattle.pc_args.specs.declared.words.WordsFault.TheVariants.{Refused, Memory}
@@ -10,5 +11,5 @@ StopsAt words Refused = is_refused words ≡ true
 StopsAt words Memory = Unit {0}
 
 -- With the command that they ask for, or since they are refused, or for want of memory.
-abbrev pub Reads : List Text → Result Command WordsFault → Type 0
-Reads words result = MatchResult result (λ command. command_of words ≡ Some (asked_by command)) (StopsAt words)
+abbrev pub ReadingEnds : List Text → Result Command WordsFault → Type 0
+ReadingEnds words result = MatchResult result (λ command. command_of words ≡ Some (asked_by command)) (StopsAt words)

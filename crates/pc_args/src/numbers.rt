@@ -1,6 +1,6 @@
 //! The seed and the size of a program, read from texts.
 ghost use Rattle.std.specs.Prelude.{◌<◌, ◌^◌};
-ghost use Rattle.pc_gen.specs.Numbers.{IsNumber, IsSeed, IsSize, Reads};
+ghost use Rattle.pc_args.specs.Numbers.{IsNumber, IsSeed, IsSize, Reads};
 
 /// How many digits at most spell a seed.
 const SEED_DIGITS: usize = 20;
