@@ -1,7 +1,7 @@
 //! Chains of traits, and what the methods of their cores are.
 use crate::parts::digit;
 use pc_core::{Core, MethodKind};
-use pc_test_sources::core_of;
+use pc_test_inputs::core_of;
 use std::alloc::{AllocError, Global};
 
 /// A `Main` whose `create` is named at byte 17, in 42 bytes.

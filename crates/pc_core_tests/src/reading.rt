@@ -2,7 +2,7 @@
 ghost use Rattle.pc_expr.specs.Gives.{EndsWithEnd};
 
 use pc_expr::{expr, seq};
-use pc_test_sources::tokens_of;
+use pc_test_inputs::tokens_of;
 use pc_token::Token;
 use pc_tree::{Expr, Seq};
 use std::alloc::Global;

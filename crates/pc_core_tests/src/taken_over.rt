@@ -4,7 +4,7 @@ use crate::rows::shown;
 use pc_caps::Span;
 use pc_core::Core;
 use pc_names::NameFault;
-use pc_test_sources::{core_of, core_or_fault};
+use pc_test_inputs::{core_of, core_or_fault};
 use std::alloc::Global;
 
 /// A method of a file: its entity, where its name starts, and whether it has a body.

@@ -17,7 +17,7 @@ use Rattle.pc_deriv.specs.Lines.{slot_of, lines_of}
 use Rattle.pc_judge.specs.declared.faults.JudgeFault.{JudgeFault}
 use Rattle.pc_judge.specs.Faults.{FirstFault}
 use Rattle.pc_judge.proofs.Exact.{before_all}
-use Rattle.pc_stream.specs.Waiting.{Begins}
+use Rattle.pc_feed.specs.Waiting.{Begins}
 use Rattle.pc_feed.specs.declared.judging.Judging.{Judging}
 use Rattle.pc_feed.specs.Streams.{Stands, no_line, behind_head, NothingWrong, JudgedBy, Judged}
 use Rattle.pc_feed.proofs.Beginnings.{no_lines, head_of, notes_begin}

@@ -1,3 +1,5 @@
+pub mod PostOrder
+pub mod Noted
 pub mod Sayings
 pub mod Counting
 pub mod Beginnings

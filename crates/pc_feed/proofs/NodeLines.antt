@@ -20,8 +20,8 @@ use Rattle.pc_judge.specs.declared.faults.JudgeFault.TheVariants as fault
 use Rattle.pc_judge.specs.Computed.{unset_of}
 use Rattle.pc_judge.specs.Faults.{Before, FailsAt, FirstFault, Passes}
 use Rattle.pc_judge.proofs.AtNode.{passes, fails_set}
-use Rattle.pc_stream.specs.Waiting.{Begins}
-use Rattle.pc_stream.proofs.Noted.{waiting_tells}
+use Rattle.pc_feed.specs.Waiting.{Begins}
+use Rattle.pc_feed.proofs.Noted.{waiting_tells}
 use Rattle.pc_feed.specs.declared.judging.Judging.{Judging}
 use Rattle.pc_feed.specs.Lines.{notes_in, so_far}
 use Rattle.pc_feed.specs.Asked.{Opens, IsFoundRight}

@@ -11,7 +11,7 @@ use Rattle.pc_ann.specs.declared.annotation.Note.{Note}
 use Rattle.pc_deriv.specs.declared.line.Line.{Line}
 use Rattle.pc_judge.specs.declared.faults.JudgeFault.{JudgeFault}
 use Rattle.pc_referee.specs.Asked.{Pairs}
-use Rattle.pc_stream.specs.Waiting.{Begins}
+use Rattle.pc_feed.specs.Waiting.{Begins}
 use Rattle.pc_feed.specs.declared.judging.Judging.{Judging}
 use Rattle.pc_feed.specs.Lines.{counts_in, notes_in, so_far}
 use Rattle.pc_feed.specs.Asked.{numbered, IsFoundRight, IsAsked, Grew, GrewPart}

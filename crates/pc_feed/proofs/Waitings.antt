@@ -12,9 +12,9 @@ use Rattle.pc_core.specs.CoreData.{CoreData}
 use Rattle.pc_core.specs.Formed.{Formed}
 use Rattle.pc_ann.specs.declared.annotation.Note.{Note}
 use Rattle.pc_rules.specs.Parts.{notes_of}
-use Rattle.pc_stream.specs.Waiting.{Waits, next, body}
-use Rattle.pc_stream.proofs.PostOrder.{children_wait_last}
-use Rattle.pc_stream.proofs.Noted.{noted_more, noted_cut}
+use Rattle.pc_feed.specs.Waiting.{Waits, next, body}
+use Rattle.pc_feed.proofs.PostOrder.{children_wait_last}
+use Rattle.pc_feed.proofs.Noted.{noted_more, noted_cut}
 use Rattle.pc_feed.specs.Steps.{last_of, all_but_last, put_behind, waits_behind}
 use Rattle.pc_feed.proofs.Sayings.{count_push}
 

@@ -1,3 +1,5 @@
+pub mod Waiting
+pub mod WaitingLaws
 pub mod Lines
 pub mod Asked
 pub mod Streams

@@ -12,7 +12,7 @@ use Rattle.pc_deriv.specs.declared.version.Version.{Version}
 use Rattle.pc_deriv.specs.declared.line.Line.{Line}
 use Rattle.pc_deriv.specs.declared.line.Line.TheVariants as line
 use Rattle.pc_deriv.specs.Lines.{nothing_taken, fed, slot_of, lines_of}
-use Rattle.pc_stream.specs.Waiting.{Waits, Begins}
+use Rattle.pc_feed.specs.Waiting.{Waits, Begins}
 use Rattle.pc_feed.specs.declared.judging.Judging.{Judging}
 use Rattle.pc_feed.specs.declared.reading.Reading.{Reading}
 use Rattle.pc_feed.specs.Lines.{lines_in, notes_in}

@@ -4,9 +4,8 @@ use pc_core::Core;
 use pc_feed::{Stream, StreamFault};
 use pc_judge::JudgeFault;
 use pc_referee::{ListReferee, Rules};
-use pc_test_derivations::{LINES, LINES2, NODES, note, variant_of};
-use pc_test_sources::core_of;
-use pc_test_sources::programs::ONE_OBJECT;
+use pc_test_inputs::programs::ONE_OBJECT;
+use pc_test_inputs::{LINES, LINES2, NODES, core_of, note, variant_of};
 use std::alloc::{AllocError, Global};
 use std::test::Fail;
 

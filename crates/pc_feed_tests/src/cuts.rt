@@ -5,7 +5,7 @@ use pc_deriv::LineFault;
 use pc_feed::{Stream, StreamFault};
 use pc_judge::JudgeFault;
 use pc_referee::Rules;
-use pc_test_derivations::{LINES, LINES2, variant_of};
+use pc_test_inputs::{LINES, LINES2, variant_of};
 use std::alloc::{AllocError, Global};
 use std::test::Fail;
 

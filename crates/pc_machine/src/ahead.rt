@@ -1,7 +1,7 @@
 //! What an actor's next step is, before it is made. The functions only look, and take no memory.
 ghost use Rattle.std.specs.Prelude.{◌≡◌, ◌+◌, ℕ, length, slice_get, List as Sequence};
-ghost use Rattle.pc_ahead.specs.Ahead as spec;
-ghost use Rattle.pc_ahead.specs.Ahead.{by_move, by_outcome};
+ghost use Rattle.pc_semantics.specs.Ahead as spec;
+ghost use Rattle.pc_semantics.specs.Ahead.{by_move, by_outcome};
 ghost use Rattle.pc_heap.specs.Objects.{ObjectMap};
 ghost use Rattle.pc_semantics.specs.Around as around;
 ghost use Rattle.pc_semantics.specs.Around.{Around};
@@ -19,10 +19,9 @@ use crate::invocations::receiver_of;
 use crate::lookups::entity_of;
 use crate::state::State;
 use crate::strings::is_string;
-use pc_ahead::Ahead;
 use pc_core::{Core, Method, MethodKind, Node, NodeKind};
 use pc_heap::{Heap, Value};
-use pc_semantics::{Frame, Mailbox, Message, Task};
+use pc_semantics::{Ahead, Frame, Mailbox, Message, Task};
 use pc_tasks::{ahead_inside, is_inside};
 
 // A class's constructor of a number, with these arguments.

@@ -29,5 +29,4 @@ mod strings;
 mod take;
 
 pub use machine::{Machine, start};
-pub use pc_ahead::Ahead;
-pub use pc_semantics::{Access, Lack, Outcome};
+pub use pc_semantics::{Access, Ahead, Lack, Outcome};

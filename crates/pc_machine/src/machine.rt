@@ -2,7 +2,7 @@
 ghost use Rattle.std.specs.Prelude.{◌≡◌, ◌<◌, length, IfOk, OnErr};
 ghost use Rattle.std.specs.FinMap.{len};
 ghost use Rattle.pc_heap.specs.Heaps.{object_limit};
-ghost use Rattle.pc_ahead.specs.Ahead.{ahead_of as next_step};
+ghost use Rattle.pc_semantics.specs.Ahead.{ahead_of as next_step};
 ghost use Rattle.pc_semantics.specs.Configurations as configurations;
 ghost use Rattle.pc_semantics.specs.Safety as safety;
 ghost use Rattle.pc_semantics.specs.Step as steps;
@@ -14,10 +14,9 @@ use crate::ahead::ahead_of;
 use crate::beginning::start_state;
 use crate::state::State;
 use crate::step::advance;
-use pc_ahead::Ahead;
 use pc_caps::List;
 use pc_core::Core;
-use pc_semantics::{Access, Outcome};
+use pc_semantics::{Access, Ahead, Outcome};
 use std::alloc::{AllocError, Global};
 use std::marker::Model;
 

@@ -4,7 +4,7 @@ use crate::running::core_again;
 use crate::turns::{Counts, counts, has_printed, step};
 use pc_core::Core;
 use pc_machine::{Machine, Outcome, start};
-use pc_test_sources::programs::CHAIN;
+use pc_test_inputs::programs::CHAIN;
 use std::alloc::Global;
 
 /// An actor that is made and sent to twice, each time with more arguments than stand in a message itself.

@@ -5,7 +5,7 @@ use pc_core::{Core, Method};
 use pc_heap::{Address, Heap, Value};
 use pc_semantics::{Frame, Outcome, Slots, Stack, Task, Tasks};
 use pc_tasks::{is_inside, run_inside};
-use pc_test_sources::core_of;
+use pc_test_inputs::core_of;
 use std::alloc::{AllocError, Global};
 
 /// How a constructor came to its end.

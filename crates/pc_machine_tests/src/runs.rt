@@ -2,7 +2,7 @@
 use crate::turns::{Turn, seen_behind};
 use pc_heap::Address;
 use pc_machine::{Access, Lack, Outcome};
-use pc_test_sources::programs::HELLO;
+use pc_test_inputs::programs::HELLO;
 use std::alloc::Global;
 
 // Whether a program takes these turns and prints these texts.

@@ -1,7 +1,7 @@
 //! Turns of a machine, and what is seen behind them.
 use pc_core::Core;
 use pc_machine::{Access, Machine, Outcome, start};
-use pc_test_sources::core_of;
+use pc_test_inputs::core_of;
 use std::alloc::{AllocError, Global};
 
 /// The actors, the objects, the waiting messages and the printed texts, counted.

@@ -9,7 +9,7 @@ use pc_core::Core;
 use pc_machine::Machine;
 use pc_safe::{accepted_is_safe, accepted_runs};
 use pc_semantics::Access;
-use pc_test_sources::core_of;
+use pc_test_inputs::core_of;
 use std::alloc::{AllocError, Global};
 
 /// What is seen of a machine.

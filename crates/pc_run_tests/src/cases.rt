@@ -2,7 +2,7 @@
 use crate::programs::run_program;
 use pc_io::MemSink;
 use pc_run::{Report, RunFault};
-use pc_test_sources::programs::{DOUBLES, HELLO};
+use pc_test_inputs::programs::{DOUBLES, HELLO};
 use std::alloc::Global;
 
 /// What a run reports: steps that moved and were skipped, actors, objects, and messages that wait.

@@ -3,9 +3,8 @@ use pc_ann::{Ann, Note};
 use pc_caps::Cap;
 use pc_check::check;
 use pc_core::Core;
-use pc_test_derivations::{NODES, NodeRow, SLOTS, note};
-use pc_test_sources::core_of;
-use pc_test_sources::programs::ONE_OBJECT;
+use pc_test_inputs::programs::ONE_OBJECT;
+use pc_test_inputs::{NODES, NodeRow, SLOTS, core_of, note};
 use std::alloc::Global;
 
 fn are_notes(notes: &[Note], rows: &[NodeRow]) -> bool {

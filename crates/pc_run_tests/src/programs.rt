@@ -10,7 +10,7 @@ use pc_io::MemSink;
 use pc_machine::start;
 use pc_run::{Report, RunFault, run};
 use pc_sched::{Turn, read};
-use pc_test_sources::core_of;
+use pc_test_inputs::core_of;
 use pc_types::accepted_never_lacks;
 use std::alloc::Global;
 

@@ -1,6 +1,6 @@
 //! Machines of accepted programs: what they count, and what two actors are about to touch.
 use crate::behind::{Seen, seen_behind};
-use pc_test_sources::programs::{HELLO, READERS};
+use pc_test_inputs::programs::{HELLO, READERS};
 use std::alloc::Global;
 
 // Whether so many texts were printed and so many messages wait behind these turns of the program.

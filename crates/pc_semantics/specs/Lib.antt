@@ -8,6 +8,7 @@ pub mod Calls
 pub mod Choices
 pub mod Tasks
 pub mod Step
+pub mod Ahead
 pub mod Runs
 pub mod Text
 pub mod Safety

@@ -1,6 +1,7 @@
 //! What a machine is and does: its configurations, one step of an actor, runs over every schedule, and when a program is
 //! safe. These are definitions, in `specs/`; `docs/machine.md` goes through them. The types of what stands in a
-//! configuration are declared here.
+//! configuration are declared here. `specs/Ahead.antt` says what an actor's next step is, before it is made, by the cases of
+//! the step.
 //!
 //! Proved: What a program does, as definitions: configurations, one step of an actor, runs over every schedule, races,
 //! and when a program is safe. Small programs are run in them (`hello_runs` and its like): texts and counts, messages
@@ -11,6 +12,7 @@
 
 mod access;
 mod actors;
+mod ahead;
 mod arguments;
 mod first;
 mod frames;
@@ -23,6 +25,7 @@ mod tasks;
 
 pub use access::Access;
 pub use actors::Actor;
+pub use ahead::Ahead;
 pub use arguments::Arguments;
 pub use first::main_create;
 pub use frames::{Frame, Task};

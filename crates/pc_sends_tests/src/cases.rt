@@ -1,6 +1,6 @@
 //! Who sends what in small programs. Each is tried once more where memory was wanting.
 use crate::tables::lines_of;
-use pc_test_sources::programs::BANK;
+use pc_test_inputs::programs::BANK;
 use std::alloc::Global;
 
 /// Whether the table of a program has these lines.

@@ -6,7 +6,7 @@ use pc_check::check;
 use pc_core::Core;
 use pc_noted::entities;
 use pc_sends::{Row, Table, sends};
-use pc_test_sources::core_of;
+use pc_test_inputs::core_of;
 use std::alloc::Global;
 
 // The table of a core by its derivation.

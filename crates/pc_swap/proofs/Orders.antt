@@ -15,16 +15,16 @@ use Rattle.pc_semantics.specs.Configurations.{Configuration, start}
 use Rattle.pc_semantics.specs.Step.{step}
 use Rattle.pc_semantics.specs.Runs.{followed, run_from, after}
 use Rattle.pc_semantics.specs.Safety.{Race}
-use Rattle.pc_ahead.specs.declared.ahead.Ahead.TheVariants as ahead
+use Rattle.pc_semantics.specs.declared.ahead.Ahead.TheVariants as ahead
 use Rattle.pc_swap.specs.Apart.{Apart}
 use Rattle.pc_swap.specs.Laws.{Swapped, StepsSwap, ListsSwap}
-use Rattle.pc_change.proofs.Changes.{Heaping, Same, Sets, New, Change, applied, plan}
-use Rattle.pc_change.proofs.Maps.{Fit, Different, heaps_pass}
-use Rattle.pc_change.proofs.Plans.{plans, step_is}
-use Rattle.pc_change.proofs.Told.{place_of, HeapTold, SendTold, SpawnTold, PrintTold, TakeTold, Told, told}
-use Rattle.pc_change.proofs.Pass.{Waits, OtherBoxes, Within, NotBoth, NotBothPrint, actors_pass, prints_pass}
-use Rattle.pc_change.proofs.Kept.{plan_kept}
-use Rattle.pc_change.proofs.Reach.{Placed, fits, after_placed, run_goes_on}
+use Rattle.pc_events.proofs.Changes.{Heaping, Same, Sets, New, Change, applied, plan}
+use Rattle.pc_events.proofs.Maps.{Fit, Different, heaps_pass}
+use Rattle.pc_events.proofs.Plans.{plans, step_is}
+use Rattle.pc_events.proofs.Told.{place_of, HeapTold, SendTold, SpawnTold, PrintTold, TakeTold, Told, told}
+use Rattle.pc_events.proofs.Pass.{Waits, OtherBoxes, Within, NotBoth, NotBothPrint, actors_pass, prints_pass}
+use Rattle.pc_events.proofs.Kept.{plan_kept}
+use Rattle.pc_events.proofs.Reach.{Placed, fits, after_placed, run_goes_on}
 
 same_configuration : (h g : ObjectMap) (l m : List Actor) (p q : List (List ℕ)) → h ≡ g → l ≡ m → p ≡ q → ◌≡◌ {A = Configuration} (record { objects = h; actors = l; printed = p }) (record { objects = g; actors = m; printed = q })
 same_configuration h g l m p q e f k =

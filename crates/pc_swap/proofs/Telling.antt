@@ -7,11 +7,11 @@ use Rattle.pc_semantics.specs.declared.outcome.Outcome.{Outcome}
 use Rattle.pc_semantics.specs.declared.outcome.Outcome.TheVariants.{Moved, Skipped, Lacks, TooLong}
 use Rattle.pc_semantics.specs.Configurations.{Configuration}
 use Rattle.pc_semantics.specs.Step.{step}
-use Rattle.pc_ahead.specs.declared.ahead.Ahead.{Ahead}
-use Rattle.pc_ahead.specs.declared.ahead.Ahead.TheVariants as ahead
-use Rattle.pc_ahead.specs.Ahead.{ahead_of}
-use Rattle.pc_change.specs.Laws.{Agrees}
-use Rattle.pc_change.proofs.Agrees.{ahead_agrees}
+use Rattle.pc_semantics.specs.declared.ahead.Ahead.{Ahead}
+use Rattle.pc_semantics.specs.declared.ahead.Ahead.TheVariants as ahead
+use Rattle.pc_semantics.specs.Ahead.{ahead_of}
+use Rattle.pc_events.specs.AheadLaws.{Agrees}
+use Rattle.pc_events.proofs.Agrees.{ahead_agrees}
 use Rattle.pc_swap.specs.Apart.{Apart}
 use Rattle.pc_swap.specs.Kept.{IsKept, is_moving, one_receiver, two_spawns}
 use Rattle.pc_swap.specs.declared.kept.Kept.{Kept}

@@ -4,8 +4,8 @@ use Rattle.pc_core.specs.CoreData.{CoreData}
 use Rattle.pc_semantics.specs.declared.outcome.Outcome.TheVariants.{Moved}
 use Rattle.pc_semantics.specs.Configurations.{Configuration}
 use Rattle.pc_semantics.specs.Step.{step}
-use Rattle.pc_ahead.specs.declared.ahead.Ahead.TheVariants.{Send, Spawn}
-use Rattle.pc_ahead.specs.Ahead.{ahead_of}
+use Rattle.pc_semantics.specs.declared.ahead.Ahead.TheVariants.{Send, Spawn}
+use Rattle.pc_semantics.specs.Ahead.{ahead_of}
 
 -- The actors differ, both steps move, they do not both send to one actor, and they do not both make an actor.
 pub record Apart (core : CoreData) (c : Configuration) (i j : ℕ) : Type 0 where

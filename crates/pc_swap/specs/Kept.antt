@@ -4,9 +4,9 @@ use Rattle.pc_core.specs.CoreData.{CoreData}
 use Rattle.pc_semantics.specs.declared.outcome.Outcome.TheVariants.{Moved}
 use Rattle.pc_semantics.specs.Configurations.{Configuration}
 use Rattle.pc_semantics.specs.Step.{step}
-use Rattle.pc_ahead.specs.declared.ahead.Ahead.{Ahead}
-use Rattle.pc_ahead.specs.declared.ahead.Ahead.TheVariants as ahead
-use Rattle.pc_ahead.specs.Ahead.{ahead_of}
+use Rattle.pc_semantics.specs.declared.ahead.Ahead.{Ahead}
+use Rattle.pc_semantics.specs.declared.ahead.Ahead.TheVariants as ahead
+use Rattle.pc_semantics.specs.Ahead.{ahead_of}
 use Rattle.pc_swap.specs.declared.kept.Kept.{Kept}
 use Rattle.pc_swap.specs.declared.kept.Kept.TheVariants as kept
 

@@ -4,8 +4,8 @@ ghost use Rattle.pc_swap.specs.Apart.{Apart};
 ghost use Rattle.pc_swap.specs.Kept.{IsKept, is_moving, one_receiver, two_spawns};
 
 use crate::kept::Kept;
-use pc_ahead::Ahead;
 use pc_machine::Machine;
+use pc_semantics::Ahead;
 
 // Whether a step moves.
 fn moves(step: Ahead) -> bool

@@ -19,8 +19,8 @@ use Rattle.pc_semantics.specs.declared.frames.Frame.{Frame}
 use Rattle.pc_semantics.specs.Around.{with_stack, with_top, pop}
 use Rattle.pc_semantics.specs.Configurations.{fields_in}
 use Rattle.pc_semantics.specs.Fields.{put_value, put_field, put_of, put_into}
-use Rattle.pc_ahead.specs.declared.ahead.Ahead.TheVariants as ahead
-use Rattle.pc_ahead.specs.Ahead.{by_move}
+use Rattle.pc_semantics.specs.declared.ahead.Ahead.TheVariants as ahead
+use Rattle.pc_semantics.specs.Ahead.{by_move}
 use Rattle.pc_tasks.specs.Fielded.{HasFields, Fielded}
 use Rattle.pc_tasks.specs.Inside.{seeing}
 

@@ -1,7 +1,7 @@
 //! What the first task of a frame is, before it is done, where it concerns the frame and the objects alone. The functions only
 //! look, and take no memory.
 ghost use Rattle.std.specs.Prelude.{◌≡◌, ℕ, Bool, slice_get};
-ghost use Rattle.pc_ahead.specs.Ahead.{by_move};
+ghost use Rattle.pc_semantics.specs.Ahead.{by_move};
 ghost use Rattle.pc_semantics.specs.Around.{pop};
 ghost use Rattle.pc_semantics.specs.Choices as choices;
 ghost use Rattle.pc_semantics.specs.Evaluation as evaluation;
@@ -16,10 +16,9 @@ ghost use Rattle.pc_tasks.specs.Fielded.{Fielded};
 ghost use Rattle.pc_tasks.specs.Inside.{IsInside, amid, first_move, relieved, seeing};
 
 use crate::operators::{is_too_long, of_numbers, of_truths};
-use pc_ahead::Ahead;
 use pc_core::{Core, NodeKind};
 use pc_heap::{Heap, Text, Value};
-use pc_semantics::{Frame, Task};
+use pc_semantics::{Ahead, Frame, Task};
 use pc_tree::Op;
 
 // The value of a slot comes, or goes out of it.

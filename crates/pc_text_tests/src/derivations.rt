@@ -3,7 +3,7 @@ use pc_ann::{Ann, Note, Rule};
 use pc_caps::{Form, List};
 use pc_deriv::{DerivFault, read, write, write2};
 use pc_masks::Mask;
-use pc_test_derivations::{LINES, LINES2, NODES, NodeRow, SLOTS, note, variant_of};
+use pc_test_inputs::{LINES, LINES2, NODES, NodeRow, SLOTS, note, variant_of};
 use std::alloc::{AllocError, Global};
 
 fn notes_of(alloc: Global, rows: &[NodeRow]) -> Result<List<Note>, AllocError> {

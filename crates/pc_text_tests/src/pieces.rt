@@ -2,7 +2,7 @@
 use crate::derivations::{VARIANTS, VARIANTS2, Variant};
 use pc_caps::Cap;
 use pc_deriv::{DerivFault, Line, LineFault, Lines};
-use pc_test_derivations::{LINES, LINES2, NODES, note, variant_of};
+use pc_test_inputs::{LINES, LINES2, NODES, note, variant_of};
 use std::alloc::{AllocError, Global};
 
 /// The lines of the example's slots.

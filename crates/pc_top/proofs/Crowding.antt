@@ -3,16 +3,16 @@ use Rattle.std.proofs.Common.{◌≡◌, ◌≤◌, ◌<◌, ◌+◌, ℕ, suc, 
 use Rattle.std.proofs.lemmas.Bool.Decides.{leb_tells}
 use Rattle.std.proofs.lemmas.List.{take-append-drop}
 use Rattle.std.proofs.lemmas.Option.{same_Some}
-use Rattle.pc_ahead.specs.declared.ahead.Ahead.{Ahead}
-use Rattle.pc_ahead.specs.declared.ahead.Ahead.TheVariants as ahead
-use Rattle.pc_before.specs.Before.{at_place}
-use Rattle.pc_before.proofs.Boxes.{Boxes, boxes}
-use Rattle.pc_before.proofs.Outcomes.{earlier, goes_on, turn}
-use Rattle.pc_before.proofs.Totals.{actors_rise, moving}
-use Rattle.pc_change.proofs.Changes.{acted, applied}
-use Rattle.pc_change.proofs.Kept.{count_grows}
-use Rattle.pc_change.proofs.Pass.{length_acted}
-use Rattle.pc_change.proofs.Plans.{plans, step_is}
+use Rattle.pc_semantics.specs.declared.ahead.Ahead.{Ahead}
+use Rattle.pc_semantics.specs.declared.ahead.Ahead.TheVariants as ahead
+use Rattle.pc_events.specs.Before.{at_place}
+use Rattle.pc_events.proofs.Boxes.{Boxes, boxes}
+use Rattle.pc_events.proofs.Outcomes.{earlier, goes_on, turn}
+use Rattle.pc_events.proofs.Totals.{actors_rise, moving}
+use Rattle.pc_events.proofs.Changes.{acted, applied}
+use Rattle.pc_events.proofs.Kept.{count_grows}
+use Rattle.pc_events.proofs.Pass.{length_acted}
+use Rattle.pc_events.proofs.Plans.{plans, step_is}
 use Rattle.pc_core.specs.CoreData.{CoreData}
 use Rattle.pc_lists.proofs.Cuts.{drop_item}
 use Rattle.pc_semantics.specs.Configurations.{Configuration, start}

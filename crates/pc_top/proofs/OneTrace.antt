@@ -2,8 +2,8 @@
 use Rattle.std.proofs.Common.{◌≡◌, ◌≤◌, ◌<◌, ℕ, suc, List, [], ◌∷◌, length, Option, Some, Ok, Err, refl, sym, ap, ap₂, ◌∙◌, subst, arith}
 use Rattle.std.specs.Prelude.{slice_get}
 use Rattle.std.proofs.lemmas.Option.{none-some, same_Some}
-use Rattle.pc_before.specs.Before.{at_place}
-use Rattle.pc_before.specs.Clock.{Clocks, Many}
+use Rattle.pc_events.specs.Before.{at_place}
+use Rattle.pc_events.specs.Clock.{Clocks, Many}
 use Rattle.pc_core.specs.CoreData.{CoreData}
 use Rattle.pc_lists.specs.Places.{Has}
 use Rattle.pc_semantics.specs.Runs.{after, outcomes}

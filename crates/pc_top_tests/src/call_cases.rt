@@ -1,7 +1,7 @@
 //! `check` and `judge` on calls: what a receiver may be, and what goes to parameters.
 
 use crate::rows::{Ending, all_end, all_end_within};
-use pc_test_sources::programs::{BANK, CHAIN, HELLO, READERS};
+use pc_test_inputs::programs::{BANK, CHAIN, HELLO, READERS};
 
 const PROGRAMS: &[Ending<'_>] = &[
     (HELLO, 0, b""),

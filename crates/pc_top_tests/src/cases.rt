@@ -6,7 +6,7 @@ use crate::rows::{
     all_refused, all_words_end, made_ends, tells,
 };
 use crate::texts::repeated;
-use pc_test_sources::programs::ONE_OBJECT;
+use pc_test_inputs::programs::ONE_OBJECT;
 use std::alloc::Global;
 
 const BODIES: &[Ending<'_>] = &[

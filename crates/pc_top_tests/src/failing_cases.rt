@@ -2,7 +2,7 @@
 
 use crate::rows::{CHECK, Failure, NONE, fails_with};
 use crate::running::stored;
-use pc_test_sources::programs::{DOUBLES, HELLO, ONE_OBJECT};
+use pc_test_inputs::programs::{DOUBLES, HELLO, ONE_OBJECT};
 use std::alloc::Global;
 
 const RUN_HI: &[&str] = &["run", "hi.pony", "s"];

@@ -3,7 +3,7 @@
 use crate::rows::{CHECK, JUDGE, RUN, Refused, all_refused, refuses, refuses_made};
 use crate::running::{Done, is_done, run};
 use crate::texts::joined;
-use pc_test_sources::programs::{HELLO, ONE_OBJECT};
+use pc_test_inputs::programs::{HELLO, ONE_OBJECT};
 use std::alloc::{AllocError, Global};
 
 const DERIVATIONS: &[Refused<'_>] = &[

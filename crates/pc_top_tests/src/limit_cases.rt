@@ -3,7 +3,7 @@
 use crate::programs::IDLE;
 use crate::rows::{JUDGE, RUN, Refused, all_refused, made_ends, refuses, refuses_made, tells};
 use crate::texts::{add_numbered, add_repeated, repeated, spaces};
-use pc_test_sources::programs::{HELLO, ONE_OBJECT};
+use pc_test_inputs::programs::{HELLO, ONE_OBJECT};
 use std::alloc::{AllocError, Global};
 
 fn add_classes(alloc: Global, source: &mut Vec<u8>, count: usize) -> Result<(), AllocError> {

@@ -7,7 +7,7 @@ use crate::running::{Failing, NOTHING, stored};
 use crate::texts::joined;
 use pc_io::MemFiles;
 use pc_referee::Rules;
-use pc_test_sources::programs::{DOUBLES, HELLO, ONE_OBJECT, READERS};
+use pc_test_inputs::programs::{DOUBLES, HELLO, ONE_OBJECT, READERS};
 use pc_top::rcap;
 use std::alloc::{AllocError, Global};
 use std::process::Abort;

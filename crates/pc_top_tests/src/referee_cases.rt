@@ -5,7 +5,7 @@ use crate::running::files_of;
 use crate::texts::joined;
 use pc_io::{MemFiles, MemSink};
 use pc_referee::ListReferee;
-use pc_test_sources::programs::ONE_OBJECT;
+use pc_test_inputs::programs::ONE_OBJECT;
 use pc_top::rcap;
 use std::alloc::{AllocError, Global};
 use std::process::Abort;

@@ -7,7 +7,7 @@ use crate::rows::{
 };
 use crate::running::Wanted;
 use crate::texts::spaces;
-use pc_test_sources::programs::{BANK, CHAIN, DOUBLES, HELLO, READERS};
+use pc_test_inputs::programs::{BANK, CHAIN, DOUBLES, HELLO, READERS};
 use std::alloc::{AllocError, Global};
 
 const TRUTHS: &[u8] = b"\

@@ -3,7 +3,7 @@
 use crate::rows::{
     Failure, NONE, Refused, Spoken, Told, USAGE, all_fail, all_refused, all_told, all_words_end,
 };
-use pc_test_sources::programs::{BANK, HELLO};
+use pc_test_inputs::programs::{BANK, HELLO};
 
 const SENDS: &[&str] = &["sends", "a.pony"];
 

@@ -2,7 +2,7 @@
 
 use crate::rows::{Failure, NONE, Refused, all_fail, all_refused, tells};
 use crate::running::{Done, is_done, run};
-use pc_test_sources::programs::{BANK, CHAIN};
+use pc_test_inputs::programs::{BANK, CHAIN};
 use std::alloc::{AllocError, Global};
 
 const SHOW: &[&str] = &["show", "a.pony"];

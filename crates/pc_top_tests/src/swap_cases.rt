@@ -1,7 +1,7 @@
 //! `swap` on whole programs: which turns of a schedule change places, and which stay.
 
 use crate::rows::{Failure, NONE, USAGE, all_fail, refuses, tells};
-use pc_test_sources::programs::{DOUBLES, HELLO, READERS};
+use pc_test_inputs::programs::{DOUBLES, HELLO, READERS};
 use std::alloc::Global;
 use std::process::Abort;
 

@@ -1,7 +1,7 @@
 //! `trace` on whole programs: the accesses of a run, each with its clock.
 
 use crate::rows::{Failure, NONE, Refused, Told, USAGE, all_fail, all_refused, all_told, refuses};
-use pc_test_sources::programs::{DOUBLES, HELLO};
+use pc_test_inputs::programs::{DOUBLES, HELLO};
 
 const TRACE: &[&str] = &["trace", "a.pony", "a.sched"];
 

@@ -3,7 +3,7 @@
 use crate::rows::{CHECK, Ending, all_end, made_ends};
 use crate::running::{Done, run};
 use crate::texts::{add_repeated, repeated};
-use pc_test_sources::programs::{BANK, CHAIN, HELLO};
+use pc_test_inputs::programs::{BANK, CHAIN, HELLO};
 use std::alloc::{AllocError, Global};
 use std::process::Abort;
 

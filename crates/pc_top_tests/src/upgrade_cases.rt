@@ -7,7 +7,7 @@ use crate::rows::{
 };
 use crate::running::{Done, is_done, run};
 use crate::texts::spaces;
-use pc_test_sources::programs::{BANK, CHAIN, HELLO, ONE_OBJECT};
+use pc_test_inputs::programs::{BANK, CHAIN, HELLO, ONE_OBJECT};
 use std::alloc::{AllocError, Global};
 use std::process::Abort;
 

@@ -13,9 +13,9 @@ use Rattle.pc_semantics.specs.Configurations.{Configuration, start}
 use Rattle.pc_semantics.specs.Step.{step}
 use Rattle.pc_semantics.specs.Runs.{followed, run_from, after, outcomes_from, outcomes}
 use Rattle.pc_semantics.specs.Text.{ended_at, end_of}
-use Rattle.pc_before.specs.Before.{at_place}
-use Rattle.pc_before.proofs.Outcomes.{turn, goes_on}
-use Rattle.pc_before.proofs.Closed.{Live}
+use Rattle.pc_events.specs.Before.{at_place}
+use Rattle.pc_events.proofs.Outcomes.{turn, goes_on}
+use Rattle.pc_events.specs.Counting.{Live}
 
 abbrev GoesOn : Option Outcome → Type 0
 GoesOn o = (o ≡ Some Moved) ⊎ (o ≡ Some Skipped)

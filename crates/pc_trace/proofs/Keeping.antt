@@ -8,17 +8,17 @@ use Rattle.pc_core.specs.CoreData.{CoreData}
 use Rattle.pc_semantics.specs.declared.outcome.Outcome.TheVariants.{Moved}
 use Rattle.pc_semantics.specs.Configurations.{Configuration}
 use Rattle.pc_semantics.specs.Runs.{outcomes}
-use Rattle.pc_ahead.specs.declared.ahead.Ahead.{Ahead}
-use Rattle.pc_ahead.specs.declared.ahead.Ahead.TheVariants as ahead
-use Rattle.pc_ahead.specs.Ahead.{ahead_of}
+use Rattle.pc_semantics.specs.declared.ahead.Ahead.{Ahead}
+use Rattle.pc_semantics.specs.declared.ahead.Ahead.TheVariants as ahead
+use Rattle.pc_semantics.specs.Ahead.{ahead_of}
 use Rattle.pc_clocks.specs.declared.seat.Seat.{Seat}
 use Rattle.pc_clocks.specs.Seats.{number, clock_in, clock_of, Advanced, ChangedAt}
-use Rattle.pc_before.specs.Before.{at_place, Event, is_take, receiver_by, receiver_of, taken_before, waiting_of, waiting}
-use Rattle.pc_before.proofs.Boxes.{Boxes, none_behind}
-use Rattle.pc_before.proofs.Closed.{Live}
-use Rattle.pc_before.proofs.Events.{Counts, AtOrBefore, one_actor}
-use Rattle.pc_before.proofs.Totals.{Moving, moving, total, taken_own, taken_other, taken_none, actors_by, actors_rise}
-use Rattle.pc_before.proofs.Pasts.{PastOf, PostOf, Taken, counts_same, counts_none, counts_event, own_past, own_post, past_kept, post_kept}
+use Rattle.pc_events.specs.Before.{at_place, Event, is_take, receiver_by, receiver_of, taken_before, waiting_of, waiting}
+use Rattle.pc_events.proofs.Boxes.{Boxes, none_behind}
+use Rattle.pc_events.specs.Counting.{Live, Counts, AtOrBefore, total, PastOf, PostOf}
+use Rattle.pc_events.proofs.Events.{one_actor}
+use Rattle.pc_events.proofs.Totals.{Moving, moving, taken_own, taken_other, taken_none, actors_by, actors_rise}
+use Rattle.pc_events.proofs.Pasts.{Taken, counts_same, counts_none, counts_event, own_past, own_post, past_kept, post_kept}
 use Rattle.pc_trace.specs.Turns.{Acts, Receives, Posts, Born, Follows}
 use Rattle.pc_trace.specs.Keeps.{LetterKeeps, SeatKeeps, Keeps}
 

@@ -11,15 +11,16 @@ use Rattle.pc_semantics.specs.declared.outcome.Outcome.TheVariants.{Moved, Skipp
 use Rattle.pc_semantics.specs.Configurations.{Configuration}
 use Rattle.pc_semantics.specs.Runs.{outcomes}
 use Rattle.pc_semantics.specs.Safety.{access}
-use Rattle.pc_ahead.specs.declared.ahead.Ahead.{Ahead}
-use Rattle.pc_ahead.specs.declared.ahead.Ahead.TheVariants as ahead
-use Rattle.pc_ahead.specs.Ahead.{ahead_of}
+use Rattle.pc_semantics.specs.declared.ahead.Ahead.{Ahead}
+use Rattle.pc_semantics.specs.declared.ahead.Ahead.TheVariants as ahead
+use Rattle.pc_semantics.specs.Ahead.{ahead_of}
 use Rattle.pc_clocks.specs.declared.seat.Seat.{Seat}
 use Rattle.pc_clocks.specs.Seats.{number}
-use Rattle.pc_before.specs.Before.{at_place, Event, waiting}
-use Rattle.pc_before.proofs.Boxes.{Boxes}
-use Rattle.pc_before.proofs.Events.{Counts, AtOrBefore, one_actor, index, is_event}
-use Rattle.pc_before.proofs.Totals.{moving}
+use Rattle.pc_events.specs.Before.{at_place, Event, waiting}
+use Rattle.pc_events.proofs.Boxes.{Boxes}
+use Rattle.pc_events.specs.Counting.{Counts, AtOrBefore, index, is_event}
+use Rattle.pc_events.proofs.Events.{one_actor}
+use Rattle.pc_events.proofs.Totals.{moving}
 use Rattle.pc_trace.specs.declared.touch.Touch.{Touch}
 use Rattle.pc_trace.specs.Turns.{Ready}
 use Rattle.pc_trace.specs.Keeps.{Keeps}

@@ -8,10 +8,10 @@ use Rattle.pc_semantics.specs.Configurations.{Configuration, main_create, start_
 use Rattle.pc_semantics.specs.Runs.{outcomes}
 use Rattle.pc_clocks.specs.declared.seat.Seat.{Seat}
 use Rattle.pc_clocks.specs.Seats.{number}
-use Rattle.pc_before.specs.Before.{at_place, Event, taken_before, waiting}
-use Rattle.pc_before.proofs.Events.{Counts}
-use Rattle.pc_before.proofs.Totals.{resting}
-use Rattle.pc_before.proofs.Pasts.{PastOf, PostOf, counts_none, past_kept, post_kept}
+use Rattle.pc_events.specs.Before.{at_place, Event, taken_before, waiting}
+use Rattle.pc_events.specs.Counting.{Counts, PastOf, PostOf}
+use Rattle.pc_events.proofs.Totals.{resting}
+use Rattle.pc_events.proofs.Pasts.{counts_none, past_kept, post_kept}
 use Rattle.pc_trace.specs.Keeps.{LetterKeeps, SeatKeeps, Keeps, first_seats}
 
 -- ---- the start

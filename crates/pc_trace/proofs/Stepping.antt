@@ -14,20 +14,20 @@ use Rattle.pc_semantics.specs.Step.{step}
 use Rattle.pc_semantics.specs.Runs.{followed, after, outcomes}
 use Rattle.pc_semantics.specs.Safety.{access}
 use Rattle.pc_semantics.specs.Text.{waiting}
-use Rattle.pc_ahead.specs.declared.ahead.Ahead.{Ahead}
-use Rattle.pc_ahead.specs.declared.ahead.Ahead.TheVariants as ahead
-use Rattle.pc_ahead.specs.Ahead.{ahead_of}
-use Rattle.pc_change.specs.Laws.{Agrees}
-use Rattle.pc_change.proofs.Agrees.{ahead_agrees}
+use Rattle.pc_semantics.specs.declared.ahead.Ahead.{Ahead}
+use Rattle.pc_semantics.specs.declared.ahead.Ahead.TheVariants as ahead
+use Rattle.pc_semantics.specs.Ahead.{ahead_of}
+use Rattle.pc_events.specs.AheadLaws.{Agrees}
+use Rattle.pc_events.proofs.Agrees.{ahead_agrees}
 use Rattle.pc_machine.specs.Machines.{message_limit}
 use Rattle.pc_machine.proofs.Growing.{Changes, Grown, step_changes, few_at_start}
 use Rattle.pc_clocks.specs.declared.seat.Seat.{Seat}
 use Rattle.pc_clocks.specs.Seats.{clock_of}
-use Rattle.pc_before.specs.Before.{at_place, Event}
-use Rattle.pc_before.proofs.Boxes.{Boxes}
-use Rattle.pc_before.proofs.Closed.{Live}
-use Rattle.pc_before.proofs.Outcomes.{turn}
-use Rattle.pc_before.proofs.Totals.{moving, resting}
+use Rattle.pc_events.specs.Before.{at_place, Event}
+use Rattle.pc_events.proofs.Boxes.{Boxes}
+use Rattle.pc_events.specs.Counting.{Live}
+use Rattle.pc_events.proofs.Outcomes.{turn}
+use Rattle.pc_events.proofs.Totals.{moving, resting}
 use Rattle.pc_trace.specs.declared.touch.Touch.{Touch}
 use Rattle.pc_trace.specs.Turns.{Follows, Ready}
 use Rattle.pc_trace.specs.Keeps.{Keeps, first_seats}

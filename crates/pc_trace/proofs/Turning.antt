@@ -8,8 +8,8 @@ use Rattle.pc_semantics.specs.declared.outcome.Outcome.TheVariants.{Moved, Skipp
 use Rattle.pc_semantics.specs.Configurations.{Configuration}
 use Rattle.pc_semantics.specs.Step.{step}
 use Rattle.pc_semantics.specs.Safety.{access}
-use Rattle.pc_ahead.specs.declared.ahead.Ahead.{Ahead}
-use Rattle.pc_ahead.specs.Ahead.{ahead_of}
+use Rattle.pc_semantics.specs.declared.ahead.Ahead.{Ahead}
+use Rattle.pc_semantics.specs.Ahead.{ahead_of}
 use Rattle.pc_clocks.specs.declared.seat.Seat.{Seat}
 use Rattle.pc_clocks.specs.Seats.{clock_of}
 use Rattle.pc_trace.specs.declared.touch.Touch.{Touch}

@@ -8,10 +8,10 @@ use Rattle.pc_core.specs.CoreData.{CoreData}
 use Rattle.pc_semantics.specs.declared.access.Access.{Access}
 use Rattle.pc_semantics.specs.Safety.{access}
 use Rattle.pc_clocks.specs.Seats.{number}
-use Rattle.pc_before.specs.Before.{at_place, Event, Before}
-use Rattle.pc_before.specs.Clock.{Clock}
-use Rattle.pc_before.specs.Conflict.{Conflict}
-use Rattle.pc_before.proofs.Events.{one_actor, index_event, clock_is}
+use Rattle.pc_events.specs.Before.{at_place, Event, Before}
+use Rattle.pc_events.specs.Clock.{Clock}
+use Rattle.pc_events.specs.Conflict.{Conflict}
+use Rattle.pc_events.proofs.Events.{one_actor, index_event, clock_is}
 use Rattle.pc_trace.specs.declared.touch.Touch.{Touch}
 use Rattle.pc_trace.specs.declared.touch.Verdict.{Verdict}
 use Rattle.pc_trace.specs.declared.touch.Verdict.TheVariants as verdict

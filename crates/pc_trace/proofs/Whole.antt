@@ -14,8 +14,9 @@ use Rattle.pc_semantics.specs.Runs.{followed, run_from, outcomes_from}
 use Rattle.pc_semantics.specs.Safety.{Safe}
 use Rattle.pc_semantics.specs.Text.{ended_at}
 use Rattle.pc_clocks.specs.Seats.{number}
-use Rattle.pc_before.proofs.Events.{index, index_rises}
-use Rattle.pc_before.proofs.Order.{earlier_comes_before}
+use Rattle.pc_events.specs.Counting.{index}
+use Rattle.pc_events.proofs.Events.{index_rises}
+use Rattle.pc_events.proofs.Order.{earlier_comes_before}
 use Rattle.pc_trace.specs.declared.touch.Touch.{Touch}
 use Rattle.pc_trace.specs.declared.touch.Verdict.{Verdict}
 use Rattle.pc_trace.specs.declared.touch.Verdict.TheVariants.{Ordered}

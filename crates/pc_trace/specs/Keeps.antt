@@ -3,9 +3,8 @@ use Rattle.std.specs.Prelude.{◌≡◌, ◌≤◌, ℕ, zero, suc, ◌+◌, Lis
 use Rattle.pc_core.specs.CoreData.{CoreData}
 use Rattle.pc_clocks.specs.declared.seat.Seat.{Seat}
 use Rattle.pc_clocks.specs.Seats.{number}
-use Rattle.pc_before.specs.Before.{at_place, taken_before, waiting}
-use Rattle.pc_before.proofs.Events.{Counts}
-use Rattle.pc_before.proofs.Pasts.{PastOf, PostOf}
+use Rattle.pc_events.specs.Before.{at_place, taken_before, waiting}
+use Rattle.pc_events.specs.Counting.{Counts, PastOf, PostOf}
 
 -- The clock of message n of the mailbox of actor a, at place k.
 pub record LetterKeeps (core : CoreData) (list : List ℕ) (k a n : ℕ) (l : List ℕ) : Type 0 where

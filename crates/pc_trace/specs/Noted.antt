@@ -4,8 +4,8 @@ use Rattle.pc_core.specs.CoreData.{CoreData}
 use Rattle.pc_semantics.specs.declared.access.Access.{Access}
 use Rattle.pc_semantics.specs.Safety.{access}
 use Rattle.pc_clocks.specs.Seats.{number}
-use Rattle.pc_before.specs.Before.{at_place, Event}
-use Rattle.pc_before.proofs.Events.{Counts, AtOrBefore}
+use Rattle.pc_events.specs.Before.{at_place, Event}
+use Rattle.pc_events.specs.Counting.{Counts, AtOrBefore}
 use Rattle.pc_trace.specs.declared.touch.Touch.{Touch}
 
 -- The access of the event at place p. Its clock counts the events that are this one or before it.

@@ -6,8 +6,8 @@ use Rattle.pc_semantics.specs.declared.access.Access.{Access}
 use Rattle.pc_semantics.specs.Configurations.{Configuration}
 use Rattle.pc_semantics.specs.Text.{waiting}
 use Rattle.pc_clocks.specs.declared.seat.Seat.{Seat}
-use Rattle.pc_before.specs.Before.{at_place}
-use Rattle.pc_before.proofs.Closed.{Live}
+use Rattle.pc_events.specs.Before.{at_place}
+use Rattle.pc_events.specs.Counting.{Live}
 use Rattle.pc_trace.specs.declared.touch.Touch.{Touch}
 use Rattle.pc_trace.specs.Keeps.{Keeps}
 use Rattle.pc_trace.specs.Noted.{Noted}

@@ -2,17 +2,17 @@
 use Rattle.std.specs.Prelude.{◌≡◌, ◌<◌, ◌≤◌, ℕ, suc, List, length, Some, None, slice_get}
 use Rattle.pc_lists.specs.Places.{Each}
 use Rattle.pc_core.specs.CoreData.{CoreData}
-use Rattle.pc_ahead.specs.Ahead.{ahead_of}
-use Rattle.pc_ahead.specs.declared.ahead.Ahead.TheVariants as ahead
+use Rattle.pc_semantics.specs.Ahead.{ahead_of}
+use Rattle.pc_semantics.specs.declared.ahead.Ahead.TheVariants as ahead
 use Rattle.pc_semantics.specs.declared.access.Access.{Access}
 use Rattle.pc_semantics.specs.declared.outcome.Lack.{Lack}
 use Rattle.pc_semantics.specs.declared.outcome.Outcome.TheVariants as outcome
 use Rattle.pc_semantics.specs.Runs.{after, outcomes}
 use Rattle.pc_semantics.specs.Safety.{access}
 use Rattle.pc_semantics.specs.Text.{end_of}
-use Rattle.pc_before.specs.Before.{at_place, Event, Before}
-use Rattle.pc_before.specs.Clock.{Clocks}
-use Rattle.pc_before.specs.Conflict.{Conflict}
+use Rattle.pc_events.specs.Before.{at_place, Event, Before}
+use Rattle.pc_events.specs.Clock.{Clocks}
+use Rattle.pc_events.specs.Conflict.{Conflict}
 use Rattle.pc_trace.specs.declared.touch.Touch.{Touch}
 use Rattle.pc_trace.specs.declared.touch.Trace.{Trace}
 use Rattle.pc_trace.specs.declared.touch.Verdict.{Verdict}

@@ -7,8 +7,8 @@ use Rattle.pc_semantics.specs.declared.outcome.Outcome.{Outcome}
 use Rattle.pc_semantics.specs.declared.outcome.Outcome.TheVariants as outcome
 use Rattle.pc_trace.specs.declared.fault.TraceFault.{TraceFault}
 use Rattle.pc_trace.specs.declared.fault.TraceFault.TheVariants as fault
-use Rattle.pc_ahead.specs.declared.ahead.Ahead.{Ahead}
-use Rattle.pc_ahead.specs.declared.ahead.Ahead.TheVariants as ahead
+use Rattle.pc_semantics.specs.declared.ahead.Ahead.{Ahead}
+use Rattle.pc_semantics.specs.declared.ahead.Ahead.TheVariants as ahead
 
 -- An actor does something, where there are so many actors.
 abbrev pub Acts : (count actor : ℕ) → List Seat → List Seat → Type 0

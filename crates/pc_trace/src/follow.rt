@@ -1,10 +1,10 @@
 //! What an event does to the clocks that are kept.
 ghost use Rattle.std.specs.Prelude.{OnOk};
-ghost use Rattle.pc_ahead.specs.declared.ahead.Ahead.TheVariants as kind;
+ghost use Rattle.pc_semantics.specs.declared.ahead.Ahead.TheVariants as kind;
 ghost use Rattle.pc_trace.specs.Turns.{Follows, Ready};
 
-use pc_ahead::Ahead;
 use pc_clocks::Seats;
+use pc_semantics::Ahead;
 use std::alloc::{AllocError, Global};
 
 // An actor acts, and sends a message.

@@ -1,7 +1,7 @@
 //! The accesses of a run with their clocks, and whether those that conflict are ordered.
 //!
 //! `specs/Traces.antt` says what is told. Two accesses conflict where they are of different actors, touch one field of one object,
-//! and one of them writes (`pc_before`). The clock of an event says of each actor how many of its events are this one or come before
+//! and one of them writes (`pc_events`). The clock of an event says of each actor how many of its events are this one or come before
 //! it: one event comes before another where both are one actor's and it is the earlier one, where it puts a message into a mailbox
 //! and the other takes this message, or by a chain of these.
 //!

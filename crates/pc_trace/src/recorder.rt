@@ -10,12 +10,11 @@ ghost use Rattle.pc_trace.specs.Turns.{Room, Says};
 use crate::fault::TraceFault;
 use crate::follow::follow;
 use crate::touch::Touch;
-use pc_ahead::Ahead;
 use pc_caps::List;
 use pc_clocks::Seats;
 use pc_core::Core;
 use pc_machine::{Machine, start};
-use pc_semantics::{Access, Outcome};
+use pc_semantics::{Access, Ahead, Outcome};
 use std::alloc::{AllocError, Global};
 
 // How many actors a clock may speak of.

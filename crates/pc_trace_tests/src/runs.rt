@@ -1,7 +1,7 @@
 //! Runs whose accesses, clocks and verdicts are known.
 use crate::traces::{Row, Turns, fault_of, is_accepted_with, refused_declaration, verdict_of};
 use pc_check::DeclFault;
-use pc_test_sources::programs::HELLO;
+use pc_test_inputs::programs::HELLO;
 use pc_trace::{TraceFault, Verdict};
 
 const HELLO_TURNS: [Turns; 2] = [(1, 10), (0, 1)];

@@ -8,7 +8,7 @@ use pc_caps::List;
 use pc_check::{CheckFault, DeclFault, check};
 use pc_core::Core;
 use pc_safe::accepted_is_safe;
-use pc_test_sources::core_of;
+use pc_test_inputs::core_of;
 use pc_trace::{AcceptedFault, Touch, Trace, TraceFault, Verdict, accepted_trace, trace};
 use std::alloc::Global;
 

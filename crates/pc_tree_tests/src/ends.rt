@@ -5,7 +5,7 @@ ghost use Rattle.pc_expr.specs.Gives.{EndsWithEnd};
 use pc_caps::{List, Span};
 use pc_lex::{LexFault, Token, TokenKind};
 use pc_parse::{ParseFault, file};
-use pc_test_sources::tokens_of;
+use pc_test_inputs::tokens_of;
 use pc_tree::File;
 use std::alloc::Global;
 

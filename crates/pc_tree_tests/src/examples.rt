@@ -1,6 +1,6 @@
 //! The sources that stand in `examples/`: what is printed of each is printed of that again.
 use crate::printed::{printed, prints};
-use pc_test_sources::programs::BANK;
+use pc_test_inputs::programs::BANK;
 use std::alloc::Global;
 
 fn is_printed_again(alloc: Global, source: &[u8]) -> bool {

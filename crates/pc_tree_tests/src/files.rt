@@ -2,8 +2,8 @@
 use crate::ends::file_with_end;
 use crate::showing::shown;
 use pc_parse::ParseFault;
-use pc_test_sources::programs::BANK;
-use pc_test_sources::tree_of;
+use pc_test_inputs::programs::BANK;
+use pc_test_inputs::tree_of;
 use pc_tree::File;
 use std::alloc::Global;
 

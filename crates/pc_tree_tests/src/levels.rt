@@ -1,7 +1,7 @@
 //! How deep trees are, and how deep a text may go.
 use pc_measure::{depth, size};
 use pc_parse::ParseFault;
-use pc_test_sources::tree_of;
+use pc_test_inputs::tree_of;
 use std::alloc::{AllocError, Global};
 
 // The same byte, so many times.

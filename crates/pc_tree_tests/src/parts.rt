@@ -2,7 +2,7 @@
 use crate::reading::{Part, read};
 use crate::rows::Row;
 use pc_expr::{ParseFault, seq};
-use pc_test_sources::tokens_of;
+use pc_test_inputs::tokens_of;
 use std::alloc::{AllocError, Global};
 
 fn has_rows(alloc: Global, text: &[u8], rows: &[Row]) -> bool {

@@ -1,7 +1,7 @@
 //! Texts that are read, and what is printed of their trees.
 use pc_caps::List;
 use pc_print::print;
-use pc_test_sources::tree_of;
+use pc_test_inputs::tree_of;
 use std::alloc::Global;
 
 /// What is printed of the tree of a source, where it has one.

@@ -5,7 +5,7 @@ ghost use Rattle.pc_expr.specs.Gives.{EndsWithEnd};
 use crate::rows::{Row, Rows, of_expr, of_seq};
 use pc_expr::{ParseFault, expr, infix, seq};
 use pc_lex::Token;
-use pc_test_sources::tokens_of;
+use pc_test_inputs::tokens_of;
 use pc_tree::{Expr, Seq};
 use std::alloc::Global;
 

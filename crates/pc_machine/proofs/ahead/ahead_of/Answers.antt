@@ -1,6 +1,6 @@
 use Rattle.std.proofs.Common.{ap, sym, ◌∙◌}
 use Rattle.std.specs.Prelude.{slice_get}
-use Rattle.pc_ahead.specs.Ahead.{by_move}
+use Rattle.pc_semantics.specs.Ahead.{by_move}
 use Rattle.pc_tasks.specs.Inside.{amid, first_move}
 use Rattle.pc_machine.specs.States.{configuration_of}
 use Rattle.pc_machine.proofs.Foreseen.{task_foreseen}

@@ -1,4 +1,0 @@
-pub mod Before
-pub mod Conflict
-pub mod Clock
-pub mod Laws

@@ -1,0 +1,28 @@
+//! What is proved of the events of runs. Each call does nothing, and its contract is the law.
+ghost use Rattle.pc_events.specs.AheadLaws.{AheadAgrees};
+ghost use Rattle.pc_events.specs.Laws as law;
+
+/// What is said of an actor's next step is how it ends.
+#[tactic(auto, using(crate::proofs::Agrees::ahead_agrees))]
+pub fn ahead_agrees()
+    ensures { AheadAgrees }
+{}
+
+/// In every run of a safe program two events of different actors that touch one field of one object, one of them writing, are
+/// ordered: one comes before the other.
+#[tactic(auto, using(crate::proofs::Order::conflicts_ordered))]
+pub fn conflicts_are_ordered()
+    ensures { law.ConflictsOrdered }
+{}
+
+/// The earlier of them comes before the later one.
+#[tactic(auto, using(crate::proofs::Order::earlier_comes_before))]
+pub fn earlier_comes_before()
+    ensures { law.EarlierComesBefore }
+{}
+
+/// In every run of every program, what comes before an event is earlier.
+#[tactic(auto, using(crate::proofs::Order::before_is_earlier))]
+pub fn before_is_earlier()
+    ensures { law.BeforeIsEarlier }
+{}

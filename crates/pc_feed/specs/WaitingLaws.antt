@@ -1,0 +1,26 @@
+-- What waits, of every core whose parts fit together.
+use Rattle.std.specs.Prelude.{◌≡◌, ◌↔◌, ℕ, List, [], ◌∷◌, ◌++◌, length, Some, slice_get}
+use Rattle.pc_core.specs.declared.nodes.Node.{Node}
+use Rattle.pc_core.specs.declared.nodes.NodeKind.TheVariants as node
+use Rattle.pc_core.specs.CoreData.{CoreData}
+use Rattle.pc_core.specs.Formed.{Formed}
+use Rattle.pc_ann.specs.declared.annotation.Note.{Note}
+use Rattle.pc_ann.specs.declared.annotation.Ann.{Ann}
+use Rattle.pc_rules.specs.Parts.{Slots, notes_of}
+use Rattle.pc_rules.specs.Rules.{Holds, MeetsRule}
+use Rattle.pc_feed.specs.Waiting.{Waits, Begins}
+
+-- A node's children are the last ones that wait, and those of a body the only ones.
+abbrev pub ChildrenWaitLast : Type 0
+ChildrenWaitLast =
+    (core : CoreData) (n : ℕ) (waiting : List ℕ) (x : Node) → Formed core → Waits core n waiting → slice_get core.nodes n ≡ Some x
+    → (rest : List ℕ) × (waiting ≡ rest ++ x.children) × (x.kind ≡ node.Body → rest ≡ [])
+
+-- Of the notes of those that wait, the last are those of the children. By them the node meets the rule of a note exactly
+-- where it does in each annotation that begins so.
+abbrev pub WaitingTells : Type 0
+WaitingTells =
+    (core : CoreData) (slots : Slots) (notes waiting : List Note) (numbers : List ℕ) (own : Note) (x : Node) → Formed core
+    → Waits core (length notes) numbers → notes_of notes numbers ≡ Some waiting → slice_get core.nodes (length notes) ≡ Some x
+    → (front : List Note) × (children : List Note) × (waiting ≡ front ++ children) × (length children ≡ length x.children)
+    × ((ann : Ann) → Begins ann slots (notes ++ own ∷ []) → Holds core slots own children (length notes) ↔ MeetsRule core ann (length notes))

@@ -1,0 +1,50 @@
+-- What an actor's next step is.
+use Rattle.std.specs.Prelude.{ℕ, List, [], ◌∷◌, Option, Some, None, slice_get}
+use Rattle.pc_core.specs.CoreData.{CoreData}
+use Rattle.pc_semantics.specs.declared.actors.Actor.{Actor}
+use Rattle.pc_semantics.specs.declared.frames.Frame.{Frame}
+use Rattle.pc_semantics.specs.declared.frames.Task.{Task}
+use Rattle.pc_semantics.specs.declared.outcome.Outcome.{Outcome}
+use Rattle.pc_semantics.specs.declared.outcome.Outcome.TheVariants as outcome
+use Rattle.pc_semantics.specs.Configurations.{Configuration}
+use Rattle.pc_semantics.specs.Around.{Around, Move, Stuck, Overflows, Goes, Writes, Makes, Spawns, Enters, Sends, Leaves, with_tasks}
+use Rattle.pc_semantics.specs.Tasks.{task_move}
+use Rattle.pc_semantics.specs.Step.{around, take_first}
+use Rattle.pc_semantics.specs.declared.ahead.Ahead.{Ahead}
+use Rattle.pc_semantics.specs.declared.ahead.Ahead.TheVariants as ahead
+
+-- A task, by the move that it makes.
+abbrev pub by_move : Move → Ahead
+by_move (Stuck l) = ahead.Lacks
+by_move Overflows = ahead.TooLong
+by_move (Goes f) = ahead.Task
+by_move (Writes a k v f) = ahead.Task
+by_move (Makes a o g f) = ahead.Task
+by_move (Spawns o m f) = ahead.Spawn
+by_move (Enters g f) = ahead.Task
+by_move (Sends j m f) = ahead.Send j
+by_move (Leaves v) = ahead.Task
+
+-- The taking of the oldest message, by how it ends.
+abbrev pub by_outcome : Outcome → Ahead
+by_outcome outcome.Moved = ahead.Take
+by_outcome outcome.Skipped = ahead.Skipped
+by_outcome (outcome.Lacks l) = ahead.Lacks
+by_outcome outcome.TooLong = ahead.TooLong
+
+-- The first of the tasks that a frame has.
+abbrev pub of_tasks : CoreData → Around → Frame → List Task → Ahead
+of_tasks core around f [] = ahead.Lacks
+of_tasks core around f (t ∷ ts) = by_move (task_move core around (with_tasks f ts) t)
+
+abbrev pub of_frames : CoreData → Configuration → ℕ → Actor → List Frame → Ahead
+of_frames core c i a [] = by_outcome (take_first core c i a.mailbox).0
+of_frames core c i a (f ∷ fs) = of_tasks core (around c i) f f.tasks
+
+abbrev pub of_actor : CoreData → Configuration → ℕ → Option Actor → Ahead
+of_actor core c i None = ahead.Skipped
+of_actor core c i (Some a) = of_frames core c i a a.frames
+
+-- What the next step of actor i is.
+abbrev pub ahead_of : CoreData → Configuration → ℕ → Ahead
+ahead_of core c i = of_actor core c i (slice_get c.actors i)

@@ -1,2 +1,0 @@
-pub mod PostOrder
-pub mod Noted

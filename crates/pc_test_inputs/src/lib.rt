@@ -1,0 +1,14 @@
+//! What test crates share: from a text to its tokens, its tree and its core, whole programs, and the derivation of the smallest
+//! program with a local, as text and as notes. Both are those of the format's description, worked out by hand.
+#![tactic(auto)]
+
+mod cores;
+mod lines;
+mod notes;
+pub mod programs;
+mod texts;
+
+pub use cores::{core_of, core_or_fault};
+pub use lines::{LINES, LINES2, variant_of};
+pub use notes::{NODES, NodeRow, SLOTS, note};
+pub use texts::{tokens_of, tree_of};
