@@ -1,5 +1,5 @@
 //! The names of versions, rules, capabilities and forms.
-ghost use Rattle.std.specs.Prelude.{◌≡◌, option_map};
+ghost use Rattle.std.specs.Prelude.{◌≡◌, ℕ, List, option_map};
 ghost use Rattle.pc_deriv.specs.Names as names;
 ghost use Rattle.pc_deriv.specs.Reading as reading;
 
@@ -136,6 +136,47 @@ pub fn form_name(form: Form) -> &'static str
     }
 }
 
+// What has a name in the text.
+trait Named: Copy {
+    // The bytes of the name.
+    ghost spelling: { Self → List ℕ };
+
+    fn name(self) -> &'static str
+        ensures { result.now ≡ spelling self };
+}
+
+impl Named for Version {
+    ghost spelling = { names.version_name };
+
+    fn name(self) -> &'static str {
+        version_name(self)
+    }
+}
+
+impl Named for Rule {
+    ghost spelling = { names.rule_name };
+
+    fn name(self) -> &'static str {
+        rule_name(self)
+    }
+}
+
+impl Named for Cap {
+    ghost spelling = { names.cap_name };
+
+    fn name(self) -> &'static str {
+        cap_name(self)
+    }
+}
+
+impl Named for Form {
+    ghost spelling = { names.form_name };
+
+    fn name(self) -> &'static str {
+        form_name(self)
+    }
+}
+
 /// What follows these bytes.
 #[tactic(auto, unfolding(crate::specs::Reading::after))]
 pub fn after<'a>(text: &'a [u8], word: &[u8]) -> Option<&'a [u8]>
@@ -157,14 +198,14 @@ fn after_word<'a>(text: &'a [u8], word: &str, end: u8) -> Option<&'a [u8]>
     after(rest, &[end])
 }
 
-// The first of these whose name stands at the front, with what ends it.
+// The first of these whose name and the byte that ends it stand at the front, and what follows.
 #[tactic(auto, using(crate::proofs::NameSteps::named_here, crate::proofs::NameSteps::named_on))]
-fn first_version<'a>(versions: &[Version], text: &'a [u8]) -> Option<(Version, &'a [u8])>
-    ensures { option_map (λ r. (r.0, r.1.now)) result ≡ reading.named_at names.version_name 32 versions.now text.now }
+fn first_named<'a, T: Named>(things: &[T], end: u8, text: &'a [u8]) -> Option<(T, &'a [u8])>
+    ensures { option_map (λ r. (r.0, r.1.now)) result ≡ reading.named_at T.spelling end things.now text.now }
 {
-    for version in versions {
-        if let Some(rest) = after_word(text, version_name(*version), b' ') {
-            return Some((*version, rest));
+    for thing in things {
+        if let Some(rest) = after_word(text, thing.name(), end) {
+            return Some((*thing, rest));
         }
     }
     None
@@ -175,20 +216,7 @@ fn first_version<'a>(versions: &[Version], text: &'a [u8]) -> Option<(Version, &
 pub fn version_at(text: &[u8]) -> Option<(Version, &[u8])>
     ensures { option_map (λ r. (r.0, r.1.now)) result ≡ reading.version_at text.now }
 {
-    first_version(&VERSIONS, text)
-}
-
-// The first of these whose name stands at the front, with what ends it.
-#[tactic(auto, using(crate::proofs::NameSteps::named_here, crate::proofs::NameSteps::named_on))]
-fn first_rule<'a>(rules: &[Rule], text: &'a [u8]) -> Option<(Rule, &'a [u8])>
-    ensures { option_map (λ r. (r.0, r.1.now)) result ≡ reading.named_at names.rule_name 32 rules.now text.now }
-{
-    for rule in rules {
-        if let Some(rest) = after_word(text, rule_name(*rule), b' ') {
-            return Some((*rule, rest));
-        }
-    }
-    None
+    first_named(&VERSIONS, b' ', text)
 }
 
 /// The rule with whose name and a blank the text begins, and what follows. Only names with the text's first byte are
@@ -197,42 +225,30 @@ pub fn rule_at(text: &[u8]) -> Option<(Rule, &[u8])>
     ensures { option_map (λ r. (r.0, r.1.now)) result ≡ reading.rule_at text.now }
 {
     if text.is_empty() {
-        return first_rule(&RULES, text);
+        return first_named(&RULES, b' ', text);
     }
     match text[0] {
-        b'a' => first_rule(&[Rule::Assign, Rule::Arith], text),
-        b'b' => first_rule(&[Rule::Builtin, Rule::Body], text),
-        b'c' => first_rule(
+        b'a' => first_named(&[Rule::Assign, Rule::Arith], b' ', text),
+        b'b' => first_named(&[Rule::Builtin, Rule::Body], b' ', text),
+        b'c' => first_named(
             &[Rule::Consume, Rule::Call, Rule::CallRecover, Rule::Compare],
+            b' ',
             text,
         ),
-        b'd' => first_rule(&[Rule::Define], text),
-        b'e' => first_rule(&[Rule::Equal], text),
-        b'g' => first_rule(&[Rule::Get, Rule::GetOwn], text),
-        b'i' => first_rule(&[Rule::Identity, Rule::If], text),
-        b'j' => first_rule(&[Rule::Join], text),
-        b'l' => first_rule(&[Rule::Local, Rule::Logic, Rule::Lazy], text),
-        b'n' => first_rule(&[Rule::Number, Rule::New], text),
-        b'p' => first_rule(&[Rule::Prim, Rule::Put, Rule::PutOwn], text),
-        b'r' => first_rule(&[Rule::Recover], text),
-        b's' => first_rule(&[Rule::Spawn, Rule::Send, Rule::Seq], text),
-        b't' => first_rule(&[Rule::Truth, Rule::Text, Rule::This], text),
-        b'w' => first_rule(&[Rule::While], text),
-        _ => first_rule(&RULES, text),
+        b'd' => first_named(&[Rule::Define], b' ', text),
+        b'e' => first_named(&[Rule::Equal], b' ', text),
+        b'g' => first_named(&[Rule::Get, Rule::GetOwn], b' ', text),
+        b'i' => first_named(&[Rule::Identity, Rule::If], b' ', text),
+        b'j' => first_named(&[Rule::Join], b' ', text),
+        b'l' => first_named(&[Rule::Local, Rule::Logic, Rule::Lazy], b' ', text),
+        b'n' => first_named(&[Rule::Number, Rule::New], b' ', text),
+        b'p' => first_named(&[Rule::Prim, Rule::Put, Rule::PutOwn], b' ', text),
+        b'r' => first_named(&[Rule::Recover], b' ', text),
+        b's' => first_named(&[Rule::Spawn, Rule::Send, Rule::Seq], b' ', text),
+        b't' => first_named(&[Rule::Truth, Rule::Text, Rule::This], b' ', text),
+        b'w' => first_named(&[Rule::While], b' ', text),
+        _ => first_named(&RULES, b' ', text),
     }
-}
-
-// The first of these whose name stands at the front, with what ends it.
-#[tactic(auto, using(crate::proofs::NameSteps::named_here, crate::proofs::NameSteps::named_on))]
-fn first_cap<'a>(caps: &[Cap], text: &'a [u8]) -> Option<(Cap, &'a [u8])>
-    ensures { option_map (λ r. (r.0, r.1.now)) result ≡ reading.named_at names.cap_name 10 caps.now text.now }
-{
-    for cap in caps {
-        if let Some(rest) = after_word(text, cap_name(*cap), b'\n') {
-            return Some((*cap, rest));
-        }
-    }
-    None
 }
 
 /// The capability with whose name and a line end the text begins, and what follows.
@@ -240,20 +256,7 @@ fn first_cap<'a>(caps: &[Cap], text: &'a [u8]) -> Option<(Cap, &'a [u8])>
 pub fn cap_at(text: &[u8]) -> Option<(Cap, &[u8])>
     ensures { option_map (λ r. (r.0, r.1.now)) result ≡ reading.cap_at text.now }
 {
-    first_cap(&CAPS, text)
-}
-
-// The first of these whose name stands at the front, with what ends it.
-#[tactic(auto, using(crate::proofs::NameSteps::named_here, crate::proofs::NameSteps::named_on))]
-fn first_form<'a>(forms: &[Form], text: &'a [u8]) -> Option<(Form, &'a [u8])>
-    ensures { option_map (λ r. (r.0, r.1.now)) result ≡ reading.named_at names.form_name 32 forms.now text.now }
-{
-    for form in forms {
-        if let Some(rest) = after_word(text, form_name(*form), b' ') {
-            return Some((*form, rest));
-        }
-    }
-    None
+    first_named(&CAPS, b'\n', text)
 }
 
 /// The form with whose name and a blank the text begins, and what follows.
@@ -261,5 +264,5 @@ fn first_form<'a>(forms: &[Form], text: &'a [u8]) -> Option<(Form, &'a [u8])>
 pub fn form_at(text: &[u8]) -> Option<(Form, &[u8])>
     ensures { option_map (λ r. (r.0, r.1.now)) result ≡ reading.form_at text.now }
 {
-    first_form(&FORMS, text)
+    first_named(&FORMS, b' ', text)
 }

@@ -4,3 +4,4 @@ pub mod States
 pub mod Taken
 pub mod Ran
 pub mod Machines
+pub mod Limits

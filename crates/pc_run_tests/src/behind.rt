@@ -1,7 +1,7 @@
 //! Machines of accepted programs, behind the steps of lists of actors.
 ghost use Rattle.std.specs.Prelude.{◌≤◌, length};
 ghost use Rattle.pc_rules.specs.Valid.{Valid};
-ghost use Rattle.pc_steps.specs.Ends.{list_limit};
+ghost use Rattle.pc_machine.specs.Limits.{list_limit};
 
 use pc_ann::Ann;
 use pc_check::check;

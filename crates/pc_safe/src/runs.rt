@@ -3,7 +3,8 @@ ghost use Rattle.std.specs.Prelude.{◌≤◌, length, List as Sequence, ℕ};
 ghost use Rattle.pc_rules.specs.Valid.{Valid};
 ghost use Rattle.pc_semantics.specs.Runs.{after};
 ghost use Rattle.pc_semantics.specs.Safety.{LacksNothing};
-ghost use Rattle.pc_steps.specs.Ends.{RunEnds, list_limit};
+ghost use Rattle.pc_machine.specs.Limits.{list_limit};
+ghost use Rattle.pc_steps.specs.Ends.{RunEnds};
 
 use pc_ann::Ann;
 use pc_core::Core;

@@ -3,7 +3,8 @@ ghost use Rattle.std.specs.Prelude.{◌≤◌, length};
 ghost use Rattle.pc_rules.specs.Valid.{Valid, Derivable};
 ghost use Rattle.pc_semantics.specs.Safety.{Safe};
 ghost use Rattle.pc_safe.specs.Apart.{EndsApart};
-ghost use Rattle.pc_steps.specs.Ends.{RunEnds, list_limit};
+ghost use Rattle.pc_machine.specs.Limits.{list_limit};
+ghost use Rattle.pc_steps.specs.Ends.{RunEnds};
 
 use crate::runs::accepted_runs;
 use pc_ann::Ann;

@@ -14,7 +14,7 @@ use Rattle.pc_semantics.specs.Runs.{after, followed, outcomes, outcomes_from, ru
 use Rattle.pc_semantics.specs.Safety.{LacksNothing}
 use Rattle.pc_semantics.specs.Step.{step}
 use Rattle.pc_semantics.specs.Text.{ended_at, end_of, waiting}
-use Rattle.pc_steps.specs.Ends.{list_limit}
+use Rattle.pc_machine.specs.Limits.{list_limit}
 use Rattle.pc_steps.proofs.Underway.{Underway}
 use Rattle.pc_lists.proofs.Cuts.{take_whole}
 

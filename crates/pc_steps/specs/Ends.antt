@@ -8,10 +8,6 @@ use Rattle.pc_semantics.specs.Text.{end_of}
 use Rattle.pc_steps.specs.declared.fault.StepsFault.{StepsFault}
 use Rattle.pc_steps.specs.declared.fault.StepsFault.TheVariants.{TooLong, Memory}
 
--- how many actors a list may have
-abbrev pub list_limit : ℕ
-list_limit = 4000000
-
 -- The machine of the core behind all steps of the list.
 abbrev pub IsBehind : CoreData → List ℕ → MachineData → Type 0
 IsBehind core list machine = (machine.core ≡ core) × (machine.configuration ≡ after core list)

@@ -3,7 +3,8 @@ ghost use Rattle.std.specs.Prelude.{◌≡◌, ◌≤◌, IfErr, length, List as
 ghost use Rattle.pc_semantics.specs.Configurations.{start as beginning};
 ghost use Rattle.pc_semantics.specs.Runs.{after};
 ghost use Rattle.pc_semantics.specs.Safety.{LacksNothing};
-ghost use Rattle.pc_steps.specs.Ends.{RunEnds, StopsWithin, list_limit};
+ghost use Rattle.pc_machine.specs.Limits.{list_limit};
+ghost use Rattle.pc_steps.specs.Ends.{RunEnds, StopsWithin};
 
 use crate::fault::StepsFault;
 use pc_machine::{Machine, Outcome};

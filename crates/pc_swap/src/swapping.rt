@@ -3,7 +3,8 @@ ghost use Rattle.std.specs.Prelude.{◌≡◌, ◌+◌, ◌-◌, ◌<◌, ◌≤
 ghost use Rattle.pc_semantics.specs.Runs.{outcomes};
 ghost use Rattle.pc_semantics.specs.Safety.{Safe};
 ghost use Rattle.pc_semantics.specs.Text.{end_of};
-ghost use Rattle.pc_steps.specs.Ends.{IsBehind, list_limit};
+ghost use Rattle.pc_machine.specs.Limits.{list_limit};
+ghost use Rattle.pc_steps.specs.Ends.{IsBehind};
 ghost use Rattle.pc_swap.specs.Swapping.{FrontStops, SwapEnds};
 
 use crate::kept::SwapFault;

@@ -26,7 +26,7 @@ use Rattle.pc_trace.specs.Turns.{Ready}
 use Rattle.pc_trace.specs.Keeps.{Keeps}
 use Rattle.pc_trace.specs.Noted.{NotedAt, Noted}
 use Rattle.pc_trace.specs.Reached.{noted_with}
-use Rattle.pc_trace.specs.Traces.{list_limit}
+use Rattle.pc_machine.specs.Limits.{list_limit}
 
 -- ---- numbers stay small
 

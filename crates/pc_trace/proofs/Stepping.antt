@@ -33,7 +33,8 @@ use Rattle.pc_trace.specs.Turns.{Follows, Ready}
 use Rattle.pc_trace.specs.Keeps.{Keeps, first_seats}
 use Rattle.pc_trace.specs.Noted.{Noted}
 use Rattle.pc_trace.specs.Reached.{Reached, noted_with}
-use Rattle.pc_trace.specs.Traces.{actor_limit, list_limit, RanOn, TooManyAt, TooLongAt, LacksAt}
+use Rattle.pc_machine.specs.Limits.{list_limit}
+use Rattle.pc_trace.specs.Traces.{actor_limit, RanOn, TooManyAt, TooLongAt, LacksAt}
 use Rattle.pc_trace.proofs.Keeping.{Behind, behind_event}
 use Rattle.pc_trace.proofs.Rests.{keeps_at_start, few_actors_at_start, keeps_rested}
 use Rattle.pc_trace.proofs.Ends.{outcome_at, ran_on, at_end, ended, stops}

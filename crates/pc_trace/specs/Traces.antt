@@ -22,12 +22,9 @@ use Rattle.pc_trace.specs.declared.fault.TraceFault.TheVariants as fault
 use Rattle.pc_trace.specs.declared.fault.AcceptedFault.{AcceptedFault}
 use Rattle.pc_trace.specs.declared.fault.AcceptedFault.TheVariants as accepted
 
--- how many actors a clock may speak of, and how many places a list may have
+-- how many actors a clock may speak of
 abbrev pub actor_limit : ℕ
 actor_limit = 64
-
-abbrev pub list_limit : ℕ
-list_limit = 4000000
 
 -- ---- accesses
 

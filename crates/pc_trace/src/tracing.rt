@@ -2,7 +2,8 @@
 ghost use Rattle.std.specs.Prelude.{◌≤◌, MatchResult, length};
 ghost use Rattle.pc_semantics.specs.Safety.{Safe};
 ghost use Rattle.pc_trace.specs.declared.touch.Verdict.TheVariants.{Ordered};
-ghost use Rattle.pc_trace.specs.Traces.{AcceptedStops, AllTouches, IsTrace, RanOn, TraceStops, VerdictIs, list_limit};
+ghost use Rattle.pc_machine.specs.Limits.{list_limit};
+ghost use Rattle.pc_trace.specs.Traces.{AcceptedStops, AllTouches, IsTrace, RanOn, TraceStops, VerdictIs};
 
 use crate::clash::judged;
 use crate::fault::{AcceptedFault, TraceFault};

@@ -1,6 +1,6 @@
 //! Traces of programs.
 ghost use Rattle.std.specs.Prelude.{◌≤◌, length};
-ghost use Rattle.pc_trace.specs.Traces.{list_limit};
+ghost use Rattle.pc_machine.specs.Limits.{list_limit};
 ghost use Rattle.pc_rules.specs.Valid.{Valid};
 
 use pc_ann::Ann;
