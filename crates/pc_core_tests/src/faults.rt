@@ -1,7 +1,7 @@
 //! Small bodies, with the fault that each has.
 use crate::parts::span;
 use crate::program::{KnownRow, Program, Written, program_of};
-use pc_resolve::{BodyFault, check, check_added};
+use pc_body_walks::{BodyFault, check, check_added};
 use pc_tree::{EntityKind, MethodWord};
 use std::alloc::{AllocError, Global};
 

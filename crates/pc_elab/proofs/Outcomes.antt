@@ -11,9 +11,9 @@ use Rattle.pc_body_spec.specs.Scopes.{Context}
 use Rattle.pc_body_spec.specs.Faults.{Fault, unknown, double, long_text}
 use Rattle.pc_body_spec.specs.Slots.{Local}
 use Rattle.pc_body_spec.specs.Methods.{in_body, slots_full, nodes_full, Outcome, local_names, unless_fault, unless_name, numbered, put_body}
-use Rattle.pc_resolve.specs.declared.fault.BodyFault.{BodyFault}
-use Rattle.pc_resolve.specs.declared.fault.BodyFault.TheVariants as body
-use Rattle.pc_resolve.specs.Checking.{IsFirst}
+use Rattle.pc_body_walks.specs.declared.fault.BodyFault.{BodyFault}
+use Rattle.pc_body_walks.specs.declared.fault.BodyFault.TheVariants as body
+use Rattle.pc_body_walks.specs.Checking.{IsFirst}
 use Rattle.pc_emit.specs.Giving.{put_written}
 use Rattle.pc_members.specs.Members.{Member}
 use Rattle.pc_elab.specs.Outcomes.{Passes, as_name_fault, member_faults, member_params, span_of, extra_slot, before_nodes}

@@ -7,8 +7,8 @@ use Rattle.pc_core.specs.declared.nodes.Node.{Node}
 use Rattle.pc_names.specs.declared.fault.NameFault.{NameFault}
 use Rattle.pc_names.specs.declared.fault.NameFault.TheVariants as fault
 use Rattle.pc_names.specs.declared.fault.Which.TheVariants as which
-use Rattle.pc_resolve.specs.declared.fault.BodyFault.{BodyFault}
-use Rattle.pc_resolve.specs.declared.fault.BodyFault.TheVariants as body
+use Rattle.pc_body_walks.specs.declared.fault.BodyFault.{BodyFault}
+use Rattle.pc_body_walks.specs.declared.fault.BodyFault.TheVariants as body
 use Rattle.pc_members.specs.Words.{field_texts}
 use Rattle.pc_body_spec.specs.Roses.{Rose}
 use Rattle.pc_body_spec.specs.Scopes.{Context, Placed}

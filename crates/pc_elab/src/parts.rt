@@ -1,7 +1,7 @@
 //! The methods of a program with their slots and nodes, member by member.
 ghost use Rattle.std.specs.Prelude.{◌≡◌, slice_get, IfOk, OnOk};
 ghost use Rattle.pc_tree.specs.View.{entity_view};
-ghost use Rattle.pc_resolve.specs.Checking.{Tells};
+ghost use Rattle.pc_body_walks.specs.Checking.{Tells};
 ghost use Rattle.pc_emit.specs.Giving.{GivesBody};
 ghost use Rattle.pc_members.specs.Views.{member_view};
 ghost use Rattle.pc_body_spec.specs.Methods.{local_names};
@@ -14,12 +14,13 @@ ghost use Rattle.pc_elab.specs.Views.{parts_view};
 use crate::language::make_print;
 use crate::signature::{kind_of, params_of, receiver_of, result_of};
 use crate::slots::add_slots;
+use pc_body_walks::{BodyFault, Local, check, check_added};
 use pc_caps::{List, Span};
 use pc_core::{Method, Node, ParamInfo, Slot};
 use pc_emit::{EmitStop, emit, emit_added};
 use pc_members::Member;
 use pc_names::{NameFault, Which};
-use pc_resolve::{BodyFault, Context, Local, check, check_added};
+use pc_resolve::Context;
 use pc_tree::{Entity, MethodWord};
 use std::alloc::{AllocError, Global};
 

@@ -9,10 +9,11 @@ ghost use Rattle.pc_file_spec.specs.Signatures as spec;
 ghost use Rattle.pc_elab.specs.Slots as counts;
 
 use crate::signature::receiver_of;
+use pc_body_walks::{Local, added_locals, locals, slots};
 use pc_caps::{Cap, List};
 use pc_core::{ParamInfo, Slot, SlotKind};
 use pc_members::Member;
-use pc_resolve::{Context, Local, LocalSlots, added_locals, locals, slots};
+use pc_resolve::{Context, LocalSlots};
 use pc_tree::{Entity, MethodWord, TypeRef};
 use std::alloc::{AllocError, Global};
 

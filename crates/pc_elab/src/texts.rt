@@ -3,10 +3,10 @@ ghost use Rattle.std.specs.Prelude.{◌≡◌, ◌<◌, [], ◌^◌, length, IfO
 ghost use Rattle.pc_tree.specs.View.{file_view};
 ghost use Rattle.pc_file_spec.specs.Known.{texts_of};
 
+use pc_body_walks::add_texts;
 use pc_caps::List;
 use pc_members::NameTable;
 use pc_names::add_member_texts;
-use pc_resolve::add_texts;
 use pc_tree::File;
 use std::alloc::{AllocError, Global};
 

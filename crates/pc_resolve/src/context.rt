@@ -117,7 +117,7 @@ impl Context {
     }
 
     /// What a bare name means where the visible local or parameter of this name, if there is one, has this slot.
-    pub(crate) fn meaning(&self, local: Option<u32>, name: &[u8]) -> Meaning
+    pub fn meaning(&self, local: Option<u32>, name: &[u8]) -> Meaning
         ensures { meaning_view result ≡ spec.unless_local local (spec.member (spec.is_among self.now.fields name.now) (spec.is_among self.now.methods name.now)) }
     {
         if let Some(slot) = local {

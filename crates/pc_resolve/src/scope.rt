@@ -53,7 +53,7 @@ struct Entered {
 
 /// The visible locals and parameters, each found by its name in the same time however many there are.
 #[derive(Drop)]
-pub(crate) struct Scope {
+pub struct Scope {
     row: List<Entered>,
     slots: Index,
 }
@@ -74,7 +74,7 @@ impl Model for Scope {
 
 impl Scope {
     /// Nothing is visible. It takes no memory.
-    pub(crate) fn new(alloc: Global) -> Scope
+    pub fn new(alloc: Global) -> Scope
         ensures { result ≡ [] }
     {
         Scope {
@@ -84,7 +84,7 @@ impl Scope {
     }
 
     /// These are visible. An `Err` where memory runs out.
-    pub(crate) fn of(alloc: Global, row: &[Visible]) -> Result<Scope, AllocError>
+    pub fn of(alloc: Global, row: &[Visible]) -> Result<Scope, AllocError>
         ensures { IfOk result (λ scope. scope ≡ row.now) }
     {
         let mut scope = Scope::new(alloc);
@@ -93,21 +93,21 @@ impl Scope {
     }
 
     /// How many locals and parameters are visible.
-    pub(crate) fn len(&self) -> usize
+    pub fn len(&self) -> usize
         ensures { result ≡ length self.now }
     {
         self.row.len()
     }
 
     /// The slot of the visible local or parameter of this name. `None` exactly where there is none; the first counts.
-    pub(crate) fn find(&self, name: &[u8]) -> Option<u32>
+    pub fn find(&self, name: &[u8]) -> Option<u32>
         ensures { result ≡ spec.slot_of self.now name.now }
     {
         self.slots.find(name)
     }
 
     /// The local of this name, in the slot of this index, becomes visible. An `Err` changes nothing.
-    pub(crate) fn push(&mut self, name: List<u8>, slot: u32) -> Result<(), AllocError>
+    pub fn push(&mut self, name: List<u8>, slot: u32) -> Result<(), AllocError>
         ensures ok { OnOk result (self.new ≡ self.old ++ record { name = name; slot = slot } ∷ []) }
         ensures err { OnErr result (self.new ≡ self.old) }
     {
@@ -127,7 +127,7 @@ impl Scope {
     }
 
     /// Only the first `len` stay visible.
-    pub(crate) fn truncate(&mut self, len: usize)
+    pub fn truncate(&mut self, len: usize)
         ensures { self.new ≡ take len self.old }
     {
         if let Some(entered) = self.row.get(len) {
@@ -148,12 +148,7 @@ fn enter_all(alloc: Global, scope: &mut Scope, row: &[Visible]) -> Result<(), Al
 }
 
 /// The local of this name, in the slot of this index, becomes visible.
-pub(crate) fn enter(
-    alloc: Global,
-    scope: &mut Scope,
-    name: &[u8],
-    slot: u32,
-) -> Result<(), AllocError>
+pub fn enter(alloc: Global, scope: &mut Scope, name: &[u8], slot: u32) -> Result<(), AllocError>
     ensures { OnOk result (scope.new ≡ scope.old ++ record { name = name.now; slot = slot } ∷ []) }
 {
     let name = List::from_slice(alloc, name)?;
