@@ -6,8 +6,8 @@ import sys
 
 TOP = pathlib.Path(__file__).resolve().parent.parent
 
-# The program that `rcap` at the top builds and then becomes. It is called itself, so that only its own time and memory are seen.
-BUILT = TOP / "crates" / "pc_cli" / "out" / "pc_cli"
+# The proved program, which `rcap` at the top becomes. It is called itself, so that only its own time and memory are seen.
+BUILT = TOP / "out" / "proved" / "rcap"
 
 # The folder of the machine's tests, and the program of them that `rt test` makes there: it runs the test that its word names.
 TESTS_FOLDER = TOP / "crates" / "pc_machine_tests"
@@ -19,7 +19,7 @@ NO_WORDS = 2
 
 def add_program(parser):
     """Adds the option that names another program."""
-    parser.add_argument("--program", metavar="PATH", help="the built program; without it rcap at the top builds one")
+    parser.add_argument("--program", metavar="PATH", help="the built program; without it rcap --prove at the top builds one")
 
 
 def add_tests(parser):
@@ -46,8 +46,8 @@ def program_of(options):
     if options.program is not None:
         program = pathlib.Path(options.program).resolve()
     else:
-        # What it writes belongs to the build; a failed one shows below.
-        subprocess.run([TOP / "rcap"], stdin=subprocess.DEVNULL, check=False)
+        if subprocess.run([TOP / "rcap", "--prove"], stdin=subprocess.DEVNULL, check=False).returncode != 0:
+            sys.exit("the program is not proved")
     if not program.is_file():
         sys.exit(f"no program {program}")
     ended = subprocess.run([program], stdin=subprocess.DEVNULL, capture_output=True, check=False)

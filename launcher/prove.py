@@ -8,11 +8,14 @@ import schedule
 import sources
 from copies import Copies, folder_for_copies
 from kept import Kept, only_one
-from report import CannotAnswer, Stopped, last_lines, say
+from report import CannotAnswer, Stopped, explained, last_lines, say
 from unproved import LINE_WITHOUT_WORDS, STATUS_WITHOUT_WORDS
 
 SECONDS_BETWEEN_LOOKS = 0.2
 EXPECTED_SECONDS_THAT_TELL = 60
+
+# What is to be free on a disk, in bytes, before a failure has no other reason.
+PROVING_BYTES = 5_000_000_000
 
 
 def minutes(seconds):
@@ -162,7 +165,8 @@ def prove(top):
             return
         folder = folder_for_copies(top)
         try:
-            prove_unchanged(top, kept, folder)
+            with explained(folder, PROVING_BYTES), explained(kept.folder, PROVING_BYTES):
+                prove_unchanged(top, kept, folder)
         except Stopped:
             say(f"interrupted; what is proved is kept in {folder}, and ./rcap --prove goes on with it")
             raise

@@ -1,5 +1,7 @@
 """What the launcher says, and how it ends if it cannot answer."""
 
+import contextlib
+import shutil
 import sys
 
 # No verdict of the program has this status.
@@ -38,6 +40,19 @@ def why(error):
     """The reason of an error of the system, with the file that it is about."""
     name = f"{error.filename}: " if error.filename is not None else ""
     return f"{name}{error.strerror or error}"
+
+
+@contextlib.contextmanager
+def explained(folder, wanted):
+    """Says first how little is free on the disk of a folder, if what is done there fails and wants so many bytes."""
+    try:
+        yield
+    except (CannotAnswer, OSError) as failed:
+        free = shutil.disk_usage(folder).free
+        if free >= wanted:
+            raise
+        lines = failed.args if isinstance(failed, CannotAnswer) else [why(failed)]
+        raise CannotAnswer(f"only {free // 1_000_000} MB are free at {folder}", *lines) from failed
 
 
 def last_lines(text):

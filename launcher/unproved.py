@@ -4,7 +4,6 @@
 program waits until it is copied. The copy is the whole program, so it answers later calls too, has the caller's streams,
 and no limit of `rt try`."""
 
-import contextlib
 import errno
 import os
 import pathlib
@@ -16,7 +15,7 @@ import time
 import kit
 import sources
 from kept import Kept, only_one
-from report import CannotAnswer, last_lines, say, say_on_terminal, why
+from report import CannotAnswer, explained, last_lines, say, say_on_terminal, why
 from schedule import minutes_to_prove, processors
 
 # What the program answers to no words, by which a copy that runs is known.
@@ -104,18 +103,6 @@ def build_unchanged(top, room):
     return program, checksum
 
 
-@contextlib.contextmanager
-def explained(room):
-    """Says what the room for a build lacks, if the system refuses something."""
-    try:
-        yield
-    except CannotAnswer as failed:
-        free = shutil.disk_usage(room).free
-        if free < BUILD_BYTES:
-            raise CannotAnswer(*failed.args, f"only {free // 1_000_000} MB are free at {room}") from failed
-        raise
-
-
 def build_and_keep(top, kept):
     """Builds the program without its proofs, and keeps it in out/unproved. One call builds; others wait for it."""
     def wait():
@@ -129,7 +116,7 @@ def build_and_keep(top, kept):
             shutil.rmtree(left, ignore_errors=True)
         room = pathlib.Path(tempfile.mkdtemp(prefix="build-", dir=kept.folder))
         try:
-            with explained(room):
+            with explained(room, BUILD_BYTES):
                 say_on_terminal("building it takes a minute or two")
                 program, checksum = build_unchanged(top, room)
                 kept.write("notice", f"rcap: {notice(top)}\n".encode())
@@ -147,7 +134,7 @@ def build_in_passing(top, refused):
     except OSError as error:
         raise CannotAnswer("there is no place to build the program in", f"  {refused}", f"  {why(error)}") from error
     try:
-        with explained(room):
+        with explained(room, BUILD_BYTES):
             say_on_terminal(f"building it takes a minute or two, and it is not kept ({refused})")
             return build_unchanged(top, room)[0]
     except BaseException:

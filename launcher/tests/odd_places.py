@@ -120,18 +120,21 @@ class FullDisks(LauncherTest):
         except OSError:
             return False
 
+    def reasons(self):
+        """What the lines say of a disk of its own."""
+        return [b"rcap: only 0 MB are free at "] if self.has_mounts() else []
+
     def test_first_answer(self):
         ran = self.on_full_disk(self.checkout.top / "out", "kind")
-        self.assert_cannot_answer(ran)
+        self.assert_cannot_answer(ran, *self.reasons())
         self.assert_answered(self.checkout.call("kind"), 0, b"unproved\n")
 
     def test_copies(self):
         cache = self.checkout.room / "cache"
         ran = self.on_full_disk(cache, "--prove", environment=self.checkout.environment(XDG_CACHE_HOME=str(cache)))
-        self.assert_cannot_answer(ran)
+        self.assert_cannot_answer(ran, *self.reasons())
 
     def test_proved_program(self):
         ran = self.on_full_disk(self.checkout.top / "out", "--prove")
-        self.assertEqual((ran.status, ran.out), (125, b""), ran.err)
-        self.assertTrue(all(line.startswith(b"rcap: ") for line in ran.err.splitlines()), ran.err)
+        self.assert_cannot_answer(ran, *self.reasons())
         self.assert_answered(self.checkout.call("kind"), 0, b"unproved\n")
