@@ -17,8 +17,11 @@ from report import CannotAnswer, why
 
 def places_for_copies():
     """Where copies may stand, the best first."""
-    cache = os.environ.get("XDG_CACHE_HOME") or os.path.join(os.environ.get("HOME", "/nonexistent"), ".cache")
-    yield pathlib.Path(cache) / "rcap"
+    home = os.environ.get("HOME", "")
+    for cache in (os.environ.get("XDG_CACHE_HOME", ""), os.path.join(home, ".cache")):
+        if os.path.isabs(cache):
+            yield pathlib.Path(cache) / "rcap"
+            break
     yield pathlib.Path(os.environ.get("TMPDIR") or "/tmp") / f"rcap-{os.getuid()}"
 
 
@@ -30,11 +33,21 @@ def folder_for_copies(top):
         try:
             folder = place / name
             folder.mkdir(parents=True, exist_ok=True)
+            if place.stat().st_uid != os.getuid():
+                refused.append(f"  {place}: belongs to another user")
+                continue
             with tempfile.TemporaryFile(dir=folder):
                 return folder
         except OSError as error:
             refused.append(f"  {why(error)}")
     raise CannotAnswer("there is no place to prove in", *refused)
+
+
+def remove(folder):
+    """Removes the copies, and the place in which they stood if no others stand there."""
+    shutil.rmtree(folder, ignore_errors=True)
+    with contextlib.suppress(OSError):
+        folder.parent.rmdir()
 
 
 def link_or_copy(one, other):
@@ -80,7 +93,9 @@ class Copies:
             for name in self.uses:
                 if there[name] != self.sums[name]:
                     self.copy_crate(name, place)
-                self.hand_library(name, self.top, place)
+                # What the checkout has may be of other sources, so it takes the place of nothing that is noted.
+                if not self.is_built(name):
+                    self.hand_library(name, self.top, place)
 
     def copy_heads(self, place):
         """Copies what stands at the top."""

@@ -1,12 +1,11 @@
 """The proved program: `./rcap --prove`."""
 
-import shutil
 import time
 
 import kit
 import schedule
 import sources
-from copies import Copies, folder_for_copies
+from copies import Copies, folder_for_copies, remove
 from kept import Kept, only_one
 from report import CannotAnswer, Stopped, explained, last_lines, say
 from unproved import LINE_WITHOUT_WORDS, STATUS_WITHOUT_WORDS
@@ -135,7 +134,7 @@ def prove_unchanged(top, kept, folder):
     """Builds the proved program of sources that stay as they are, and keeps it."""
     at_once = schedule.processors()
     copies = Copies(top, folder, at_once)
-    before, checksum = sources.list_files(top, folder), sources.checksum_of_program(top)
+    before = sources.state(top)
     copies.make()
     (folder / "tmp").mkdir(exist_ok=True)
     if not copies.are_of_sources():
@@ -145,9 +144,9 @@ def prove_unchanged(top, kept, folder):
     build.running[sources.PROGRAM] = None, None, time.monotonic()
     build.say_begins(sources.PROGRAM)
     program = build_program(top, copies, build.log(sources.PROGRAM))
-    if before != sources.list_files(top, folder):
+    if before != sources.state(top):
         raise CannotAnswer("the sources were changed while they were proved: call again, and what is proved is kept")
-    kept.put(program, checksum, kit.identity())
+    kept.put(program, before[0], kit.identity())
     kept.is_of_sources()
     say(f"the proved program is built, in {minutes(time.monotonic() - build.begun)}")
 
@@ -170,4 +169,4 @@ def prove(top):
         except Stopped:
             say(f"interrupted; what is proved is kept in {folder}, and ./rcap --prove goes on with it")
             raise
-        shutil.rmtree(folder, ignore_errors=True)
+        remove(folder)

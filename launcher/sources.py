@@ -86,3 +86,12 @@ def list_files(top, folder):
     script = top / "launcher" / "list_files.sh"
     words = ["bash", "-c", '. "$0" && list_files "$@"', script, top, folder]
     return subprocess.run(words, stdin=subprocess.DEVNULL, stdout=subprocess.PIPE, check=False).stdout
+
+
+def state(top):
+    """The checksum of the program's sources, and the lines of the listing for them. The state is another after any writing
+    to one of them, also if what was there is written back."""
+    # The names in the listing are those below crates/: crate, folder and the rest.
+    folders = {(os.fsencode(name), os.fsencode(part)) for name in crates_of_program(top) for part in PARTS}
+    lines = list_files(top, top / "launcher").splitlines()
+    return checksum_of_program(top), [line for line in lines if tuple(line.split(b"/", 2)[:2]) in folders]

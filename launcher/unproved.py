@@ -94,13 +94,11 @@ def build(top, room):
 
 def build_unchanged(top, room):
     """Builds the program of sources that stay as they are while it is built. Returns its path and their checksum."""
-    # There is no program in this folder, so the listing is that of the sources.
-    nowhere = room / "rt"
-    before, checksum = sources.list_files(top, nowhere), sources.checksum_of_program(top)
+    before = sources.state(top)
     program = build(top, room)
-    if before != sources.list_files(top, nowhere):
+    if before != sources.state(top):
         raise CannotAnswer("the sources were changed while the program was built: call again")
-    return program, checksum
+    return program, before[0]
 
 
 def build_and_keep(top, kept):

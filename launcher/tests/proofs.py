@@ -20,6 +20,12 @@ class ProveTest(LauncherTest):
         ran = self.checkout.call("kind")
         self.assertEqual((ran.status, ran.out, ran.err), (0, b"proved\n", b""))
 
+    def assert_checkout_has_libraries(self):
+        """Each library of the program stands in the checkout, built of the text there."""
+        for crate in ("low", "left", "right", "above"):
+            stamp = self.checkout.top / "crates" / crate / "out" / "rlib" / "stamp"
+            self.assertEqual(stamp.read_text(), self.checkout.source(crate).read_text())
+
     def start_and_stop(self, number):
         """Starts to prove, and stops it by a signal while the second library is built."""
         self.checkout.tell("seconds.lib", "0.1")
@@ -71,13 +77,19 @@ class Proves(ProveTest):
 
     def test_leaves_no_copies(self):
         self.prove()
-        self.assertEqual(list((self.checkout.room / "home" / ".cache" / "rcap").iterdir()), [])
+        self.assertEqual(list((self.checkout.room / "home" / ".cache").iterdir()), [])
         self.assertEqual(list(self.checkout.temporary.iterdir()), [])
+
+    def test_without_a_home(self):
+        environment = self.checkout.environment()
+        del environment["HOME"]
+        self.assertEqual(self.prove(environment=environment).status, 0)
+        self.assertEqual(list(self.checkout.temporary.iterdir()), [])
+        self.assert_proved()
 
     def test_checkout_has_the_libraries(self):
         self.prove()
-        for crate in ("low", "left", "right", "above"):
-            self.assertEqual((self.checkout.top / "crates" / crate / "out" / "rlib" / "stamp").read_text(), crate)
+        self.assert_checkout_has_libraries()
 
     def test_version_says_it(self):
         self.prove()
@@ -137,6 +149,22 @@ class Interrupted(ProveTest):
             self.assert_cannot_answer(self.prove(), b"rcap: the program is not proved: rt run ended with ")
             self.checkout.take_back(name)
         self.assert_answered(self.checkout.call("kind"), 0, b"unproved\n")
+
+    def test_interrupt_after_an_edit(self):
+        self.prove()
+        self.checkout.source("low").write_text("another text\n")
+        self.checkout.forget_calls()
+        self.start_and_stop(signal.SIGTERM)
+        cache = self.checkout.room / "home" / ".cache" / "rcap"
+        self.checkout.tell("fail.run")
+        self.prove()
+        stamps = [it.read_text() for it in cache.glob("*/copy-*/crates/low/out/rlib/stamp")]
+        self.assertEqual(set(stamps), {"another text\n"})
+        self.checkout.take_back("fail.run")
+        self.prove()
+        self.assertEqual(self.checkout.calls("lib").count("low"), 1)
+        self.assert_checkout_has_libraries()
+        self.assert_proved()
 
     def test_edit_after_an_interrupt(self):
         self.start_and_stop(signal.SIGTERM)
@@ -253,6 +281,18 @@ class OfTheseSources(ProveTest):
             self.assert_answered(self.checkout.call("kind"), 0, b"unproved\n")
             self.checkout.forget_calls()
         self.assertEqual(self.prove().status, 0)
+        self.assert_proved()
+
+    def test_edit_of_another_crate_while_it_proves(self):
+        self.checkout.tell("hold.lib")
+        command = self.checkout.start("--prove")
+        self.checkout.wait_for_calls("lib", 1)
+        self.checkout.source("other").write_text("another text\n")
+        crates = self.checkout.top / "crates.txt"
+        crates.write_text(crates.read_text().replace("other: low", "other: low left"))
+        self.checkout.take_back("hold.lib")
+        err = command.communicate(timeout=60)[1]
+        self.assertEqual(command.returncode, 0, err)
         self.assert_proved()
 
     def test_start_is_quick(self):
