@@ -22,6 +22,9 @@ from schedule import minutes_to_prove, processors
 STATUS_WITHOUT_WORDS = 2
 LINE_WITHOUT_WORDS = b"usage: rcap COMMAND ARGUMENT ...\n"
 
+# What is said while somebody waits for the first answer.
+WAIT = "the program is first built without its proofs, which takes a minute or two"
+
 SECONDS_BETWEEN_LOOKS = 0.05
 
 # What a build takes of the disk for a while, in bytes, with a margin.
@@ -115,7 +118,7 @@ def build_and_keep(top, kept):
         room = pathlib.Path(tempfile.mkdtemp(prefix="build-", dir=kept.folder))
         try:
             with explained(room, BUILD_BYTES):
-                say_on_terminal("building it takes a minute or two")
+                say_on_terminal(WAIT)
                 program, checksum = build_unchanged(top, room)
                 kept.write("notice", f"rcap: {notice(top)}\n".encode())
                 kept.put(program, checksum, kit.identity())
@@ -133,7 +136,7 @@ def build_in_passing(top, refused):
         raise CannotAnswer("there is no place to build the program in", f"  {refused}", f"  {why(error)}") from error
     try:
         with explained(room, BUILD_BYTES):
-            say_on_terminal(f"building it takes a minute or two, and it is not kept ({refused})")
+            say_on_terminal(f"{WAIT}; it is not kept ({refused})")
             return build_unchanged(top, room)[0]
     except BaseException:
         shutil.rmtree(room, ignore_errors=True)

@@ -1,6 +1,7 @@
 """Tests of answers by a build without proofs."""
 
 import os
+import pty
 import signal
 import subprocess
 import threading
@@ -115,6 +116,16 @@ class Answers(LauncherTest):
             out, err = command.communicate(timeout=60)
             self.assertEqual((command.returncode, out), (0, b"unproved\n"), err)
         self.assertEqual(len(self.checkout.calls("try")), 1)
+
+    def test_terminal_is_told_of_the_wait(self):
+        for lines in (2, 1):
+            terminal, streams = pty.openpty()
+            ran = self.checkout.call("kind", stderr=streams)
+            said = os.read(terminal, 10_000).splitlines()
+            os.close(streams)
+            os.close(terminal)
+            self.assertEqual((ran.status, ran.out, len(said)), (0, b"unproved\n", lines), said)
+            self.assertTrue(all(line.startswith(b"rcap: ") for line in said))
 
     def test_nothing_is_left_but_what_is_kept(self):
         self.checkout.call("kind")
