@@ -97,9 +97,14 @@ class Answers(LauncherTest):
         crates = self.checkout.top / "crates.txt"
         crates.write_text(crates.read_text().replace("left: low", "left: low right"))
         self.checkout.call("kind")
-        (self.checkout.top / "HANDLES").write_text("Handles allowed: Net.\n")
+        self.assertEqual(len(self.checkout.calls("try")), 2)
+        # A library of the kit's, which has no text here.
+        crates.write_text(crates.read_text().replace("right: low", "right: low clap"))
         self.checkout.call("kind")
         self.assertEqual(len(self.checkout.calls("try")), 3)
+        (self.checkout.top / "HANDLES").write_text("Handles allowed: Net.\n")
+        self.checkout.call("kind")
+        self.assertEqual(len(self.checkout.calls("try")), 4)
 
     def test_program_that_was_written_over_does_not_answer(self):
         self.checkout.call("kind")

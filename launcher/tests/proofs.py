@@ -35,6 +35,8 @@ class ProveTest(LauncherTest):
         self.checkout.wait_for_calls("lib", 2)
         os.kill(command.pid, number)
         out, err = command.communicate(timeout=60)
+        if number != signal.SIGKILL:
+            self.assert_nothing_runs()
         self.checkout.take_back("hold.lib")
         return command.returncode, out, err
 
@@ -108,7 +110,6 @@ class Interrupted(ProveTest):
             status, out, err = self.start_and_stop(number)
             self.assertEqual((status, out), (128 + number, b""))
             self.assertIn(b"rcap: interrupted; what is proved is kept in ", err)
-            self.assert_nothing_runs()
             self.checkout.forget_calls()
         ran = self.prove()
         self.assertEqual(ran.status, 0, ran.err)
@@ -234,6 +235,14 @@ class OfTheseSources(ProveTest):
         self.assert_proved()
         self.checkout.source("right").rename(more)
         self.assert_answered(self.checkout.call("kind"), 0, b"unproved\n")
+
+    def test_file_with_another_name(self):
+        self.prove()
+        source = self.checkout.source("right")
+        source.rename(source.with_name("other.rt"))
+        self.assert_answered(self.checkout.call("kind"), 0, b"unproved\n")
+        source.with_name("other.rt").rename(source)
+        self.assert_proved()
 
     def test_file_that_moves_to_another_crate(self):
         self.prove()
