@@ -1,34 +1,34 @@
-//! Chains of `is`.
-ghost use Rattle.std.specs.Prelude.{◌≡◌, slice_get};
+//! Chains of `is`, by a search in what is above an entity.
+ghost use Rattle.std.specs.Prelude.{◌≡◌, ◌↔◌, IsTrue};
+ghost use Rattle.pc_core.specs.Entities.{Leads};
+ghost use Rattle.pc_lists.specs.Places.{Ascends, Has};
 ghost use Rattle.pc_sub.specs.Chain as spec;
 
 use pc_core::Core;
 
-// Whether `b` is `a`, or stands in the list of what is above it.
+// Whether `b` is `a`, or a chain of `is` leads from `a` to `b`.
 pub(crate) fn is_chain(core: &Core, a: u32, b: u32) -> bool
     ensures { result ≡ spec.is_chain core.now a b }
 {
-    a == b || is_above(core, a, b)
+    core.formed();
+    a == b || leads(core, a, b)
 }
 
-// Whether `b` stands in the list of what is above `a`.
-fn is_above(core: &Core, a: u32, b: u32) -> bool
-    ensures { result ≡ spec.is_in b (spec.above_in (slice_get core.now.entities a)) }
+// Whether a chain of at least one `is` leads from `a` to `b`.
+fn leads(core: &Core, a: u32, b: u32) -> bool
+    ensures { IsTrue result ↔ Leads core.now a b }
 {
+    core.formed();
     match core.entity_at(a) {
         None => false,
         Some(entity) => contains(entity.above.as_slice(), b),
     }
 }
 
-// Whether the number stands in the list.
+// Whether the number stands in the list, by halving it.
 fn contains(numbers: &[u32], wanted: u32) -> bool
-    ensures { result ≡ spec.is_in wanted numbers.now }
+    requires { Ascends numbers.now }
+    ensures { IsTrue result ↔ Has numbers.now wanted }
 {
-    for number in numbers {
-        if *number == wanted {
-            return true;
-        }
-    }
-    false
+    numbers.binary_search(&wanted).is_ok()
 }
