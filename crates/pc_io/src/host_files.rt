@@ -17,7 +17,17 @@ use std::{fs, rt};
 pub struct HostFiles<'a, R: rt::Files> {
     runtime: &'a R,
     failures: Failures,
+    // The file of the last call of `part`, if it may have more.
+    begun: Option<Begun<R::File>>,
     taken: usize,
+}
+
+// A file that is open, and how many of its bytes are before the place at which it stands.
+#[derive(Drop)]
+struct Begun<F: Drop> {
+    name: Bytes,
+    place: u64,
+    file: F,
 }
 
 impl<'a, R: rt::Files> Model for HostFiles<'a, R> {
@@ -36,6 +46,7 @@ impl<'a, R: rt::Files> HostFiles<'a, R> {
         HostFiles {
             runtime,
             failures: Failures::new(alloc),
+            begun: None,
             taken: 0,
         }
     }
@@ -75,8 +86,9 @@ impl<'a, R: rt::Files> Files for HostFiles<'a, R> {
         answer
     }
 
-    /// Opens the file, goes to the place and reads from there, to the file's end or to the limit. A file that does not
-    /// know places, as a pipe, has the place 0 alone.
+    /// Reads from the place, to the file's end or to the limit. Where the last call read a part of this name up to the place and
+    /// to its limit, the file is still open and goes on, so parts in a row are of one file whatever the name names meanwhile, and a
+    /// pipe is read to its end. Any other part is of a file that is opened anew and goes to the place, which a pipe does to 0 alone.
     #[tactic(auto, using(crate::proofs::Times::rises, crate::proofs::Times::keeps))]
     fn part(&mut self, alloc: Global, name: &str, from: u32, limit: u32) -> Result<Bytes, FileFault>
         ensures later { (n : List ℕ) → times n self.old.failed ≤ times n self.new.failed }
@@ -93,13 +105,29 @@ impl<'a, R: rt::Files> Files for HostFiles<'a, R> {
         ensures at_most { self.new.taken ≤ limit }
     {
         self.taken = 0;
-        let kept = self.failures.make_room(alloc, name)?;
-        let (taken, answer) = read_file_part(alloc, self.runtime, name, from, limit);
+        let copy = self.failures.make_room(alloc, name)?;
+        let begun = self.begun.take();
+        let (taken, answer) = read_file_part(alloc, self.runtime, begun, name, from, limit);
         self.taken = taken;
-        if let Err(FileFault::Failed) = answer {
-            self.failures.add(kept);
+        match answer {
+            Ok((bytes, file)) => {
+                if taken == limit as usize {
+                    let place = u64::from(from) + taken as u64;
+                    self.begun = Some(Begun {
+                        name: copy,
+                        place,
+                        file,
+                    });
+                }
+                Ok(bytes)
+            }
+            Err(fault) => {
+                if let FileFault::Failed = fault {
+                    self.failures.add(copy);
+                }
+                Err(fault)
+            }
         }
-        answer
     }
 }
 
@@ -132,48 +160,72 @@ fn read_file<R: rt::Files>(
     }
 }
 
-// How many bytes were taken from the file of this name, and what a read of a part answers.
+// How many bytes were taken from the file of this name, and what a read of a part answers, with the file, which stands behind
+// the part.
 fn read_file_part<R: rt::Files>(
     alloc: Global,
     runtime: &R,
+    begun: Option<Begun<R::File>>,
     name: &str,
     from: u32,
     limit: u32,
-) -> (usize, Result<Bytes, FileFault>)
-    ensures within { IfOk result.1 (λ b. length b ≤ limit) }
-    ensures whole { IfOk result.1 (λ b. result.0 ≡ length b) }
-    ensures short { result.1 ≢ Err FileFault.TooLong }
+) -> (usize, Result<(Bytes, R::File), FileFault>)
+    ensures within { IfOk result.1 (λ part. length part.0 ≤ limit) }
+    ensures whole { IfOk result.1 (λ part. result.0 ≡ length part.0) }
+    ensures short { IfErr result.1 (λ fault. fault ≢ FileFault.TooLong) }
     ensures at_most { result.0 ≤ limit }
 {
-    let mut bytes = Vec::new(alloc);
-    let ended = match fs::open(runtime, name) {
-        Ok(mut file) => fill_from(&mut file, &mut bytes, from, limit as usize),
-        Err(error) => Err(fault_of(&error)),
+    let mut file = match file_at(runtime, begun, name, from) {
+        Ok(file) => file,
+        Err(fault) => return (0, Err(fault)),
     };
+    let mut bytes = Vec::new(alloc);
+    let ended = fill(&mut file, &mut bytes, limit as usize);
     let taken = bytes.len();
     match ended {
-        Ok(()) => (taken, Ok(Bytes::from_vec(bytes))),
+        Ok(()) => (taken, Ok((Bytes::from_vec(bytes), file))),
         Err(fault) => (taken, Err(fault)),
     }
 }
 
-// Goes to a place of the file, and appends what it gives from there.
-fn fill_from<F: Read + Seek>(
-    file: &mut F,
-    bytes: &mut Vec<u8>,
+// The file of this name at this place: the one that was begun, where it stands there, or else one that is opened.
+fn file_at<R: rt::Files>(
+    runtime: &R,
+    begun: Option<Begun<R::File>>,
+    name: &str,
     from: u32,
-    most: usize,
-) -> Result<(), FileFault>
-    requires { vec_len bytes.old ≡ 0 }
-    ensures short { IfErr result (λ fault. fault ≢ FileFault.TooLong) }
-    ensures within { vec_len bytes.new ≤ most }
+) -> Result<R::File, FileFault>
+    ensures { IfErr result (λ fault. fault ≢ FileFault.TooLong) }
 {
+    if let Some(
+        Begun {
+            name: begun_name,
+            place,
+            file,
+        },
+    ) = begun
+    {
+        if begun_name.as_slice() == name.as_bytes() && place == u64::from(from) {
+            return Ok(file);
+        }
+    }
+    open_at(runtime, name, from)
+}
+
+// Opens the file of this name, and goes to this place.
+fn open_at<R: rt::Files>(runtime: &R, name: &str, from: u32) -> Result<R::File, FileFault>
+    ensures { IfErr result (λ fault. fault ≢ FileFault.TooLong) }
+{
+    let mut file = match fs::open(runtime, name) {
+        Ok(file) => file,
+        Err(error) => return Err(fault_of(&error)),
+    };
     if from > 0 {
         if let Err(error) = file.seek(SeekFrom::Start(u64::from(from))) {
             return Err(fault_of(&error));
         }
     }
-    fill(file, bytes, most)
+    Ok(file)
 }
 
 // Appends what a reader gives, to its end, but no more than so many bytes.
