@@ -61,7 +61,7 @@ pub record Still (l : List Actor) (i : ℕ) (a : Actor) : Type 0 where
   pub more : List Message
   pub mail : actor.mailbox ≡ a.mailbox ++ more
 
-sent_still : (o : Option (ℕ × Message)) (l : List Actor) (i : ℕ) (a : Actor) → slice_get l i ≡ Some a → Still (sent o l) i a
+pub sent_still : (o : Option (ℕ × Message)) (l : List Actor) (i : ℕ) (a : Actor) → slice_get l i ≡ Some a → Still (sent o l) i a
 sent_still None l i a is = record { actor = a; is = is; frames = refl; more = []; mail = sym (append-nil a.mailbox) }
 sent_still (Some p) l i a is =
     elim (eqb_tells i p.0) [

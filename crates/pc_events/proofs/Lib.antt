@@ -10,6 +10,7 @@ pub mod Pass
 pub mod Kept
 pub mod Reach
 pub mod Agrees
+pub mod OnlyAccesses
 pub mod Like
 pub mod LikeBasic
 pub mod LikeTasks

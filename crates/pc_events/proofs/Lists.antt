@@ -39,11 +39,3 @@ pub changed_front : (l r : List Actor) (i : ℕ) (g : Actor → Actor) → i < l
 changed_front [] r i g b = absurd (omega (arith, b))
 changed_front (x ∷ xs) r zero g b = refl
 changed_front (x ∷ xs) r (suc i) g b = let k : i < length xs = omega (arith, b) in ap (λ (cs : List Actor). x ∷ cs) (changed_front xs r i g k)
-
-module _ {T : Type 0} where
-  pub sets_pass : (xs : List T) (i j : ℕ) (x y : T) → i ≢ j → slice_set (slice_set xs i x) j y ≡ slice_set (slice_set xs j y) i x
-  sets_pass [] i j x y n = refl
-  sets_pass (z ∷ zs) zero zero x y n = absurd (n refl)
-  sets_pass (z ∷ zs) zero (suc j) x y n = refl
-  sets_pass (z ∷ zs) (suc i) zero x y n = refl
-  sets_pass (z ∷ zs) (suc i) (suc j) x y n = ap (λ (ws : List T). z ∷ ws) (sets_pass zs i j x y (λ e. n (ap suc e)))

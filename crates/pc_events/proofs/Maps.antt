@@ -3,6 +3,7 @@ use Rattle.std.specs.Prelude.{◌≡◌, ◌≢◌, ◌⊎◌, ℕ, ◌+◌, Boo
 use Rattle.std.proofs.Common.{inl, inr, ap, sym, subst, ◌∙◌, arith}
 use Rattle.std.proofs.lemmas.Option.{none-some}
 use Rattle.std.proofs.lemmas.Bool.{ne_eqb}
+use Rattle.std.proofs.lemmas.List.{set_comm}
 use Rattle.std.specs.Ordering.{eq_by_cmp}
 use Rattle.std.specs.FinMap.{get, insert, get-insert, same_map}
 use Rattle.std.proofs.lemmas.Map.Views.{tells_apart}
@@ -15,7 +16,6 @@ use Rattle.pc_heap.specs.Object.{Object}
 use Rattle.pc_heap.specs.declared.value.Value.{Value}
 use Rattle.pc_lists.proofs.Gets.{get_set_other}
 use Rattle.pc_events.proofs.Changes.{Heaping, Same, Sets, New, heaped}
-use Rattle.pc_events.proofs.Lists.{sets_pass}
 
 -- ---- insertions
 
@@ -77,7 +77,7 @@ pub set_in : (h : ObjectMap) (a : Address) (k : ℕ) (v : Value) (p : Option Obj
 set_in h a k v p e = ap (λ (q : Option Object). insert h a (with_field (object_in q) k v)) e
 
 fields_pass : (o : Object) (k l : ℕ) (v w : Value) → k ≢ l → with_field (with_field o k v) l w ≡ with_field (with_field o l w) k v
-fields_pass o k l v w n = ap (λ (fs : List (Option Value)). record { entity = o.entity; fields = fs }) (sets_pass o.fields k l (Some v) (Some w) n)
+fields_pass o k l v w n = ap (λ (fs : List (Option Value)). record { entity = o.entity; fields = fs }) (set_comm o.fields k l (Some v) (Some w) n)
 
 sets_twice : (h : ObjectMap) (a : Address) (k l : ℕ) (v w : Value) → with_value (with_value h a k v) a l w ≡ insert h a (with_field (with_field (object_in (get h a)) k v) l w)
 sets_twice h a k l v w =

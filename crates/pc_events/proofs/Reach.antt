@@ -172,7 +172,7 @@ followed_placed c p rest (Skipped, next) s more = more c p
 followed_placed c p rest (Lacks l, next) s more = p
 followed_placed c p rest (TooLong, next) s more = p
 
-run_placed : (core : CoreData) (list : List ℕ) (c : Configuration) → Placed c → Placed (run_from core c list)
+pub run_placed : (core : CoreData) (list : List ℕ) (c : Configuration) → Placed c → Placed (run_from core c list)
 run_placed core [] c p = p
 run_placed core (i ∷ is) c p = followed_placed c p (λ next. run_from core next is) (step core c i) (λ e. step_placed core c i p e) (λ next q. run_placed core is next q)
 

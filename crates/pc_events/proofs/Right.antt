@@ -23,6 +23,7 @@ use Rattle.pc_semantics.specs.declared.access.Access.{Access}
 use Rattle.pc_semantics.specs.declared.frames.Frame.{Frame}
 use Rattle.pc_semantics.specs.declared.frames.Task.{Task}
 use Rattle.pc_semantics.specs.declared.frames.Task.TheVariants as task
+use Rattle.pc_semantics.specs.Configurations.{blank_object}
 use Rattle.pc_semantics.specs.Around.{Around, Move, Stuck, Overflows, Goes, Writes, Makes, Spawns, Enters, Sends, Leaves, with_stack, with_top, pop, popped, entity_of}
 use Rattle.pc_semantics.specs.Fields.{get_value, get_field, get_of, get_from, get_task, put_value, put_field, put_of, put_into, put_task}
 use Rattle.pc_semantics.specs.Calls.{begin_new, make_of, make_task, spawn_of, spawn_task, enter, send, invoke_kind, push_text, is_string, text_of, invoke_found, invoke_method, invoke_on, invoke_task}
@@ -41,13 +42,17 @@ touch core h stack t = touched_name core t >>= (λ n. touch_by core h n (slice_g
 
 -- ---- the moves
 
+-- An object of an entity, without field values.
+abbrev pub Blank : CoreData → Object → Type 0
+Blank core o = (e : ℕ) × (o ≡ blank_object core e)
+
 abbrev pub Right : CoreData → ObjectMap → ℕ → ℕ → List Value → Task → Move → Type 0
 Right core h i n stack t (Stuck l) = ⊤
 Right core h i n stack t Overflows = ⊤
 Right core h i n stack t (Goes f) = ⊤
 Right core h i n stack t (Writes a k v f) = (o : Object) × (get h a ≡ Some o) × (touch core h stack t ≡ Some (record { address = a; field = k; write = true })) × (k < length o.fields)
-Right core h i n stack t (Makes a o g f) = a ≡ next_address h i
-Right core h i n stack t (Spawns o m f) = ⊤
+Right core h i n stack t (Makes a o g f) = (a ≡ next_address h i) × Blank core o
+Right core h i n stack t (Spawns o m f) = Blank core o
 Right core h i n stack t (Enters g f) = ⊤
 Right core h i n stack t (Sends j m f) = j < n
 Right core h i n stack t (Leaves v) = ⊤
@@ -105,7 +110,7 @@ module _ (core : CoreData) (h : ObjectMap) (i n : ℕ) (stack : List Value) (t :
 
   begin_right : (m : ℕ) (x : Method) (vs : List Value) (f : Frame) (b : Option ℕ) → Right core h i n stack t (begin_new core (record { objects = h; actor = i; actors = n }) m x vs f b)
   begin_right m x vs f None = tt
-  begin_right m x vs f (Some b) = refl
+  begin_right m x vs f (Some b) = (refl, (x.entity, refl))
 
   if_right : (b : Bool) (x y : Move) → (b ≡ true → Right core h i n stack t x) → Right core h i n stack t y → Right core h i n stack t (if b then x else y)
   if_right true x y p q = p refl
@@ -123,7 +128,7 @@ module _ (core : CoreData) (h : ObjectMap) (i n : ℕ) (stack : List Value) (t :
 
   spawn_right : (m : ℕ) (vs : List Value) (f : Frame) (p : Option Method) → Right core h i n stack t (spawn_of core (record { objects = h; actor = i; actors = n }) m vs f p)
   spawn_right m vs f None = tt
-  spawn_right m vs f (Some x) = if_right (nat_eq (length vs) (length x.params)) _ _ (λ e. tt) tt
+  spawn_right m vs f (Some x) = if_right (nat_eq (length vs) (length x.params)) _ _ (λ e. (x.entity, refl)) tt
 
   spawn_task_right : (f : Frame) (cs : List ℕ) (k : NodeKind) → Right core h i n stack t (spawn_task core (record { objects = h; actor = i; actors = n }) f cs k)
   spawn_task_right f cs (node.Spawn m) = arguments_all (Right core h i n stack t) f (popped (length cs) f.stack []) _ (λ vs g. spawn_right m vs g (slice_get core.methods m)) tt

@@ -81,7 +81,7 @@ module _ (core : CoreData) (c : Configuration) (i : ℕ) (there : i < length c.a
   move_told fs Overflows a r x p = absurd (none-some x p)
   move_told fs (Goes f) a r x p = subst (Told core c i) (same_Some _ x p) (record { there = there; heap = tt; sends = tt; spawns = tt; prints = tt; takes = tt })
   move_told fs (Writes q k v f) a r x p = subst (Told core c i) (same_Some _ x p) (record { there = there; heap = (r.0, r.1, touches ∙ r.2, r.3); sends = tt; spawns = tt; prints = tt; takes = tt })
-  move_told fs (Makes q o g f) a r x p = subst (Told core c i) (same_Some _ x p) (record { there = there; heap = r; sends = tt; spawns = tt; prints = tt; takes = tt })
+  move_told fs (Makes q o g f) a r x p = subst (Told core c i) (same_Some _ x p) (record { there = there; heap = r.0; sends = tt; spawns = tt; prints = tt; takes = tt })
   move_told fs (Spawns o m f) a r x p = subst (Told core c i) (same_Some _ x p) (record { there = there; heap = refl; sends = tt; spawns = a; prints = tt; takes = tt })
   move_told fs (Enters g f) a r x p = subst (Told core c i) (same_Some _ x p) (record { there = there; heap = tt; sends = tt; spawns = tt; prints = tt; takes = tt })
   move_told fs (Sends j m f) a r x p = subst (Told core c i) (same_Some _ x p) (record { there = there; heap = tt; sends = (r, a); spawns = tt; prints = tt; takes = tt })

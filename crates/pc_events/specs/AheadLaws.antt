@@ -1,14 +1,16 @@
--- That what is said of an actor's next step is how it ends.
-use Rattle.std.specs.Prelude.{◌≡◌, ℕ}
+-- What is proved of each step: that what is said of an actor's next step is how it ends, and that only accesses touch fields.
+use Rattle.std.specs.Prelude.{◌≡◌, ℕ, List}
 use Rattle.pc_core.specs.CoreData.{CoreData}
 use Rattle.pc_semantics.specs.declared.outcome.Lack.{Lack}
 use Rattle.pc_semantics.specs.declared.outcome.Outcome.{Outcome}
 use Rattle.pc_semantics.specs.declared.outcome.Outcome.TheVariants.{Moved, Skipped, Lacks, TooLong}
 use Rattle.pc_semantics.specs.Configurations.{Configuration}
 use Rattle.pc_semantics.specs.Step.{step}
+use Rattle.pc_semantics.specs.Runs.{after}
 use Rattle.pc_semantics.specs.declared.ahead.Ahead.{Ahead}
 use Rattle.pc_semantics.specs.declared.ahead.Ahead.TheVariants as ahead
 use Rattle.pc_semantics.specs.Ahead.{ahead_of}
+use Rattle.pc_events.specs.Accesses.{OnlyAccessed}
 
 -- How a step ends of which this is said.
 abbrev pub Agrees : Ahead → Outcome → Type 0
@@ -23,3 +25,7 @@ Agrees ahead.Task o = o ≡ Moved
 -- In every configuration, whether a run leads to it or not.
 abbrev pub AheadAgrees : Type 0
 AheadAgrees = (core : CoreData) (c : Configuration) (i : ℕ) → Agrees (ahead_of core c i) (step core c i).0
+
+-- In every configuration that a run of any core leads to, also where the step does not move.
+abbrev pub OnlyAccessesTouchFields : Type 0
+OnlyAccessesTouchFields = (core : CoreData) (list : List ℕ) (i : ℕ) → OnlyAccessed core (after core list) (step core (after core list) i).1 i

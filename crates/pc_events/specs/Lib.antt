@@ -1,3 +1,4 @@
+pub mod Accesses
 pub mod AheadLaws
 pub mod Before
 pub mod Conflict
