@@ -22,7 +22,7 @@ use Rattle.pc_core.proofs.Homes.{Home, home}
 use Rattle.pc_rules.proofs.Homes.{home_body, own_tree, children_of, children_before}
 use Rattle.pc_lists.proofs.Bools.{false_true}
 use Rattle.pc_rules.proofs.Agreeing.{Agree, node_step}
-use Rattle.pc_check.specs.Laws.{OneNode, OneConstructor, OneKindOfFault}
+use Rattle.pc_check.specs.Laws.{OneNode, OneConstructor, OneKindOfFault, PrefixesAgree}
 use Rattle.pc_check.proofs.Filling.{low_at, tree_at, low_le}
 use Rattle.pc_check.proofs.Parents.{earlier_body}
 use Rattle.pc_check.proofs.Agreement.{tree_one, reaches_same, nothing_yet, chosen, says_there}
@@ -174,7 +174,7 @@ module _ (core : CoreData) (b : Ann) (formed : Formed core) where
   up n p x m g e (else_branch q d y u h w v z s) = let o = once core n p q 0 2 x y formed g h e v in absurd (not_first o.place)
   up n p x m g e (next_child q d j y u h w v z s) = let o = once core n p q 0 (suc j) x y formed g h e v in absurd (not_first o.place)
 
-  reaches_one : (n : ℕ) (m k : Masks) → Reaches core b n m → Reaches core b n k → m ≡ k
+  pub reaches_one : (n : ℕ) (m k : Masks) → Reaches core b n m → Reaches core b n k → m ≡ k
   reaches_one n m k (body x f g c e) r = body_one n x f k g c e r
   reaches_one n m k (first_child p x g e r) s = reaches_one p m k r (up n p x k g e s)
   reaches_one n m k (else_branch p c x t g d e f i) r = else_one n p c x t k g d e f i r
@@ -183,13 +183,13 @@ module _ (core : CoreData) (b : Ann) (formed : Formed core) where
 -- ---- two that go up to a node
 
 module _ (core : CoreData) (a b : Ann) (formed : Formed core) (wa : KeepsWritten core a) (wb : KeepsWritten core b) where
-  carried : (n : ℕ) (x : Node) (m : Masks) → Agree core a b n → slice_get core.nodes n ≡ Some x → Reaches core a n m → Reaches core b n m
+  pub carried : (n : ℕ) (x : Node) (m : Masks) → Agree core a b n → slice_get core.nodes n ≡ Some x → Reaches core a n m → Reaches core b n m
   carried n x m same g r =
       let own = own_tree core n formed (get_below core.nodes n x g) in
       let low = tree_le core own.0 n own.1 in
       reaches_same core a b n m own.0 formed own.1 (λ c l. same.notes c (omega (arith, l, low))) r
 
-  agree_both : (n : ℕ) → ((k : ℕ) → k < n → MeetsReached core a k) → ((k : ℕ) → k < n → MeetsReached core b k) → Agree core a b n
+  pub agree_both : (n : ℕ) → ((k : ℕ) → k < n → MeetsReached core a k) → ((k : ℕ) → k < n → MeetsReached core b k) → Agree core a b n
   agree_both zero h k = nothing_yet core a b
   agree_both (suc n) h k =
       let same = agree_both n (λ i l. h i (omega (arith, l))) (λ i l. k i (omega (arith, l))) in
@@ -247,3 +247,6 @@ one_kind core a b n m formed w v =
       | inl below ↦ not_set core b a m formed v w.written (λ k l. w.before k (omega (arith, l, below))) (w.sets m v.method v.is_method (λ c e. let is = same_Some v.body c (sym v.is_body ∙ e) in omega (arith, is, below)))
       | inr at ↦ no_note core a b n formed w v.slots v.written (λ k l. v.before k (omega (arith, l, at)))
     ]
+
+pub prefixes_same : PrefixesAgree
+prefixes_same core a b n k formed wa wb h i l = (agree_both core a b formed wa wb n h i).notes k l

@@ -1,11 +1,11 @@
 -- What the faults show.
-use Rattle.std.specs.Prelude.{◌≡◌, ℕ, Some}
+use Rattle.std.specs.Prelude.{◌≡◌, ℕ, ◌<◌, Some, slice_get}
 use Rattle.pc_core.specs.CoreData.{CoreData}
 use Rattle.pc_core.specs.Formed.{Formed}
 use Rattle.pc_ann.specs.declared.annotation.Ann.{Ann}
 use Rattle.pc_sub.specs.declared.faults.DeclFault.{DeclFault}
 use Rattle.pc_sub.specs.Declarations.{first_fault}
-use Rattle.pc_rules.specs.Valid.{NoRule, Unset, Derivable}
+use Rattle.pc_rules.specs.Valid.{NoRule, Unset, Derivable, KeepsWritten, MeetsReached}
 
 -- A core with a node of which no rule says anything has no valid annotation.
 abbrev pub NoneWithoutRule : Type 0
@@ -30,3 +30,9 @@ OneConstructor = (core : CoreData) (a b : Ann) (m k : ℕ) → Formed core → U
 -- A core does not have both.
 abbrev pub OneKindOfFault : Type 0
 OneKindOfFault = (core : CoreData) (a b : Ann) (n m : ℕ) → Formed core → NoRule core a n → Unset core b m → ⊥
+
+-- The notes before a node are the same in any two annotations in which they meet their rules from the masks that reach them.
+abbrev pub PrefixesAgree : Type 0
+PrefixesAgree =
+    (core : CoreData) (a b : Ann) (n k : ℕ) → Formed core → KeepsWritten core a → KeepsWritten core b → ((i : ℕ) → i < n → MeetsReached core a i)
+    → ((i : ℕ) → i < n → MeetsReached core b i) → k < n → slice_get a.notes k ≡ slice_get b.notes k

@@ -38,8 +38,8 @@ pub(crate) fn masks_from(core: &Core, ann: &Ann, source: Source) -> (Mask, Mask)
     }
 }
 
-// The rules for nodes of a kind.
-fn rules_for(kind: &NodeKind) -> &'static [Rule]
+/// The rules for nodes of a kind, in the order in which they are tried. Takes no memory.
+pub fn rules_for(kind: &NodeKind) -> &'static [Rule]
     ensures { result.now ≡ spec.rules_for kind.now }
 {
     match kind {

@@ -24,3 +24,9 @@ pub fn faults_are_one()
     ensures constructor { law.OneConstructor }
     ensures kind { law.OneKindOfFault }
 {}
+
+/// The notes before a node are one, whichever annotation shows them.
+#[tactic(auto, using(crate::proofs::OneFault::prefixes_same))]
+pub fn prefixes_agree()
+    ensures { law.PrefixesAgree }
+{}

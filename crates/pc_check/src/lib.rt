@@ -3,7 +3,7 @@
 //! Proved: `check` answers the valid annotation of a core, for every core; or else the first declaration that fails, a
 //! node of which no rule says anything with the masks that reach it, or a constructor that leaves a field unset, each
 //! with notes that show it. Where one of these is shown no annotation is valid, and a core has at most one of them
-//! (`faults_are_one`).
+//! (`faults_are_one`). The notes before a node are one in any two annotations that reach it (`prefixes_agree`).
 #![tactic(auto)]
 
 mod checking;
@@ -15,8 +15,9 @@ mod sources;
 
 pub use checking::check;
 pub use fault::CheckFault;
+pub use inference::rules_for;
 pub use laws::{
     faults_are_one, nothing_is_derivable_with_a_declaration_that_fails,
-    nothing_is_derivable_with_a_field_unset, nothing_is_derivable_without_a_rule,
+    nothing_is_derivable_with_a_field_unset, nothing_is_derivable_without_a_rule, prefixes_agree,
 };
 pub use pc_sub::DeclFault;
