@@ -1,0 +1,141 @@
+"""Every command and every answer on a page, run and compared.
+
+- A line of a block of code that begins with `./rcap ` is run, with what it is redirected to. It ends with status 0 and
+  says nothing on standard error, or as the comment behind it says: `# 1: the line`, or `# 1` alone.
+- A block after `<!-- output of COMMAND -->` is what the command writes. A line `..` stands for any lines.
+- A row with a file or words, a status and a line is what the program answers. A row with a text and a source `written by`
+  a command is a source of which `check` says that text.
+
+All are run in a folder of their own, beside the examples."""
+
+import os
+import pathlib
+import re
+import shutil
+import subprocess
+import tempfile
+
+import pages
+
+# How many commands the pages have at least.
+LEAST = 40
+
+SECONDS = 600
+
+# What a command's line has behind it: the status, and the line on standard error.
+COMMENT = re.compile(r"\s+# (\d+)(?:: (.*))?$")
+
+# What the launcher says before the program's own line.
+LAUNCHER_LINE = re.compile(r"^rcap: .*\n", re.MULTILINE)
+
+WORDS = re.compile(r"`([^`]*)`")
+
+
+class Folder:
+    """A folder with the examples and the launcher, in which commands run."""
+
+    def __init__(self):
+        self.path = pathlib.Path(tempfile.mkdtemp(prefix="rcap-docs-"))
+        shutil.copytree(pages.TOP / "examples", self.path / "examples")
+        os.symlink(pages.TOP / "rcap", self.path / "rcap")
+
+    def run(self, command):
+        """Runs a line of a shell, and returns its status, its output and its line on standard error."""
+        ran = subprocess.run(
+            ["bash", "-c", command], cwd=self.path, stdin=subprocess.DEVNULL, capture_output=True, timeout=SECONDS, check=False
+        )
+        line = LAUNCHER_LINE.sub("", ran.stderr.decode(errors="replace"))
+        return ran.returncode, ran.stdout.decode(errors="replace"), line.rstrip("\n")
+
+    def close(self):
+        shutil.rmtree(self.path, ignore_errors=True)
+
+
+def is_like(wanted, found):
+    """Whether lines are those that are wanted, where `..` stands for any."""
+    if not wanted:
+        return not found
+    if wanted[0].strip() == "..":
+        return any(is_like(wanted[1:], found[at:]) for at in range(len(found) + 1))
+    return bool(found) and wanted[0] == found[0] and is_like(wanted[1:], found[1:])
+
+
+def run_line(folder, line):
+    """Runs a line of a page, and returns what differs from what it says, or nothing."""
+    said = COMMENT.search(line)
+    status, _, error = folder.run(COMMENT.sub("", line))
+    wanted = int(said[1]) if said else 0
+    if status != wanted:
+        return f"status {status} and not {wanted}: {error}"
+    if said is None and error or said and said[2] and error != said[2]:
+        return f"says {error}"
+    return None
+
+
+def run_blocks(page, folder, results):
+    """Runs the commands of a page's blocks, and returns how many they are."""
+    ran = 0
+    for block in pages.blocks(page):
+        where = f"{page.name}:{block.line}"
+        if block.output_of:
+            _, out, _ = folder.run(block.output_of)
+            ran += 1
+            results.check(is_like(block.lines, out.splitlines()), f"{where}: output of {block.output_of}", out[:400])
+            continue
+        for line in block.lines:
+            if line.startswith("./rcap ") and not re.match(r"\./rcap (WORDS|COMMAND|--prove)", line):
+                wrong = run_line(folder, line)
+                ran += 1
+                results.check(wrong is None, f"{where}: {line}", wrong)
+    return ran
+
+
+def run_row(row, folder):
+    """What a row says, and what differs from it; or nothing, if it says nothing of a command."""
+    cells = row.cells
+    words = WORDS.search(cells.get("Words") or cells.get("File") or "")
+    line = next((text for title, text in cells.items() if title.startswith("Line")), None)
+    if words and line is not None and cells.get("Status", "").isdigit():
+        command = words[1] if "Words" in cells else f"check {words[1]}"
+        status, out, error = folder.run(f"./rcap {command}")
+        wanted = WORDS.search(line)
+        seen = out.rstrip("\n") if "on standard output" in line and "with `" not in line else error
+        is_right = status == int(cells["Status"]) and wanted is not None and seen == wanted[1]
+        return command, None if is_right else f"status {status}: {seen}"
+    if words and "`check`" in cells:
+        wanted = WORDS.search(cells["`check`"])
+        status, _, error = folder.run(f"./rcap check {words[1]}")
+        is_right = error == wanted[1] if cells["`check`"].startswith("`") else status == 0 and cells["`check`"].startswith("accepts")
+        return f"check {words[1]}", None if is_right else f"status {status}: {error}"
+    maker = WORDS.search(next((text for title, text in cells.items() if title.endswith("written by")), ""))
+    if maker:
+        command = maker[1].replace("\\|", "|")
+        name = re.findall(r"> ?(\S+\.pony)", command)[-1]
+        folder.run(command)
+        status, _, error = folder.run(f"./rcap check {name}")
+        text = WORDS.search(cells["Text"])[1]
+        return command, None if status == 8 and error.endswith(text) else f"status {status}: {error}"
+    return None
+
+
+def run_rows(page, folder, results):
+    """Runs what the rows of a page's tables say, and returns how many commands they are."""
+    ran = 0
+    for row in pages.rows(page):
+        said = run_row(row, folder)
+        if said is not None:
+            ran += 1
+            results.check(said[1] is None, f"{page.name}:{row.line}: {said[0]}", said[1])
+    return ran
+
+
+def run(found, results):
+    """Runs all commands of the pages, and returns how many they are."""
+    ran = 0
+    for page in found:
+        folder = Folder()
+        try:
+            ran += run_blocks(page, folder, results) + run_rows(page, folder, results)
+        finally:
+            folder.close()
+    return ran
