@@ -94,4 +94,6 @@ def state(top):
     # The names in the listing are those below crates/: crate, folder and the rest.
     folders = {(os.fsencode(name), os.fsencode(part)) for name in crates_of_program(top) for part in PARTS}
     lines = list_files(top, top / "launcher").splitlines()
-    return checksum_of_program(top), [line for line in lines if tuple(line.split(b"/", 2)[:2]) in folders]
+    names = [line.split(b" ", 3)[-1] for line in lines]
+    own = [line for line, name in zip(lines, names) if tuple(name.split(b"/", 2)[:2]) in folders]
+    return checksum_of_program(top), own

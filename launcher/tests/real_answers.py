@@ -59,7 +59,7 @@ class RealAnswers(unittest.TestCase):
         self.top.mkdir()
         self.work.mkdir()
         copy_sources(self.top)
-        texts = {"a.pony": ACCEPTED, "b.pony": REFUSED, "hi.pony": PRINTS, "s": "1*10 0", "t": "1*10 0x", "empty": ""}
+        texts = {"a.pony": ACCEPTED, "b.pony": REFUSED, "hi.pony": PRINTS, "s": "1*10 0", "t": "7 1*0 x", "empty": ""}
         for name, text in texts.items():
             (self.work / name).write_text(text)
 
