@@ -74,10 +74,15 @@ class RealAnswers(unittest.TestCase):
             self.assertRegex(ran.stderr, NOTICE)
             err = ran.stderr.partition(b"\n")[2]
             self.assertEqual((ran.returncode, ran.stdout, err), (status, out, line), words)
-        # More than a stream of `rt try` holds.
-        many = "actor Main\n  new create(env: Env) =>\n" + f'    env.out.print("{"x" * 4000}")\n' * 300
-        (self.work / "many.pony").write_text(many)
+        self.assert_prints_much()
+
+    def assert_prints_much(self):
+        """The program writes more than a stream of `rt try` holds: 300 texts of 4,000 bytes, and a line of numbers."""
+        text, number = "x" * 4000, 300
+        source = f'actor Main\n  new create(env: Env) =>\n    let text: String val = "{text}"\n' + "    env.out.print(text)\n" * number
+        (self.work / "much.pony").write_text(source)
         (self.work / "turns").write_text("1*100000 0*1000")
-        ran = self.call("run", "many.pony", "turns")
-        self.assertEqual(ran.returncode, 0, ran.stderr)
-        self.assertTrue(ran.stdout.startswith((b"x" * 4000 + b"\n") * 300 + b"steps "))
+        ran = self.call("run", "much.pony", "turns")
+        lines = ran.stdout.decode().splitlines()
+        self.assertEqual((ran.returncode, lines[:-1]), (0, [text] * number), ran.stderr)
+        self.assertTrue(lines[-1].startswith("steps "), lines[-1])
