@@ -37,16 +37,16 @@ pub fn check(
 fn check_body(alloc: Global, context: &Context, method: &MethodDef) -> Result<(), BodyFault>
     ensures { Tells result (spec.written_body_faults context.now (params_visible method.now.params) (maybe_seq method.now.body)) }
 {
-    let mut scope = param_scope(alloc, method.params.as_slice())?;
+    let mut scope = param_scope(alloc, context, method.params.as_slice())?;
     body(alloc, context, &mut scope, &method.body)
 }
 
 // What is visible where a body begins.
-fn param_scope(alloc: Global, params: &[ParamDef]) -> Result<Scope, AllocError>
+fn param_scope(alloc: Global, context: &Context, params: &[ParamDef]) -> Result<Scope, AllocError>
     ensures { IfOk result (λ scope. scope ≡ params_visible params.now) }
 {
     let row = params_scope(alloc, params)?;
-    Scope::of(alloc, row.as_slice())
+    Scope::of(alloc, context.key(), row.as_slice())
 }
 
 /// Whether the body of a constructor that is added, where none is written, is without a fault, in an entity with these
@@ -68,7 +68,7 @@ fn initial_value(alloc: Global, context: &Context, value: &Option<Expr>) -> Resu
     match value {
         None => Ok(()),
         Some(value) => {
-            let mut scope = Scope::new(alloc);
+            let mut scope = Scope::new(alloc, context.key());
             expr(alloc, context, &mut scope, value)
         }
     }

@@ -5,6 +5,7 @@ ghost use Rattle.pc_core.specs.MethodKeys.{method_key, is_key};
 
 use crate::declarations::Method;
 use indexmap::IndexSet;
+use pc_keyed::KeyedBy;
 use std::alloc::{AllocError, Global};
 use std::fmt;
 use std::marker::Model;
@@ -12,7 +13,7 @@ use std::marker::Model;
 /// The entities and names of methods, in the order of the methods.
 #[derive(Drop)]
 pub(crate) struct MethodIndex {
-    keys: IndexSet<(u32, u32)>,
+    keys: IndexSet<(u32, u32), KeyedBy>,
 }
 
 impl Model for MethodIndex {
@@ -37,7 +38,7 @@ impl MethodIndex {
         requires { length methods.now < 2 ^ 32 }
         ensures { IfOk result (λ index. MatchOption index (¬ (Differ (map method_key methods.now))) (λ keys. keys ≡ map method_key methods.now)) }
     {
-        let mut keys = IndexSet::with_capacity(alloc, methods.len())?;
+        let mut keys = IndexSet::with_capacity_and_hasher(alloc, methods.len(), key_of(methods))?;
         for method in methods {
             let (_, added) = keys.insert_full((method.entity, method.name))?;
             if !added {
@@ -55,4 +56,14 @@ impl MethodIndex {
             .get_index_of(&(entity, name))
             .map(|number| number as u32)
     }
+}
+
+// The key that is made of the entities and names of these methods.
+fn key_of(methods: &[Method]) -> KeyedBy {
+    let mut key = KeyedBy::nothing();
+    for method in methods {
+        key.add_number(method.entity);
+        key.add_number(method.name);
+    }
+    key
 }

@@ -4,6 +4,7 @@ ghost use Rattle.std.specs.Prelude.{◌<◌, ◌^◌, length, IfOk};
 use crate::parts::{name_at, type_at};
 use crate::reading::{read_expr, read_seq};
 use pc_caps::{Cap, List, Span};
+use pc_keyed::KeyedBy;
 use pc_members::NameTable;
 use pc_resolve::{Constructor, Constructors, Context, Known, LocalSlots, Placed};
 use pc_tree::{EntityKind, FieldDef, MethodDef, MethodWord, ParamDef, TypeRef};
@@ -95,7 +96,7 @@ fn add_texts(table: &mut NameTable) -> Result<(), AllocError> {
 }
 
 fn texts(alloc: Global) -> Result<NameTable, AllocError> {
-    let mut table = NameTable::new(alloc);
+    let mut table = NameTable::new(alloc, KeyedBy::nothing());
     add_texts(&mut table)?;
     Ok(table)
 }

@@ -9,11 +9,15 @@ use pc_members::{NameTable, add_methods};
 use pc_tree::{Entity, FieldDef, MethodDef};
 use std::alloc::{AllocError, Global};
 
-/// The names of all methods that are written in these entities, each once.
-pub(crate) fn table_names(alloc: Global, all: &[Entity]) -> Result<NameTable, AllocError>
+/// The names of all methods that are written in these entities, each once. The key is that of the table of all entities.
+pub(crate) fn table_names(
+    alloc: Global,
+    entities: &NameTable,
+    all: &[Entity],
+) -> Result<NameTable, AllocError>
     ensures { IfOk result (λ n. n ≡ spec.method_names [] (map entity_view all.now)) }
 {
-    let mut names = NameTable::new(alloc);
+    let mut names = entities.new_like(alloc);
     for entity in all {
         add_methods(&mut names, entity.methods.as_slice())?;
     }

@@ -31,7 +31,7 @@ pub(crate) fn make_plan(
     requires { entities.now ≡ entity_names (file_view file.now) }
     ensures { IfOk result (λ p. p ≡ spec.planned above.now (file_view file.now)) }
 {
-    let names = table_names(alloc, file.entities.as_slice())?;
+    let names = table_names(alloc, entities, file.entities.as_slice())?;
     let listings = list_entities(alloc, entities, &names, file.entities.as_slice())?;
     let order = list_order(alloc, above, file.entities.as_slice())?;
     Ok(Plan {

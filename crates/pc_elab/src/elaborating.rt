@@ -45,7 +45,7 @@ fn make_context(
     ensures texts { IfOk result (λ c. c.texts ≡ texts_of (file_view file.now)) }
 {
     let entities = list_known(alloc, file.entities.as_slice(), table)?;
-    let texts = table_texts(alloc, file)?;
+    let texts = table_texts(alloc, names.entities(), file)?;
     Context::new(
         alloc,
         List::new(alloc),

@@ -24,11 +24,15 @@ fn add_all(table: &mut NameTable, file: &File) -> Result<(), AllocError>
 }
 
 /// The texts of a file, each once: those of the language, then the names of the fields and methods, and then the names
-/// behind a `.`.
-pub(crate) fn table_texts(alloc: Global, file: &File) -> Result<NameTable, AllocError>
+/// behind a `.`. The key is that of the table of all entities.
+pub(crate) fn table_texts(
+    alloc: Global,
+    entities: &NameTable,
+    file: &File,
+) -> Result<NameTable, AllocError>
     ensures { IfOk result (λ t. t ≡ texts_of (file_view file.now)) }
 {
-    let mut table = NameTable::new(alloc);
+    let mut table = entities.new_like(alloc);
     add_all(&mut table, file).and(Ok(table))
 }
 

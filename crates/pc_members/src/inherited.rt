@@ -85,7 +85,7 @@ fn take_over<'a>(
     requires { members_view list.old ≡ spec.own_members (entity_view entity.now) }
     ensures { OnOk result (members_view list.new ≡ spec.concrete entities.now (table_view table.now) (entity_view entity.now)) }
 {
-    let mut known = own_names(alloc, entity)?;
+    let mut known = own_names(alloc, entities, entity)?;
     take_all_named(
         entity.kind,
         entities,

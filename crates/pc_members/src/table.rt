@@ -5,17 +5,19 @@ ghost use Rattle.pc_members.specs.Tables.{find_name, with_name};
 ghost use Rattle.pc_members.specs.Words.{is_among};
 
 use indexmap::IndexSet;
+use pc_keyed::KeyedBy;
 use std::alloc::{AllocError, Global};
 use std::marker::Model;
 
 /// How many names a table may have. No memory holds so many.
 const MOST_NAMES: usize = 4_294_967_295;
 
-/// Names that differ, in the order of their first appearance. A name's number is its place.
+/// Names that differ, in the order of their first appearance. A name's number is its place. The key of the hash changes nothing
+/// of what a table holds and finds.
 #[derive(Drop)]
 pub struct NameTable {
     alloc: Global,
-    names: IndexSet<Vec<u8>>,
+    names: IndexSet<Vec<u8>, KeyedBy>,
 }
 
 impl Model for NameTable {
@@ -29,14 +31,26 @@ impl Model for NameTable {
 }
 
 impl NameTable {
-    /// A table without names. It takes no memory.
-    pub fn new(alloc: Global) -> NameTable
+    /// A table without names, in which names are found by a hash with this key. It takes no memory.
+    pub fn new(alloc: Global, key: KeyedBy) -> NameTable
         ensures { result ≡ [] }
     {
         NameTable {
             alloc,
-            names: IndexSet::new(alloc),
+            names: IndexSet::with_hasher(alloc, key),
         }
+    }
+
+    /// A table without names, with the key of this one. It takes no memory.
+    pub fn new_like(&self, alloc: Global) -> NameTable
+        ensures { result ≡ [] }
+    {
+        NameTable::new(alloc, self.key())
+    }
+
+    /// The key of the hash by which names are found.
+    pub fn key(&self) -> KeyedBy {
+        *self.names.hasher()
     }
 
     /// How many names there are.

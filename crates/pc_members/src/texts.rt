@@ -60,10 +60,15 @@ fn add_own_texts(table: &mut NameTable, entity: &Entity) -> Result<(), AllocErro
     add_created(table, entity)
 }
 
-/// The names that an entity has itself: those of its fields and methods, and of an added `create`.
-pub(crate) fn own_names(alloc: Global, entity: &Entity) -> Result<NameTable, AllocError>
+/// The names that an entity has itself: those of its fields and methods, and of an added `create`. The key is that of the
+/// table of all entities.
+pub(crate) fn own_names(
+    alloc: Global,
+    entities: &NameTable,
+    entity: &Entity,
+) -> Result<NameTable, AllocError>
     ensures { IfOk result (λ n. n ≡ with_names [] (own_texts (entity_view entity.now))) }
 {
-    let mut known = NameTable::new(alloc);
+    let mut known = entities.new_like(alloc);
     add_own_texts(&mut known, entity).and(Ok(known))
 }

@@ -125,7 +125,7 @@ fn gather<'a>(
 ) -> Result<List<Member<'a>>, AllocError>
     ensures { IfOk result (λ l. members_view l ≡ spec.gathered entities.now (table_view table.now) (entity_view entity.now)) }
 {
-    let mut known = NameTable::new(alloc);
+    let mut known = entities.new_like(alloc);
     let mut list = List::new(alloc);
     add_gathered(alloc, entities, table, &mut known, &mut list, entity).and(Ok(list))
 }

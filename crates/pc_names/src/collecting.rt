@@ -30,7 +30,7 @@ fn check_declarations(alloc: Global, entities: &NameTable, file: &File) -> Resul
     requires { entities.now ≡ entity_names (file_view file.now) }
     ensures { Tells result (declaration_faults (file_view file.now)) }
 {
-    let traits = table_traits(alloc, file)?;
+    let traits = table_traits(alloc, entities, file)?;
     check_entities(alloc, entities, &traits, file.entities.as_slice())
 }
 
@@ -109,6 +109,6 @@ pub fn collect(alloc: Global, file: &File) -> Result<Names, NameFault>
     check_declarations(alloc, &entities, file)?;
     let above = list_above(alloc, &entities, file)?;
     check_above(alloc, &entities, above.as_slice(), file)?;
-    let texts = table_texts(alloc, file)?;
+    let texts = table_texts(alloc, &entities, file)?;
     Ok(Names::of(entities, texts, above))
 }

@@ -39,7 +39,7 @@ fn check_result(entities: &NameTable, ty: &Option<TypeRef>) -> Result<(), NameFa
 fn check_provided(alloc: Global, traits: &NameTable, provides: &[Name]) -> Result<(), NameFault>
     ensures { spec.Tells result (spec.provided_faults traits.now [] provides.now) }
 {
-    let mut known = NameTable::new(alloc);
+    let mut known = traits.new_like(alloc);
     add_provided(traits, &mut known, provides)
 }
 
@@ -103,7 +103,7 @@ fn check_params(
 ) -> Result<(), NameFault>
     ensures { spec.Tells result (spec.param_faults entities.now fields.now [] params.now) }
 {
-    let mut known = NameTable::new(alloc);
+    let mut known = entities.new_like(alloc);
     add_params(entities, fields, &mut known, params)
 }
 
@@ -157,7 +157,7 @@ fn check_methods(
 ) -> Result<(), NameFault>
     ensures { spec.Tells result (spec.method_faults entities.now fields.now [] (map method_view methods.now)) }
 {
-    let mut known = NameTable::new(alloc);
+    let mut known = entities.new_like(alloc);
     add_methods(alloc, entities, fields, &mut known, methods)
 }
 
@@ -226,7 +226,7 @@ fn has_method(methods: &[MethodDef], name: &[u8]) -> bool
 fn check_members(alloc: Global, entities: &NameTable, entity: &Entity) -> Result<(), NameFault>
     ensures { spec.Tells result (spec.field_faults entities.now [] (entity_view entity.now).fields ++ spec.method_faults entities.now (field_texts (entity_view entity.now).fields) [] (entity_view entity.now).methods) }
 {
-    let mut fields = NameTable::new(alloc);
+    let mut fields = entities.new_like(alloc);
     add_members(alloc, entities, &mut fields, entity)
 }
 

@@ -6,6 +6,7 @@ ghost use Rattle.pc_members.specs.Tables.{trait_names, with_traits};
 ghost use Rattle.pc_members.specs.Words.{built_in_names, entity_names, texts_of};
 
 use crate::fault::{NameFault, Which};
+use pc_keyed::keyed_by_names;
 use pc_members::NameTable;
 use pc_tree::{Entity, File};
 use std::alloc::{AllocError, Global};
@@ -71,12 +72,13 @@ fn add_all(table: &mut NameTable, entities: &[Entity]) -> Result<(), NameFault>
     add_entities(table, entities)
 }
 
-/// The names of all entities of a file in the order of their numbers, the built-in ones first.
+/// The names of all entities of a file in the order of their numbers, the built-in ones first. The key is made of all names of
+/// the file.
 pub(crate) fn table_entities(alloc: Global, file: &File) -> Result<NameTable, NameFault>
     ensures tells { Tells result (entity_name_faults built_in_names (file_view file.now).entities) }
     ensures names { IfOk result (λ t. t ≡ entity_names (file_view file.now)) }
 {
-    let mut table = NameTable::new(alloc);
+    let mut table = NameTable::new(alloc, keyed_by_names(file));
     add_all(&mut table, file.entities.as_slice())?;
     Ok(table)
 }
@@ -93,11 +95,15 @@ fn add_traits(table: &mut NameTable, entities: &[Entity]) -> Result<(), AllocErr
     Ok(())
 }
 
-/// The names of the traits and interfaces of a file.
-pub(crate) fn table_traits(alloc: Global, file: &File) -> Result<NameTable, AllocError>
+/// The names of the traits and interfaces of a file. The key is that of the table of all entities.
+pub(crate) fn table_traits(
+    alloc: Global,
+    entities: &NameTable,
+    file: &File,
+) -> Result<NameTable, AllocError>
     ensures { IfOk result (λ t. t ≡ trait_names (file_view file.now).entities) }
 {
-    let mut table = NameTable::new(alloc);
+    let mut table = entities.new_like(alloc);
     add_traits(&mut table, file.entities.as_slice())?;
     Ok(table)
 }

@@ -37,11 +37,15 @@ fn add_all(table: &mut NameTable, entities: &[Entity]) -> Result<(), AllocError>
     add_member_texts(table, entities)
 }
 
-/// The texts of a file that are no entities' names.
-pub(crate) fn table_texts(alloc: Global, file: &File) -> Result<NameTable, AllocError>
+/// The texts of a file that are no entities' names. The key is that of the table of all entities.
+pub(crate) fn table_texts(
+    alloc: Global,
+    entities: &NameTable,
+    file: &File,
+) -> Result<NameTable, AllocError>
     ensures { IfOk result (λ t. t ≡ spec.other_texts (file_view file.now).entities) }
 {
-    let mut table = NameTable::new(alloc);
+    let mut table = entities.new_like(alloc);
     add_all(&mut table, file.entities.as_slice())?;
     Ok(table)
 }

@@ -7,6 +7,7 @@ ghost use Rattle.pc_resolve.specs.Pairs.{constructor_pair};
 
 use crate::index::Index;
 use pc_caps::List;
+use pc_keyed::KeyedBy;
 use std::alloc::{AllocError, Global};
 use std::marker::Model;
 
@@ -62,7 +63,7 @@ impl Constructors {
     {
         Constructors {
             row: List::new(alloc),
-            methods: Index::new(alloc),
+            methods: Index::new(alloc, KeyedBy::nothing()),
         }
     }
 
@@ -88,7 +89,7 @@ impl Constructors {
 fn number_methods(alloc: Global, row: &[Constructor]) -> Result<Index, AllocError>
     ensures { IfOk result (λ methods. methods ≡ firsts bytes_eq (map constructor_pair row.now)) }
 {
-    let mut methods = Index::new(alloc);
+    let mut methods = Index::new(alloc, key_of(row));
     add_methods(&mut methods, row)?;
     Ok(methods)
 }
@@ -101,4 +102,13 @@ fn add_methods(methods: &mut Index, row: &[Constructor]) -> Result<(), AllocErro
         methods.add(constructor.name.as_slice(), constructor.method)?;
     }
     Ok(())
+}
+
+// The key that is made of the names of these constructors.
+fn key_of(row: &[Constructor]) -> KeyedBy {
+    let mut key = KeyedBy::nothing();
+    for constructor in row {
+        key.add(constructor.name.as_slice());
+    }
+    key
 }

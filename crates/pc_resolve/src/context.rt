@@ -11,6 +11,7 @@ use crate::meaning::{Meaning, TypeMeaning};
 use crate::names::NameRow;
 use crate::scope::{Visible, slot_of};
 use pc_caps::{Cap, List};
+use pc_keyed::KeyedBy;
 use pc_members::NameTable;
 use pc_tree::{EntityKind, TypeRef};
 use std::alloc::{AllocError, Global};
@@ -35,17 +36,18 @@ struct Members {
 }
 
 impl Members {
-    // These names. An `Err` where memory runs out.
+    // These names, found by a hash with this key. An `Err` where memory runs out.
     fn of(
         alloc: Global,
+        key: KeyedBy,
         fields: List<List<u8>>,
         methods: List<List<u8>>,
     ) -> Result<Members, AllocError>
         ensures fields { IfOk result (λ members. members.fields ≡ fields) }
         ensures methods { IfOk result (λ members. members.methods ≡ methods) }
     {
-        let fields = NameRow::of(alloc, fields)?;
-        let methods = NameRow::of(alloc, methods)?;
+        let fields = NameRow::of(alloc, key, fields)?;
+        let methods = NameRow::of(alloc, key, methods)?;
         Ok(Members { fields, methods })
     }
 }
@@ -64,7 +66,7 @@ impl Model for Context {
 impl Context {
     /// The context of a method: the names of the fields and methods of its entity, the entities of the program by their
     /// numbers, those of the language first, the texts of the program by their numbers, and the slots of the method's
-    /// locals. An `Err` where memory runs out.
+    /// locals. Names are found by a hash that has the key of the texts. An `Err` where memory runs out.
     pub fn new(
         alloc: Global,
         fields: List<List<u8>>,
@@ -76,8 +78,9 @@ impl Context {
         requires { length entities < 2 ^ 32 }
         ensures { IfOk result (λ context. context ≡ record { fields = fields; methods = methods; entities = entities; texts = texts; slots = slots }) }
     {
-        let members = Members::of(alloc, fields, methods)?;
-        let entities = Entities::of(alloc, entities)?;
+        let key = texts.key();
+        let members = Members::of(alloc, key, fields, methods)?;
+        let entities = Entities::of(alloc, key, entities)?;
         Ok(Context {
             members,
             entities,
@@ -97,7 +100,7 @@ impl Context {
         ensures ok { OnOk result (self.new ≡ record { fields = fields; methods = methods; entities = self.old.entities; texts = self.old.texts; slots = self.old.slots }) }
         ensures err { OnErr result (self.new ≡ self.old) }
     {
-        self.members = Members::of(alloc, fields, methods)?;
+        self.members = Members::of(alloc, self.key(), fields, methods)?;
         Ok(())
     }
 
@@ -180,6 +183,11 @@ impl Context {
             Some((number, known)) => Some((number, cap_or(ty.cap, known.cap))),
             None => None,
         }
+    }
+
+    // The key of the hashes by which names are found.
+    pub fn key(&self) -> KeyedBy {
+        self.texts.key()
     }
 
     /// The texts of the program by their numbers.

@@ -8,6 +8,7 @@ ghost use Rattle.pc_resolve.specs.Pairs.{known_at, known_pairs, picked};
 use crate::constructors::Constructors;
 use crate::index::Index;
 use pc_caps::{Cap, List};
+use pc_keyed::KeyedBy;
 use pc_tree::EntityKind;
 use std::alloc::{AllocError, Global};
 use std::marker::Model;
@@ -66,12 +67,12 @@ impl Model for Entities {
 }
 
 impl Entities {
-    /// These entities. An `Err` where memory runs out.
-    pub(crate) fn of(alloc: Global, row: List<Known>) -> Result<Entities, AllocError>
+    /// These entities, found by a hash with this key. An `Err` where memory runs out.
+    pub(crate) fn of(alloc: Global, key: KeyedBy, row: List<Known>) -> Result<Entities, AllocError>
         requires { length row < 2 ^ 32 }
         ensures { IfOk result (λ entities. entities ≡ row) }
     {
-        let numbers = number_entities(alloc, row.as_slice())?;
+        let numbers = number_entities(alloc, key, row.as_slice())?;
         Ok(Entities { row, numbers })
     }
 
@@ -98,11 +99,11 @@ impl Entities {
 }
 
 // The number of each entity, by its name.
-fn number_entities(alloc: Global, row: &[Known]) -> Result<Index, AllocError>
+fn number_entities(alloc: Global, key: KeyedBy, row: &[Known]) -> Result<Index, AllocError>
     requires { length row.now < 2 ^ 32 }
     ensures { IfOk result (λ numbers. numbers ≡ firsts bytes_eq (known_pairs 0 row.now)) }
 {
-    let mut numbers = Index::new(alloc);
+    let mut numbers = Index::new(alloc, key);
     add_numbers(&mut numbers, row)?;
     Ok(numbers)
 }

@@ -5,6 +5,7 @@ ghost use Rattle.std.specs.Str.{bytes_eq};
 ghost use Rattle.pc_resolve.specs.Indexes.{with_first};
 
 use indexmap::IndexMap;
+use pc_keyed::KeyedBy;
 use std::alloc::{AllocError, Global};
 use std::marker::Model;
 
@@ -12,7 +13,7 @@ use std::marker::Model;
 #[derive(Drop)]
 pub(crate) struct Index {
     alloc: Global,
-    values: IndexMap<Vec<u8>, u32>,
+    values: IndexMap<Vec<u8>, u32, KeyedBy>,
 }
 
 impl Model for Index {
@@ -24,13 +25,13 @@ impl Model for Index {
 }
 
 impl Index {
-    /// An index without names. It takes no memory.
-    pub(crate) fn new(alloc: Global) -> Index
+    /// An index without names, in which names are found by a hash with this key. It takes no memory.
+    pub(crate) fn new(alloc: Global, key: KeyedBy) -> Index
         ensures { result ≡ [] }
     {
         Index {
             alloc,
-            values: IndexMap::new(alloc),
+            values: IndexMap::with_hasher(alloc, key),
         }
     }
 

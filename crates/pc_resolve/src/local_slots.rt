@@ -6,6 +6,7 @@ ghost use Rattle.pc_resolve.specs.Pairs.{placed_pair};
 
 use indexmap::IndexMap;
 use pc_caps::List;
+use pc_keyed::KeyedBy;
 use std::alloc::{AllocError, Global};
 use std::marker::Model;
 
@@ -37,7 +38,7 @@ impl Placed {
 #[derive(Drop)]
 pub struct LocalSlots {
     row: List<Placed>,
-    by_start: IndexMap<u32, u32>,
+    by_start: IndexMap<u32, u32, KeyedBy>,
 }
 
 impl Model for LocalSlots {
@@ -60,7 +61,7 @@ impl LocalSlots {
     {
         LocalSlots {
             row: List::new(alloc),
-            by_start: IndexMap::new(alloc),
+            by_start: IndexMap::with_hasher(alloc, KeyedBy::nothing()),
         }
     }
 
@@ -85,16 +86,16 @@ impl LocalSlots {
 }
 
 // The slot of each place, of which the first counts.
-fn index_starts(alloc: Global, row: &[Placed]) -> Result<IndexMap<u32, u32>, AllocError>
+fn index_starts(alloc: Global, row: &[Placed]) -> Result<IndexMap<u32, u32, KeyedBy>, AllocError>
     ensures { IfOk result (λ m. m.entries ≡ firsts nat_eq (map placed_pair row.now)) }
 {
-    let mut by_start = IndexMap::new(alloc);
+    let mut by_start = IndexMap::with_hasher(alloc, key_of(row));
     note_all(&mut by_start, row)?;
     Ok(by_start)
 }
 
 // Notes the slots of all places that have none.
-fn note_all(by_start: &mut IndexMap<u32, u32>, row: &[Placed]) -> Result<(), AllocError>
+fn note_all(by_start: &mut IndexMap<u32, u32, KeyedBy>, row: &[Placed]) -> Result<(), AllocError>
     ensures { OnOk result (by_start.new.entries ≡ with_firsts nat_eq by_start.old.entries (map placed_pair row.now)) }
 {
     for placed in row {
@@ -104,7 +105,7 @@ fn note_all(by_start: &mut IndexMap<u32, u32>, row: &[Placed]) -> Result<(), All
 }
 
 // Notes the slot of a place, unless the place has one.
-fn note(by_start: &mut IndexMap<u32, u32>, start: u32, slot: u32) -> Result<(), AllocError>
+fn note(by_start: &mut IndexMap<u32, u32, KeyedBy>, start: u32, slot: u32) -> Result<(), AllocError>
     ensures { OnOk result (by_start.new.entries ≡ with_first nat_eq by_start.old.entries (start, slot)) }
 {
     if by_start.contains_key(&start) {
@@ -112,4 +113,13 @@ fn note(by_start: &mut IndexMap<u32, u32>, start: u32, slot: u32) -> Result<(), 
     }
     by_start.insert(start, slot)?;
     Ok(())
+}
+
+// The key that is made of these places.
+fn key_of(row: &[Placed]) -> KeyedBy {
+    let mut key = KeyedBy::nothing();
+    for placed in row {
+        key.add_number(placed.start);
+    }
+    key
 }

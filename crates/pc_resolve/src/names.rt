@@ -4,6 +4,7 @@ ghost use Rattle.pc_body_spec.specs.Scopes as spec;
 ghost use Rattle.pc_members.specs.Tables.{with_names};
 
 use pc_caps::List;
+use pc_keyed::KeyedBy;
 use pc_members::NameTable;
 use std::alloc::{AllocError, Global};
 use std::marker::Model;
@@ -27,11 +28,15 @@ impl Model for NameRow {
 }
 
 impl NameRow {
-    /// These names. An `Err` where memory runs out.
-    pub(crate) fn of(alloc: Global, row: List<List<u8>>) -> Result<NameRow, AllocError>
+    /// These names, found by a hash with this key. An `Err` where memory runs out.
+    pub(crate) fn of(
+        alloc: Global,
+        key: KeyedBy,
+        row: List<List<u8>>,
+    ) -> Result<NameRow, AllocError>
         ensures { IfOk result (λ names. names ≡ row) }
     {
-        let names = table_of(alloc, row.as_slice())?;
+        let names = table_of(alloc, key, row.as_slice())?;
         Ok(NameRow { row, names })
     }
 
@@ -45,10 +50,10 @@ impl NameRow {
 }
 
 // The names, each once.
-fn table_of(alloc: Global, row: &[List<u8>]) -> Result<NameTable, AllocError>
+fn table_of(alloc: Global, key: KeyedBy, row: &[List<u8>]) -> Result<NameTable, AllocError>
     ensures { IfOk result (λ names. names ≡ with_names [] row.now) }
 {
-    let mut names = NameTable::new(alloc);
+    let mut names = NameTable::new(alloc, key);
     add_names(&mut names, row)?;
     Ok(names)
 }

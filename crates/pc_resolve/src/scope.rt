@@ -4,6 +4,7 @@ ghost use Rattle.pc_body_spec.specs.Scopes as spec;
 
 use crate::index::Index;
 use pc_caps::List;
+use pc_keyed::KeyedBy;
 use std::alloc::{AllocError, Global};
 use std::marker::Model;
 
@@ -73,21 +74,21 @@ impl Model for Scope {
 }
 
 impl Scope {
-    /// Nothing is visible. It takes no memory.
-    pub fn new(alloc: Global) -> Scope
+    /// Nothing is visible. Names are found by a hash with this key. It takes no memory.
+    pub fn new(alloc: Global, key: KeyedBy) -> Scope
         ensures { result ≡ [] }
     {
         Scope {
             row: List::new(alloc),
-            slots: Index::new(alloc),
+            slots: Index::new(alloc, key),
         }
     }
 
-    /// These are visible. An `Err` where memory runs out.
-    pub fn of(alloc: Global, row: &[Visible]) -> Result<Scope, AllocError>
+    /// These are visible. Names are found by a hash with this key. An `Err` where memory runs out.
+    pub fn of(alloc: Global, key: KeyedBy, row: &[Visible]) -> Result<Scope, AllocError>
         ensures { IfOk result (λ scope. scope ≡ row.now) }
     {
-        let mut scope = Scope::new(alloc);
+        let mut scope = Scope::new(alloc, key);
         enter_all(alloc, &mut scope, row)?;
         Ok(scope)
     }
