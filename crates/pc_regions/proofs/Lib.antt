@@ -1,6 +1,6 @@
-mod World
+pub mod World
 mod StackForms
-mod Fitting
+pub mod Fitting
 mod MoveFits
 mod Changes
 mod Climbed
@@ -9,14 +9,14 @@ mod Settled
 mod Taken
 mod ContextLaws
 mod Safe
-mod OneHolder
+pub mod OneHolder
 mod Waiting
 mod OthersKept
 mod MoveMade
-mod Schedules
+pub mod Schedules
 mod Accesses
-mod NoRace
-mod StartFits
+pub mod NoRace
+pub mod StartFits
 mod StandsOtherwise
 mod Shifts
 mod Rising
@@ -38,7 +38,7 @@ mod FieldLands
 mod FieldDrawn
 mod FieldPut
 mod PutKeeps
-mod AllKeep
+pub mod AllKeep
 mod Merge
 mod CallForms
 mod Arguments
@@ -54,7 +54,7 @@ mod Taking
 mod SameRegions
 mod ContextComes
 mod ContextGoes
-mod TakesMessage
+pub mod TakesMessage
 mod ReturnKeeps
 mod SlotTaken
 mod SlotDepth

@@ -185,7 +185,7 @@ impl Context {
         }
     }
 
-    // The key of the hashes by which names are found.
+    /// The key of the hashes by which names are found. No answer depends on it.
     pub fn key(&self) -> KeyedBy {
         self.texts.key()
     }

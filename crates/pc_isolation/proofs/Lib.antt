@@ -1,0 +1,9 @@
+mod Mailed
+mod Fields
+mod Arguments
+mod Reaching
+mod Steps
+mod Takes
+mod Isolation
+mod Passing
+mod Examples

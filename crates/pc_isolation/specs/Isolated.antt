@@ -1,0 +1,83 @@
+-- When waiting messages are isolated in depth: not only the objects that are their arguments are let alone, but also those to
+-- which fields lead from there.
+use Rattle.std.specs.Prelude.{◌≡◌, ◌≢◌, ◌⊎◌, ℕ, Bool, true, false, Option, Some, slice_get}
+use Rattle.pc_heap.specs.Objects.{ObjectMap, class_at, value_at}
+use Rattle.pc_heap.specs.declared.value.Address.{Address}
+use Rattle.pc_heap.specs.declared.value.Value.TheVariants.{At}
+use Rattle.pc_caps.specs.Tables.{at}
+use Rattle.pc_caps.specs.declared.capability.Cap.{Cap}
+use Rattle.pc_caps.specs.declared.capability.Cap.TheVariants as cap
+use Rattle.pc_core.specs.CoreData.{CoreData}
+use Rattle.pc_lists.specs.Options.{◌>>=◌}
+use Rattle.pc_semantics.specs.declared.access.Access.{Access}
+use Rattle.pc_semantics.specs.declared.mailbox.Message.{Message}
+use Rattle.pc_semantics.specs.Configurations.{Configuration}
+use Rattle.pc_semantics.specs.Safety.{access}
+
+-- The capability with which a field of an object is declared.
+abbrev pub field_cap : CoreData → ObjectMap → Address → ℕ → Option Cap
+field_cap core objects a place = do
+  class ← class_at objects a
+  entity ← slice_get core.entities class
+  field ← slice_get entity.fields place
+  Some field.cap
+
+-- A field of the object at a, declared with capability q, holds the object at b.
+pub record Leads (core : CoreData) (objects : ObjectMap) (q : Cap) (a b : Address) : Type 0 where
+  pub place : ℕ
+  pub declared : field_cap core objects a place ≡ Some q
+  pub holds : value_at objects a place ≡ Some (At b)
+
+-- Fields of allowed capabilities lead, one after the other, from the object at a to that at b; none is needed from an object to itself.
+pub data Reaches (core : CoreData) (objects : ObjectMap) (allowed : Cap → Bool) (a : Address) : Address → Type 0 where
+  itself : {b : Address} → b ≡ a → Reaches core objects allowed a b
+  further : {b : Address} → (o : Address) (q : Cap) → Reaches core objects allowed a o → allowed q ≡ true → Leads core objects q o b → Reaches core objects allowed a b
+
+-- A field keeps what it holds with its object if it is declared `iso`, `trn` or `ref`. The row is of iso, trn, ref, val, box, tag.
+abbrev pub keeps : Cap → Bool
+keeps = at true true true false false false
+
+-- It shows what it holds, which may be read through it, unless it is declared `tag`.
+abbrev pub shows : Cap → Bool
+shows = at true true true true true false
+
+-- The k-th message that waits for actor j.
+abbrev pub waiting_at : Configuration → (j k : ℕ) → Option Message
+waiting_at c j k = do
+  actor ← slice_get c.actors j
+  slice_get actor.mailbox k
+
+-- The capability with which the n-th parameter of a message's method is declared.
+abbrev pub parameter_cap : CoreData → Message → ℕ → Option Cap
+parameter_cap core message n = do
+  method ← slice_get core.methods message.method
+  parameter ← slice_get method.params n
+  Some parameter.cap
+
+-- The n-th argument of that message is the object at a, and its parameter is declared with capability q.
+pub record Waits (core : CoreData) (c : Configuration) (j k n : ℕ) (q : Cap) (a : Address) : Type 0 where
+  pub message : Message
+  pub waits : waiting_at c j k ≡ Some message
+  pub declared : parameter_cap core message n ≡ Some q
+  pub argument : slice_get message.arguments n ≡ Some (At a)
+
+-- The object at b is inside this argument, which is `iso`: fields that keep lead to it.
+abbrev pub Inside : CoreData → Configuration → (j k n : ℕ) → Address → Type 0
+Inside core c j k n b = (a : Address) × Waits core c j k n cap.Iso a × Reaches core c.objects keeps a b
+
+-- It is seen from this argument, which is `iso` or `val`: fields that show lead to it.
+abbrev pub SeenFrom : CoreData → Configuration → (j k n : ℕ) → Address → Type 0
+SeenFrom core c j k n b = (a : Address) × (Waits core c j k n cap.Iso a ⊎ Waits core c j k n cap.Val a) × Reaches core c.objects shows a b
+
+-- What waits is isolated in depth.
+pub record Isolated (core : CoreData) (c : Configuration) : Type 0 where
+  -- No actor's next step touches what is inside a waiting argument,
+  pub untouched : (j k n : ℕ) (b : Address) → Inside core c j k n b → (i : ℕ) (x : Access) → access core c i ≡ Some x → x.address ≢ b
+  -- or an object from which fields that show lead there;
+  pub unreached : (j k n : ℕ) (b : Address) → Inside core c j k n b → (i : ℕ) (x : Access) → access core c i ≡ Some x → Reaches core c.objects shows x.address b → ⊥
+  -- none writes what is seen from a waiting argument;
+  pub unwritten : (j k n : ℕ) (b : Address) → SeenFrom core c j k n b → (i : ℕ) (x : Access) → access core c i ≡ Some x → x.write ≡ true → x.address ≢ b
+  -- what is inside two waiting arguments is so because they are one: the same actor, message and parameter;
+  pub apart : (j k n g l m : ℕ) (b : Address) → Inside core c j k n b → Inside core c g l m b → (j ≡ g) × (k ≡ l) × (n ≡ m)
+  -- and what is inside one is seen from no other.
+  pub unseen : (j k n g l m : ℕ) (b : Address) → Inside core c j k n b → SeenFrom core c g l m b → (j ≡ g) × (k ≡ l) × (n ≡ m)

@@ -1,0 +1,4 @@
+pub mod Isolated
+pub mod Passed
+pub mod Laws
+pub mod Examples
