@@ -45,7 +45,7 @@ fn grow<T>(chunks: &mut Vec<Chunk<T>>, wanted: usize) -> Result<(), AllocError>
 }
 
 impl<T> Arena<T> {
-    /// An arena without values and without room. It takes no memory.
+    /// An arena without values and without room. It cannot run out of memory.
     pub fn new(alloc: Global) -> Arena<T>
         ensures items { result.items ≡ [] }
         ensures spare { result.spare ≡ 0 }
@@ -57,7 +57,7 @@ impl<T> Arena<T> {
         }
     }
 
-    /// How many values there are. It takes no memory.
+    /// How many values there are. It cannot run out of memory.
     pub fn len(&self) -> u32
         ensures { result ≡ length self.now.items }
     {
@@ -70,7 +70,7 @@ impl<T> Arena<T> {
         ensures items { self.new.items ≡ self.old.items }
         ensures ok { OnOk result (n ≤ self.new.spare) }
         ensures kept { self.old.spare ≤ self.new.spare }
-        // Where there is room already it takes no memory.
+        // Where there is room already it cannot run out of memory.
         ensures enough { n ≤ self.old.spare → IsOk result }
     {
         if n <= self.spare {
@@ -82,7 +82,7 @@ impl<T> Arena<T> {
         Ok(())
     }
 
-    /// Puts a value at the next place, and answers the place. It takes no memory.
+    /// Puts a value at the next place, and answers the place. It cannot run out of memory.
     pub fn push(&mut self, value: T) -> u32
         requires { 0 < self.old.spare }
         ensures place { result ≡ length self.old.items }
@@ -96,7 +96,7 @@ impl<T> Arena<T> {
         place
     }
 
-    /// The value at a place. It takes no memory.
+    /// The value at a place. It cannot run out of memory.
     pub fn get(&self, place: u32) -> &T
         requires { place < length self.now.items }
         ensures { slice_get self.now.items place ≡ Some result.now }
@@ -105,7 +105,7 @@ impl<T> Arena<T> {
         chunk.get(place as usize % CHUNK_SIZE)
     }
 
-    /// Puts a value in the place of another, and answers the one before. It takes no memory.
+    /// Puts a value in the place of another, and answers the one before. It cannot run out of memory.
     pub fn exchange(&mut self, place: u32, value: T) -> T
         requires { place < length self.old.items }
         ensures before { slice_get self.old.items place ≡ Some result }

@@ -47,7 +47,7 @@ impl<T> Chunk<T> {
         self.row.len()
     }
 
-    /// Writes a value to the first empty place. It takes no memory.
+    /// Writes a value to the first empty place. It cannot run out of memory.
     pub(crate) fn push(&mut self, value: T)
         requires { length self.old < chunk_size }
         ensures { self.new ≡ self.old ++ value ∷ [] }
@@ -55,7 +55,7 @@ impl<T> Chunk<T> {
         self.row.push(value);
     }
 
-    /// The value at a place. It takes no memory.
+    /// The value at a place. It cannot run out of memory.
     pub(crate) fn get(&self, place: usize) -> &T
         requires { place < length self.now }
         ensures { slice_get self.now place ≡ Some result.now }
@@ -63,7 +63,7 @@ impl<T> Chunk<T> {
         self.row.get(place)
     }
 
-    /// Puts a value in the place of another, and answers the one before. It takes no memory.
+    /// Puts a value in the place of another, and answers the one before. It cannot run out of memory.
     pub(crate) fn exchange(&mut self, place: usize, value: T) -> T
         requires { place < length self.old }
         ensures before { slice_get self.old place ≡ Some result }

@@ -1,45 +1,61 @@
 -- The digits of a number, one by one.
-use Rattle.std.proofs.Common.{◌≡◌, ℕ, zero, suc, ◌+◌, ◌*◌, ◌/◌, ◌%◌, ◌^◌, ◌<◌, ◌≤◌, false, cond, List, [], ◌∷◌, ◌++◌, refl, sym, ap, ◌∙◌, inl, inr, ◌⊎◌, arith, append_assoc}
-use Rattle.std.proofs.lemmas.Bool.{eq-eqb, ne_eqb, cases_lt}
+use Rattle.std.proofs.Common.{◌≡◌, ℕ, zero, suc, ◌+◌, ◌*◌, ◌/◌, ◌%◌, ◌^◌, ◌<◌, ◌≤◌, Bool, true, false, cond, ◌==◌, List, [], ◌∷◌, ◌++◌, refl, sym, ap, subst, ◌∙◌, arith, append_assoc}
+use Rattle.std.proofs.lemmas.Bool.{eq-eqb, eqb-true, eqb-false}
+use Rattle.std.proofs.lemmas.List.{append-nil}
+use Rattle.std.proofs.Math.Nat.{pow-succ'}
 use Rattle.std.proofs.lemmas.Fmt.{decimal_step, decimal_digit, hex_one_digit}
 use Rattle.std.specs.Fmt.{digit_glyph, digits_onto, digits, decimal}
 
--- the digits of a number to the base 16, at most so many, in front of what stands behind them
-abbrev pub spell : ℕ → ℕ → List ℕ → List ℕ
-spell k n acc = digits_onto k 16 false n acc
+-- ---- hex
 
-abbrev pub last_glyph : ℕ → ℕ
-last_glyph n = digit_glyph false (n % 16)
+-- These are the hex digits of a number: one of them, or those of its sixteenth and one more.
+data Hex : ℕ → List ℕ → Type 0 where
+  last : {n : ℕ} {ds : List ℕ} → n / 16 ≡ 0 → ds ≡ digit_glyph false (n % 16) ∷ [] → Hex n ds
+  more : {n : ℕ} {ds : List ℕ} → (front : List ℕ) → 0 < n / 16 → Hex (n / 16) front → ds ≡ front ++ (digit_glyph false (n % 16) ∷ []) → Hex n ds
 
-pub spell_last : (k n : ℕ) (acc : List ℕ) → n < 16 → spell (suc k) n acc ≡ last_glyph n ∷ acc
-spell_last k n acc h = ap (λ t. cond t (last_glyph n ∷ acc) (spell k (n / 16) (last_glyph n ∷ acc))) (eq-eqb (n / 16) 0 (omega arith))
+no_more : (m : ℕ) → m ≡ 0 → 0 < m → ⊥
+no_more m e h = absurd (omega (arith, e, h))
 
-pub spell_next : (k n : ℕ) (acc : List ℕ) → 16 ≤ n → spell (suc k) n acc ≡ spell k (n / 16) (last_glyph n ∷ acc)
-spell_next k n acc h = ap (λ t. cond t (last_glyph n ∷ acc) (spell k (n / 16) (last_glyph n ∷ acc))) (ne_eqb (n / 16) 0 (λ e. omega arith))
+-- A number has them in one way.
+only : {n : ℕ} (ds es : List ℕ) → Hex n ds → Hex n es → ds ≡ es
+only ds es (last z e) (last y f) = e ∙ sym f
+only {n} ds es (last z e) (more front p h f) = absurd (no_more (n / 16) z p)
+only {n} ds es (more front p h e) (last z f) = absurd (no_more (n / 16) z p)
+only {n} ds es (more front p h e) (more other q g f) = e ∙ ap (λ (zs : List ℕ). zs ++ (digit_glyph false (n % 16) ∷ [])) (only front other h g) ∙ sym f
 
-append_by : (k n : ℕ) (acc : List ℕ) → (n < 16) ⊎ (16 ≤ n) → ((more : List ℕ) → spell k (n / 16) more ≡ spell k (n / 16) [] ++ more) → spell (suc k) n acc ≡ spell (suc k) n [] ++ acc
-append_by k n acc (inl l) more = spell_last k n acc l ∙ ap (λ x. x ++ acc) (sym (spell_last k n [] l))
-append_by k n acc (inr l) more =
-    spell_next k n acc l ∙ more (last_glyph n ∷ acc) ∙ sym (append_assoc (spell k (n / 16) []) (last_glyph n ∷ []) acc)
-    ∙ ap (λ x. x ++ acc) (sym (spell_next k n [] l ∙ more (last_glyph n ∷ [])))
+halves : (k n : ℕ) → n < 2 ^ suc (suc k) → n / 16 < 2 ^ suc k
+halves k n h = let double : 2 ^ suc (suc k) ≡ 2 * 2 ^ suc k = pow-succ' 2 (suc k) in omega (arith, h, double)
 
-spell_append : (k n : ℕ) (acc : List ℕ) → spell k n acc ≡ spell k n [] ++ acc
-spell_append zero n acc = refl
-spell_append (suc k) n acc = append_by k n acc (cases_lt n 16) (spell_append k (n / 16))
+positive : (m : ℕ) → (m == 0) ≡ false → 0 < m
+positive zero e = absurd (eqb-false 0 0 e refl)
+positive (suc m) e = omega arith
 
-enough_by : (j k n : ℕ) (acc : List ℕ) → (n < 16) ⊎ (16 ≤ n) → spell (suc j) (n / 16) (last_glyph n ∷ acc) ≡ spell (suc k) (n / 16) (last_glyph n ∷ acc) → spell (suc (suc j)) n acc ≡ spell (suc (suc k)) n acc
-enough_by j k n acc (inl l) more = spell_last (suc j) n acc l ∙ sym (spell_last (suc k) n acc l)
-enough_by j k n acc (inr l) more = spell_next (suc j) n acc l ∙ more ∙ sym (spell_next (suc k) n acc l)
+-- What is written of a number, before anything else, are its digits.
+written : (k n : ℕ) → n < 2 ^ suc k → (acc : List ℕ) → (ds : List ℕ) × Hex n ds × (digits_onto (suc k) 16 false n acc ≡ ds ++ acc)
+written zero n h acc =
+    let glyph : ℕ = digit_glyph false (n % 16) in
+    let small : n / 16 ≡ 0 = omega (arith, h) in
+    (glyph ∷ [], last small refl, ap (λ (t : Bool). cond t (glyph ∷ acc) (digits_onto 0 16 false (n / 16) (glyph ∷ acc))) (eq-eqb (n / 16) 0 small))
+written (suc k) n h acc = by_test (n / 16 == 0) refl (written k (n / 16) (halves k n h) (digit_glyph false (n % 16) ∷ acc))
+  where
+    by_test : (t : Bool) → (n / 16 == 0) ≡ t → ((ds : List ℕ) × Hex (n / 16) ds × (digits_onto (suc k) 16 false (n / 16) (digit_glyph false (n % 16) ∷ acc) ≡ ds ++ (digit_glyph false (n % 16) ∷ acc)))
+        → (ds : List ℕ) × Hex n ds × (cond t (digit_glyph false (n % 16) ∷ acc) (digits_onto (suc k) 16 false (n / 16) (digit_glyph false (n % 16) ∷ acc)) ≡ ds ++ acc)
+    by_test true e rest = (digit_glyph false (n % 16) ∷ [], last (eqb-true (n / 16) 0 e) refl, refl)
+    by_test false e rest =
+        (rest.0 ++ (digit_glyph false (n % 16) ∷ []), more rest.0 (positive (n / 16) e) rest.1 refl, rest.2 ∙ sym (append_assoc rest.0 (digit_glyph false (n % 16) ∷ []) acc))
 
--- the bound on the digits does not matter once it is large enough
-spell_enough : (j k n : ℕ) (acc : List ℕ) → n < 16 ^ suc j → n < 16 ^ suc k → spell (suc j) n acc ≡ spell (suc k) n acc
-spell_enough zero k n acc p q = spell_last zero n acc (omega arith) ∙ sym (spell_last k n acc (omega arith))
-spell_enough (suc j) zero n acc p q = spell_last (suc j) n acc (omega arith) ∙ sym (spell_last zero n acc (omega arith))
-spell_enough (suc j) (suc k) n acc p q = enough_by j k n acc (cases_lt n 16) (spell_enough j k (n / 16) (last_glyph n ∷ acc) (omega arith) (omega arith))
-
-pub hex_step : (n : ℕ) → 16 ≤ n → n < 2 ^ 64 → digits 16 false n ≡ digits 16 false (n / 16) ++ (digit_glyph false (n % 16) ∷ [])
+digits_are : (n : ℕ) → n < 2 ^ 64 → Hex n (digits 16 false n)
 unfolding digits
-hex_step n h small = spell_next 63 n [] h ∙ spell_enough 62 63 (n / 16) (last_glyph n ∷ []) (omega arith) (omega arith) ∙ spell_append 64 (n / 16) (last_glyph n ∷ [])
+digits_are n h = let w = written 63 n h [] in subst (Hex n) (sym (w.2 ∙ append-nil w.0)) w.1
+
+-- The digits of a number of more than one digit: those of its sixteenth, and the last one.
+pub hex_step : (n : ℕ) → 16 ≤ n → n < 2 ^ 64 → digits 16 false n ≡ digits 16 false (n / 16) ++ (digit_glyph false (n % 16) ∷ [])
+hex_step n high small =
+    let some : 0 < n / 16 = omega (arith, high) in
+    let below : n / 16 < 2 ^ 64 = omega (arith, small) in
+    only (digits 16 false n) (digits 16 false (n / 16) ++ (digit_glyph false (n % 16) ∷ [])) (digits_are n small) (more (digits 16 false (n / 16)) some (digits_are (n / 16) below) refl)
+
+-- ---- both bases
 
 -- The digits in a base of one digit, and of one digit more.
 pub record Base (base : ℕ) : Type 0 where

@@ -38,7 +38,7 @@ impl Model for Heap {
 }
 
 impl Heap {
-    /// A heap without objects and without room. It takes no memory.
+    /// A heap without objects and without room. It cannot run out of memory.
     pub fn new(alloc: Global) -> Heap
         ensures objects { result.objects ≡ map.empty }
         ensures room { result.room ≡ None }
@@ -58,7 +58,7 @@ impl Heap {
         self.made.len() as u32
     }
 
-    /// Takes all memory that the next object of a maker will want, with so many fields. A refusal leaves no room.
+    /// Gets all memory that the next object of a maker will need, with so many fields. A refusal leaves no room.
     pub fn reserve(&mut self, maker: u32, fields: u32) -> Result<(), AllocError>
         requires few { map.len self.old.objects < object_limit }
         requires small { fields ≤ field_limit }
@@ -74,7 +74,7 @@ impl Heap {
         Ok(())
     }
 
-    /// The address that the next object will have, for which there is room. It takes no memory.
+    /// The address that the next object will have, for which there is room. It cannot run out of memory.
     pub fn reserved(&self) -> Address
         requires { IsSome self.now.room }
         ensures { IfSome self.now.room (λ room. result ≡ next_address self.now.objects room.maker) }
@@ -88,8 +88,8 @@ impl Heap {
         }
     }
 
-    /// Adds an object without field values in the room that was made for it, and answers its address. It takes no
-    /// memory.
+    /// Adds an object without field values in the room that was made for it, and answers its address. It cannot run
+    /// out of memory.
     pub fn make(&mut self, maker: u32, entity: u32, fields: u32) -> Address
         requires { self.old.room ≡ Some record { maker = maker; fields = fields } }
         // The serial is the number of objects that the maker had made.
@@ -119,7 +119,7 @@ impl Heap {
         address
     }
 
-    /// The number of an object's entity. `None` exactly where there is no object. It takes no memory.
+    /// The number of an object's entity. `None` exactly where there is no object. It cannot run out of memory.
     pub fn class_of(&self, address: Address) -> Option<u32>
         ensures { result ≡ class_at self.now.objects address }
     {
@@ -127,7 +127,7 @@ impl Heap {
     }
 
     /// The value in a field of an object. `None` exactly where there is no object, no such field or no value in it. It
-    /// takes no memory.
+    /// cannot run out of memory.
     pub fn get(&self, address: Address, field: u32) -> Option<&Value>
         ensures { option_copied result ≡ value_at self.now.objects address field }
     {
@@ -139,7 +139,7 @@ impl Heap {
     }
 
     /// Puts a value into a field of an object, and answers the one before. Where there is no object or no such field,
-    /// the value comes back. It takes no memory.
+    /// the value comes back. It cannot run out of memory.
     pub fn set(
         &mut self,
         address: Address,

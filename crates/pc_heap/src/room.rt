@@ -13,7 +13,7 @@ pub struct Room {
     pub fields: u32,
 }
 
-/// Adds so many fields without values. It takes no memory.
+/// Adds so many fields without values. It cannot run out of memory.
 pub fn push_empty(values: &mut Arena<Option<Value>>, fields: u32)
     requires { fields ≤ values.old.spare }
     ensures items { values.new.items ≡ values.old.items ++ replicate fields None }

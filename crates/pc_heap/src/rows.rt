@@ -81,7 +81,7 @@ impl Model for Rows {
 }
 
 impl Rows {
-    /// No rows. It takes no memory.
+    /// No rows. It cannot run out of memory.
     pub fn new(alloc: Global) -> Rows
         ensures { result ≡ [] }
     {
@@ -144,7 +144,7 @@ impl Rows {
         self.widen(maker)
     }
 
-    /// Notes one more object of a maker. It takes no memory.
+    /// Notes one more object of a maker. It cannot run out of memory.
     pub fn push(&mut self, maker: u32, number: u32)
         requires { 0 < spare_of self.old maker }
         ensures { (other : ℕ) → numbers_of self.new other ≡ cond (nat_eq maker other) (numbers_of self.old maker ++ number ∷ []) (numbers_of self.old other) }

@@ -36,7 +36,7 @@ impl Model for Text {
 }
 
 impl Text {
-    /// The text of these bytes. It takes no memory.
+    /// The text of these bytes. It cannot run out of memory.
     pub fn new(bytes: SharedList<u8>) -> Text
         ensures { result ≡ bytes }
     {
@@ -45,7 +45,8 @@ impl Text {
         }
     }
 
-    /// The same text once more. It takes no memory: the `Err` says that the text has too many owners to be counted.
+    /// The same text once more. It cannot run out of memory: the `Err` says that the
+    /// text has too many owners to be counted.
     pub fn share(&self) -> Result<Text, AllocError>
         ensures { IfOk result (λ copy. copy ≡ self.now) }
     {
@@ -58,8 +59,8 @@ impl Text {
 
     /// Both texts in one, the left one first.
     ///
-    /// It takes memory for the list of its pieces and not for their bytes: no two pieces that follow each other have
-    /// together less than some hundred bytes, however often texts were joined.
+    /// The pieces share their bytes with the two texts. Two small pieces that meet become one, so that a text that was joined often
+    /// has few pieces; how many it has is neither proved nor tested.
     pub fn join(alloc: Global, left: &Text, right: &Text) -> Result<Text, AllocError>
         ensures { IfOk result (λ text. text ≡ left.now ++ right.now) }
     {
