@@ -65,20 +65,20 @@ impl<T> Arena<T> {
     }
 
     /// Makes room for so many pushes. A refusal takes nothing away.
-    pub fn reserve(&mut self, n: u32) -> Result<(), AllocError>
-        requires { length self.old.items + n < place_limit }
+    pub fn reserve(&mut self, more: u32) -> Result<(), AllocError>
+        requires { length self.old.items + more < place_limit }
         ensures items { self.new.items ≡ self.old.items }
-        ensures ok { OnOk result (n ≤ self.new.spare) }
+        ensures ok { OnOk result (more ≤ self.new.spare) }
         ensures kept { self.old.spare ≤ self.new.spare }
         // Where there is room already it cannot run out of memory.
-        ensures enough { n ≤ self.old.spare → IsOk result }
+        ensures enough { more ≤ self.old.spare → IsOk result }
     {
-        if n <= self.spare {
+        if more <= self.spare {
             return Ok(());
         }
-        let wanted = self.count as usize + n as usize;
+        let wanted = self.count as usize + more as usize;
         grow(&mut self.chunks, wanted.div_ceil(CHUNK_SIZE))?;
-        self.spare = n;
+        self.spare = more;
         Ok(())
     }
 

@@ -19,7 +19,10 @@ plain cap.Tag = form.Tag
 abbrev pub unalias : Cap → Form
 unalias cap.Iso = form.IsoE
 unalias cap.Trn = form.TrnE
-unalias k = plain k
+unalias cap.Ref = form.Ref
+unalias cap.Val = form.Val
+unalias cap.Box = form.Box
+unalias cap.Tag = form.Tag
 
 -- The capability of an alias of a value of this form.
 abbrev pub stored : Form → Cap
@@ -90,7 +93,11 @@ taken form.Tag = nothing
 -- A capability is tag.
 abbrev pub is_tag : Cap → Bool
 is_tag cap.Tag = true
-is_tag k = false
+is_tag cap.Iso = false
+is_tag cap.Trn = false
+is_tag cap.Ref = false
+is_tag cap.Val = false
+is_tag cap.Box = false
 
 -- The values that may be written into an iso origin, by the field's capability.
 abbrev pub enters_iso : Form → Cap → Bool
@@ -98,7 +105,10 @@ enters_iso form.IsoE k = true
 enters_iso form.Val k = true
 enters_iso form.Tag k = true
 enters_iso form.Iso k = is_tag k
-enters_iso f k = false
+enters_iso form.TrnE k = false
+enters_iso form.Trn k = false
+enters_iso form.Ref k = false
+enters_iso form.Box k = false
 
 -- Into a trn origin besides, what nobody else writes.
 abbrev pub enters_trn : Form → Cap → Bool
@@ -112,7 +122,9 @@ enters form.Iso = enters_iso
 enters form.TrnE = enters_trn
 enters form.Trn = enters_trn
 enters form.Ref = λ f k. true
-enters origin = λ f k. false
+enters form.Val = λ f k. false
+enters form.Box = λ f k. false
+enters form.Tag = λ f k. false
 
 -- A value of this form may be written into a field of this capability of the origin.
 abbrev pub may_write : Form → Form → Cap → Bool
@@ -135,7 +147,9 @@ abbrev pub sendable : Cap → Bool
 sendable cap.Iso = true
 sendable cap.Val = true
 sendable cap.Tag = true
-sendable k = false
+sendable cap.Trn = false
+sendable cap.Ref = false
+sendable cap.Box = false
 
 -- A value of this form may be sent to another actor.
 abbrev pub sendable_form : Form → Bool
@@ -143,4 +157,7 @@ sendable_form form.IsoE = true
 sendable_form form.Iso = true
 sendable_form form.Val = true
 sendable_form form.Tag = true
-sendable_form f = false
+sendable_form form.TrnE = false
+sendable_form form.Trn = false
+sendable_form form.Ref = false
+sendable_form form.Box = false

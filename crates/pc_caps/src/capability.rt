@@ -36,10 +36,10 @@ pub enum Form {
 }
 
 /// The form of what a place of this capability holds, as it is read.
-pub fn plain(k: Cap) -> Form
-    ensures { result ≡ table.plain k }
+pub fn plain(cap: Cap) -> Form
+    ensures { result ≡ table.plain cap }
 {
-    match k {
+    match cap {
         Cap::Iso => Form::Iso,
         Cap::Trn => Form::Trn,
         Cap::Ref => Form::Ref,
@@ -50,10 +50,10 @@ pub fn plain(k: Cap) -> Form
 }
 
 /// The form that a value must be below to be stored at `k` (aliasing, in the paper of 2015).
-pub fn unalias(k: Cap) -> Form
-    ensures { result ≡ table.unalias k }
+pub fn unalias(cap: Cap) -> Form
+    ensures { result ≡ table.unalias cap }
 {
-    match k {
+    match cap {
         Cap::Iso => Form::IsoE,
         Cap::Trn => Form::TrnE,
         Cap::Ref => Form::Ref,
@@ -65,10 +65,10 @@ pub fn unalias(k: Cap) -> Form
 
 /// The capability at which a value of this form is stored where none is written: the capability of an alias of it
 /// (the paper of 2015).
-pub fn stored(f: Form) -> Cap
-    ensures { result ≡ table.stored f }
+pub fn stored(form: Form) -> Cap
+    ensures { result ≡ table.stored form }
 {
-    match f {
+    match form {
         Form::IsoE => Cap::Iso,
         Form::TrnE => Cap::Trn,
         Form::Iso => Cap::Tag,
@@ -81,15 +81,15 @@ pub fn stored(f: Form) -> Cap
 }
 
 /// Whether what a place of this capability holds may be sent to another actor (the Pony tutorial).
-pub fn sendable(k: Cap) -> bool
-    ensures { result ≡ table.sendable k }
+pub fn sendable(cap: Cap) -> bool
+    ensures { result ≡ table.sendable cap }
 {
-    matches!(k, Cap::Iso | Cap::Val | Cap::Tag)
+    matches!(cap, Cap::Iso | Cap::Val | Cap::Tag)
 }
 
 /// Whether a value of this form may be sent to another actor.
-pub fn sendable_form(f: Form) -> bool
-    ensures { result ≡ table.sendable_form f }
+pub fn sendable_form(form: Form) -> bool
+    ensures { result ≡ table.sendable_form form }
 {
-    matches!(f, Form::IsoE | Form::Iso | Form::Val | Form::Tag)
+    matches!(form, Form::IsoE | Form::Iso | Form::Val | Form::Tag)
 }

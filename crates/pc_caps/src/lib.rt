@@ -1,5 +1,5 @@
-//! Reference capabilities, their forms, the order on forms and the tables on them; and the small types that every
-//! layer shares, `Span`, `List` and `SharedList`.
+//! Reference capabilities, their forms, the order on forms and the tables on them; the small types that every layer
+//! shares, `Span`, `List` and `SharedList`; and the limits of a program.
 //!
 //! Proved: `below` is the closure of the ten pairs; `plain`, `unalias`, `stored`, `fits`, `view`, `taken`, `may_write`,
 //! `lift`, `sendable` and `sendable_form` are their tables. `List<T>` is a list, and may stand inside recursive types;
@@ -7,6 +7,7 @@
 #![tactic(auto)]
 
 mod capability;
+mod limits;
 mod list;
 mod order;
 mod place;
@@ -14,6 +15,9 @@ mod shared;
 mod span;
 
 pub use capability::{Cap, Form, plain, sendable, sendable_form, stored, unalias};
+pub use limits::{
+    ENTITY_LIMIT, FIELD_LIMIT, METHOD_LIMIT, NODE_LIMIT, PROGRAM_SLOT_LIMIT, SLOT_LIMIT, TEXT_LIMIT,
+};
 pub use list::List;
 pub use order::{below, fits};
 pub use place::{lift, may_write, taken, view};

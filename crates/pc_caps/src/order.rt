@@ -8,33 +8,33 @@ use crate::capability::{Cap, Form, unalias};
 /// Whether `a` is below `b` in the order on forms: the reflexive and transitive closure of ten pairs (subtyping of
 /// capabilities, in the paper of 2015).
 #[tactic(auto, using(crate::specs::Closure::below_iff))]
-pub fn below(a: Form, b: Form) -> bool
-    ensures order { IsTrue result ↔ IsBelow a b }
-    ensures value { result ≡ is_below a b }
+pub fn below(lower: Form, upper: Form) -> bool
+    ensures order { IsTrue result ↔ IsBelow lower upper }
+    ensures value { result ≡ is_below lower upper }
 {
-    is_in_row(a, b)
+    is_in_row(lower, upper)
 }
 
 // Whether `b` stands in the row of `a`, in the order as a table.
-fn is_in_row(a: Form, b: Form) -> bool
-    ensures { result ≡ is_below a b }
+fn is_in_row(lower: Form, upper: Form) -> bool
+    ensures { result ≡ is_below lower upper }
 {
-    match a {
+    match lower {
         Form::IsoE => true,
-        Form::TrnE => !matches!(b, Form::IsoE | Form::Iso),
-        Form::Iso => matches!(b, Form::Iso | Form::Tag),
-        Form::Trn => matches!(b, Form::Trn | Form::Box | Form::Tag),
-        Form::Ref => matches!(b, Form::Ref | Form::Box | Form::Tag),
-        Form::Val => matches!(b, Form::Val | Form::Box | Form::Tag),
-        Form::Box => matches!(b, Form::Box | Form::Tag),
-        Form::Tag => matches!(b, Form::Tag),
+        Form::TrnE => !matches!(upper, Form::IsoE | Form::Iso),
+        Form::Iso => matches!(upper, Form::Iso | Form::Tag),
+        Form::Trn => matches!(upper, Form::Trn | Form::Box | Form::Tag),
+        Form::Ref => matches!(upper, Form::Ref | Form::Box | Form::Tag),
+        Form::Val => matches!(upper, Form::Val | Form::Box | Form::Tag),
+        Form::Box => matches!(upper, Form::Box | Form::Tag),
+        Form::Tag => matches!(upper, Form::Tag),
     }
 }
 
 /// Whether a value of form `f` may be stored at a place of capability `k`: `f` is below `unalias(k)`.
-pub fn fits(f: Form, k: Cap) -> bool
-    ensures order { IsTrue result ↔ IsBelow f (table.unalias k) }
-    ensures value { result ≡ table.fits f k }
+pub fn fits(form: Form, cap: Cap) -> bool
+    ensures order { IsTrue result ↔ IsBelow form (table.unalias cap) }
+    ensures value { result ≡ table.fits form cap }
 {
-    below(f, unalias(k))
+    below(form, unalias(cap))
 }

@@ -19,7 +19,8 @@ pub fn view(origin: Form, field: Cap) -> Option<Form>
         (Form::IsoE | Form::Iso, _) => Form::Tag,
         (Form::Ref, Cap::Trn) => Form::Trn,
         (Form::Ref, Cap::Ref) => Form::Ref,
-        (_, _) => Form::Box,
+        (Form::TrnE | Form::Trn | Form::Box, Cap::Trn | Cap::Ref | Cap::Box)
+        | (Form::Ref, Cap::Box) => Form::Box,
     };
     Some(seen)
 }
@@ -37,7 +38,9 @@ pub fn taken(origin: Form, field: Cap) -> Option<Form>
         (Form::IsoE | Form::Iso, _) => Some(Form::Tag),
         (Form::Ref, Cap::Trn) => Some(Form::TrnE),
         (Form::Ref, Cap::Ref) => Some(Form::Ref),
-        (_, _) => Some(Form::Box),
+        (Form::TrnE | Form::Trn, Cap::Trn | Cap::Ref | Cap::Box) | (Form::Ref, Cap::Box) => Some(
+            Form::Box,
+        ),
     }
 }
 
@@ -59,15 +62,17 @@ fn is_taken(origin: Form, value: Form, field: Cap) -> bool
         (_, Form::IsoE | Form::Val | Form::Tag) => true,
         (_, Form::Iso) => field == Cap::Tag,
         (Form::TrnE | Form::Trn, Form::TrnE) => true,
-        (_, _) => false,
+        (Form::IsoE | Form::Iso, Form::TrnE)
+        | (Form::IsoE | Form::Iso | Form::TrnE | Form::Trn, Form::Trn | Form::Ref | Form::Box) =>
+            false,
     }
 }
 
 /// The form of a `recover`'s value, by the form of its body's (this project's profile).
-pub fn lift(f: Form) -> Form
-    ensures { result ≡ table.lift f }
+pub fn lift(form: Form) -> Form
+    ensures { result ≡ table.lift form }
 {
-    match f {
+    match form {
         Form::IsoE | Form::TrnE | Form::Ref => Form::IsoE,
         Form::Trn | Form::Box | Form::Val => Form::Val,
         Form::Iso | Form::Tag => Form::Tag,

@@ -88,10 +88,10 @@ fn of_item(item: &Item) -> u32
 }
 
 #[cycle(depth)]
-fn of_expr(e: &Expr) -> u32
-    ensures { result ≡ min (expr_depth (expr_view e.now)) (2 ^ 32 - 1) }
+fn of_expr(expression: &Expr) -> u32
+    ensures { result ≡ min (expr_depth (expr_view expression.now)) (2 ^ 32 - 1) }
 {
-    match e {
+    match expression {
         Expr::Number { .. }
         | Expr::Truth { .. }
         | Expr::Text { .. }
@@ -123,20 +123,20 @@ fn of_other(other: &Option<Box<Seq>>) -> u32
 }
 
 #[cycle(depth)]
-fn of_suffix(s: &Suffix) -> u32
-    ensures { result ≡ min (suffix_depth (suffix_view s.now)) (2 ^ 32 - 1) }
+fn of_suffix(suffix: &Suffix) -> u32
+    ensures { result ≡ min (suffix_depth (suffix_view suffix.now)) (2 ^ 32 - 1) }
 {
-    match s {
+    match suffix {
         Suffix::Dot(_) => 0,
         Suffix::Args { args, .. } => of_exprs(args.as_slice()).saturating_add(1),
     }
 }
 
 #[cycle(depth)]
-fn of_arm(a: &Arm) -> u32
-    ensures { result ≡ min (arm_depth (arm_view a.now)) (2 ^ 32 - 1) }
+fn of_arm(arm: &Arm) -> u32
+    ensures { result ≡ min (arm_depth (arm_view arm.now)) (2 ^ 32 - 1) }
 {
-    of_seq(&a.cond).max(of_seq(&a.body))
+    of_seq(&arm.cond).max(of_seq(&arm.body))
 }
 
 #[cycle(depth)]

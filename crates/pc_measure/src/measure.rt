@@ -84,10 +84,10 @@ fn of_item(item: &Item) -> u64
 }
 
 #[cycle(size)]
-fn of_expr(e: &Expr) -> u64
-    ensures { result ≡ min (expr_size (expr_view e.now)) (2 ^ 64 - 1) }
+fn of_expr(expression: &Expr) -> u64
+    ensures { result ≡ min (expr_size (expr_view expression.now)) (2 ^ 64 - 1) }
 {
-    match e {
+    match expression {
         Expr::Number { .. }
         | Expr::Truth { .. }
         | Expr::Text { .. }
@@ -125,20 +125,20 @@ fn of_other(other: &Option<Box<Seq>>) -> u64
 }
 
 #[cycle(size)]
-fn of_suffix(s: &Suffix) -> u64
-    ensures { result ≡ min (suffix_size (suffix_view s.now)) (2 ^ 64 - 1) }
+fn of_suffix(suffix: &Suffix) -> u64
+    ensures { result ≡ min (suffix_size (suffix_view suffix.now)) (2 ^ 64 - 1) }
 {
-    match s {
+    match suffix {
         Suffix::Dot(_) => 0,
         Suffix::Args { args, .. } => of_exprs(args.as_slice()),
     }
 }
 
 #[cycle(size)]
-fn of_arm(a: &Arm) -> u64
-    ensures { result ≡ min (arm_size (arm_view a.now)) (2 ^ 64 - 1) }
+fn of_arm(arm: &Arm) -> u64
+    ensures { result ≡ min (arm_size (arm_view arm.now)) (2 ^ 64 - 1) }
 {
-    of_seq(&a.cond).saturating_add(of_seq(&a.body))
+    of_seq(&arm.cond).saturating_add(of_seq(&arm.body))
 }
 
 #[cycle(size)]

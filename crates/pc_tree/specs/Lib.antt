@@ -1,3 +1,4 @@
+pub mod BuiltIn
 pub mod Tree
 pub mod Kinds
 pub mod View

@@ -17,10 +17,10 @@ pub fn join(first: Span, second: Span) -> Span
 }
 
 /// Where an expression lies.
-pub fn span_of(e: &Expr) -> Span
-    ensures { result ≡ spec.span_of (expr_view e.now) }
+pub fn span_of(expression: &Expr) -> Span
+    ensures { result ≡ spec.span_of (expr_view expression.now) }
 {
-    match e {
+    match expression {
         Expr::Name(name) | Expr::TypeName(name) => name.span,
         Expr::This(span) => *span,
         Expr::Number { span, .. }

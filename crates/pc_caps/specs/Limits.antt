@@ -1,0 +1,31 @@
+-- The limits of a program, each of which several layers speak of. A limit of one layer alone stands there: the bytes and tokens of a
+-- source in `pc_lex`, the levels of a tree in `pc_grammar`, the turns of a schedule in `pc_sched`, the actors of a trace in `pc_trace`.
+use Rattle.std.specs.Prelude.{ℕ, ◌*◌}
+
+-- how many entities a file may have, besides those that are built in
+abbrev pub entity_limit : ℕ
+entity_limit = 1000
+
+-- how many methods a file may have, with added constructors and those that its entities take over
+abbrev pub method_limit : ℕ
+method_limit = 10000
+
+-- how many fields an entity may have
+abbrev pub field_limit : ℕ
+field_limit = 64
+
+-- how many slots a method may have, with that of `this`
+abbrev pub slot_limit : ℕ
+slot_limit = 64
+
+-- how many slots all methods of a program have at most
+abbrev pub program_slot_limit : ℕ
+program_slot_limit = method_limit * slot_limit
+
+-- how many nodes a program may have
+abbrev pub node_limit : ℕ
+node_limit = 200000
+
+-- how many bytes a text may have, one that is written and one that is made in a run
+abbrev pub text_limit : ℕ
+text_limit = 4096
