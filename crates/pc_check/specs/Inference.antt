@@ -3,6 +3,7 @@ use Rattle.std.specs.Prelude.{ℕ, ◌+◌, Bool, true, false, ◌&&◌, not, Li
 use Rattle.pc_caps.specs.Tables.{stored}
 use Rattle.pc_caps.specs.declared.capability.Cap.{Cap}
 use Rattle.pc_caps.specs.declared.capability.Cap.TheVariants as cap
+use Rattle.pc_tree.specs.BuiltIn.{none_entity}
 use Rattle.pc_core.specs.declared.declarations.Method.{Method}
 use Rattle.pc_core.specs.declared.nodes.Slot.{Slot}
 use Rattle.pc_core.specs.declared.nodes.Node.{Node}
@@ -28,7 +29,7 @@ use Rattle.pc_check.specs.declared.sources.Source.TheVariants as source
 -- What a slot has before its definition: the written type, or any where none is written.
 abbrev pub written_type : Option (ℕ × Cap) → ℕ × Cap
 written_type (Some ty) = ty
-written_type None = (0, cap.Tag)
+written_type None = (none_entity, cap.Tag)
 
 abbrev pub first_types : CoreData → List (ℕ × Cap)
 first_types core = map (λ (y : Slot). written_type y.written) core.slots

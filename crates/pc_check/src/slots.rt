@@ -5,6 +5,7 @@ ghost use Rattle.pc_check.specs.Inference as spec;
 use pc_ann::Ann;
 use pc_caps::{Cap, Form, stored};
 use pc_core::{Core, Node, NodeKind, Slot};
+use pc_tree::NONE_ENTITY;
 use std::alloc::{AllocError, Global};
 
 // The written type of a slot, or any where none is written.
@@ -13,7 +14,7 @@ fn written_type(slot: &Slot) -> (u32, Cap)
 {
     match slot.written {
         Some(ty) => ty,
-        None => (0, Cap::Tag),
+        None => (NONE_ENTITY, Cap::Tag),
     }
 }
 
@@ -68,7 +69,29 @@ fn inferred_slot(core: &Core, ann: &Ann, node: &Node) -> Option<(usize, (u32, Ca
 {
     match &node.kind {
         NodeKind::Define(slot) => slot_type(core, ann, node, *slot),
-        _ => None,
+        NodeKind::Number(_)
+        | NodeKind::Truth(_)
+        | NodeKind::Text(_)
+        | NodeKind::Prim(_)
+        | NodeKind::This
+        | NodeKind::Local(_)
+        | NodeKind::Consume(_)
+        | NodeKind::Field(_)
+        | NodeKind::SetField(_)
+        | NodeKind::Assign(_)
+        | NodeKind::New(_)
+        | NodeKind::Spawn(_)
+        | NodeKind::Call(_)
+        | NodeKind::Binary(_)
+        | NodeKind::Not
+        | NodeKind::And
+        | NodeKind::Or
+        | NodeKind::Same(_)
+        | NodeKind::Seq
+        | NodeKind::If
+        | NodeKind::While
+        | NodeKind::Recover(_)
+        | NodeKind::Body => None,
     }
 }
 

@@ -32,7 +32,29 @@ fn is_else(kind: &NodeKind, index: usize) -> bool
 {
     match kind {
         NodeKind::If => index == 2,
-        _ => false,
+        NodeKind::Number(_)
+        | NodeKind::Truth(_)
+        | NodeKind::Text(_)
+        | NodeKind::Prim(_)
+        | NodeKind::This
+        | NodeKind::Local(_)
+        | NodeKind::Consume(_)
+        | NodeKind::Field(_)
+        | NodeKind::SetField(_)
+        | NodeKind::Define(_)
+        | NodeKind::Assign(_)
+        | NodeKind::New(_)
+        | NodeKind::Spawn(_)
+        | NodeKind::Call(_)
+        | NodeKind::Binary(_)
+        | NodeKind::Not
+        | NodeKind::And
+        | NodeKind::Or
+        | NodeKind::Same(_)
+        | NodeKind::Seq
+        | NodeKind::While
+        | NodeKind::Recover(_)
+        | NodeKind::Body => false,
     }
 }
 

@@ -4,9 +4,11 @@ use Rattle.pc_caps.specs.declared.capability.Cap.{Cap}
 use Rattle.pc_caps.specs.declared.capability.Cap.TheVariants as cap
 use Rattle.pc_caps.specs.declared.capability.Form.TheVariants as form
 use Rattle.pc_caps.specs.declared.span.Span.{Span}
+use Rattle.pc_caps.specs.Limits.{field_limit}
 use Rattle.pc_tree.specs.declared.kinds.EntityKind.{EntityKind}
 use Rattle.pc_tree.specs.declared.kinds.EntityKind.TheVariants as kind
 use Rattle.pc_tree.specs.Kinds.{is_abstract, may_have_fields}
+use Rattle.pc_tree.specs.BuiltIn.{none_entity, u64_entity, bool_entity, string_entity, env_entity, out_stream_entity}
 use Rattle.pc_core.specs.declared.declarations.EntityDef.{EntityDef}
 use Rattle.pc_core.specs.declared.declarations.FieldInfo.{FieldInfo}
 use Rattle.pc_core.specs.declared.declarations.Method.{Method}
@@ -30,17 +32,17 @@ built_in_value name = built_in kind.Primitive cap.Val name [] 0
 
 -- The environment's only field, the stream of the program's texts.
 abbrev pub out_field : ℕ → FieldInfo
-out_field name = record { name = name; fixed = true; entity = 5; cap = cap.Tag }
+out_field name = record { name = name; fixed = true; entity = out_stream_entity; cap = cap.Tag }
 
 -- The stream's only method, a behaviour that takes a text.
 abbrev pub print_method : ℕ → Method
 print_method name = record {
-  entity = 5;
+  entity = out_stream_entity;
   name = name;
   kind = method.Be;
   receiver = cap.Ref;
-  params = record { entity = 3; cap = cap.Val; span = nowhere } ∷ [];
-  result = (0, form.Val);
+  params = record { entity = string_entity; cap = cap.Val; span = nowhere } ∷ [];
+  result = (none_entity, form.Val);
   first_slot = 0;
   slots = 0;
   first_node = 0;
@@ -50,14 +52,14 @@ print_method name = record {
 
 -- The first six entities and the first method are those of the language.
 pub record HasBuiltIn (core : CoreData) : Type 0 where
-  pub none : slice_get core.entities 0 ≡ Some (built_in_value (codes "None"))
-  pub numbers : slice_get core.entities 1 ≡ Some (built_in_value (codes "U64"))
-  pub truths : slice_get core.entities 2 ≡ Some (built_in_value (codes "Bool"))
-  pub texts : slice_get core.entities 3 ≡ Some (built_in_value (codes "String"))
+  pub none : slice_get core.entities none_entity ≡ Some (built_in_value (codes "None"))
+  pub numbers : slice_get core.entities u64_entity ≡ Some (built_in_value (codes "U64"))
+  pub truths : slice_get core.entities bool_entity ≡ Some (built_in_value (codes "Bool"))
+  pub texts : slice_get core.entities string_entity ≡ Some (built_in_value (codes "String"))
   pub out : ℕ
   pub out_name : slice_get core.names out ≡ Some (codes "out")
-  pub env : slice_get core.entities 4 ≡ Some (built_in kind.Class cap.Val (codes "Env") (out_field out ∷ []) 0)
-  pub stream : slice_get core.entities 5 ≡ Some (built_in kind.Actor cap.Tag (codes "OutStream") [] 1)
+  pub env : slice_get core.entities env_entity ≡ Some (built_in kind.Class cap.Val (codes "Env") (out_field out ∷ []) 0)
+  pub stream : slice_get core.entities out_stream_entity ≡ Some (built_in kind.Actor cap.Tag (codes "OutStream") [] 1)
   pub print : ℕ
   pub print_name : slice_get core.names print ≡ Some (codes "print")
   pub method : slice_get core.methods 0 ≡ Some (print_method print)
@@ -77,7 +79,7 @@ pub record HasMain (core : CoreData) : Type 0 where
   pub spawns : create.kind ≡ method.Spawn
   pub param : ParamInfo
   pub params : create.params ≡ param ∷ []
-  pub env : param.entity ≡ 4
+  pub env : param.entity ≡ env_entity
   pub cap : param.cap ≡ cap.Val
 
 -- An entity is a trait or an interface.
@@ -100,7 +102,7 @@ pub record EntityFits (core : CoreData) (e : ℕ) (x : EntityDef) : Type 0 where
   pub ascends : Ascends x.above
   pub above : (b : ℕ) → (Has x.above b) ↔ (Leads core e b)
   -- its fields
-  pub few_fields : length x.fields ≤ 64
+  pub few_fields : length x.fields ≤ field_limit
   pub placed_fields : (x.fields ≡ []) ⊎ (may_have_fields x.kind ≡ true)
   pub fields : Each (λ i f. (f.name < length core.names) × (f.entity < length core.entities)) x.fields
   -- the names of its fields and methods differ

@@ -4,11 +4,13 @@ use Rattle.pc_caps.specs.Tables.{unalias}
 use Rattle.pc_caps.specs.declared.capability.Cap.{Cap}
 use Rattle.pc_caps.specs.declared.capability.Cap.TheVariants as cap
 use Rattle.pc_caps.specs.declared.capability.Form.TheVariants as form
+use Rattle.pc_caps.specs.Limits.{slot_limit}
 use Rattle.pc_tree.specs.declared.kinds.EntityKind.{EntityKind}
 use Rattle.pc_tree.specs.declared.kinds.EntityKind.TheVariants as kind
 use Rattle.pc_tree.specs.declared.kinds.MethodWord.{MethodWord}
 use Rattle.pc_tree.specs.declared.kinds.MethodWord.TheVariants as word
 use Rattle.pc_tree.specs.Kinds.{is_abstract, may_stand}
+use Rattle.pc_tree.specs.BuiltIn.{none_entity}
 use Rattle.pc_core.specs.declared.declarations.EntityDef.{EntityDef}
 use Rattle.pc_core.specs.declared.declarations.Method.{Method}
 use Rattle.pc_core.specs.declared.declarations.MethodKind.{MethodKind}
@@ -45,7 +47,7 @@ StandsIn m e = (w : MethodWord) × (may_stand e w ≡ true) × (word_kind e w �
 -- some capability that no place holds. In all three `this` is `ref`.
 abbrev pub ResultFits : MethodKind → Method → Type 0
 ResultFits method.Fun x = Unit {0}
-ResultFits method.Be x = (x.receiver ≡ cap.Ref) × (x.result ≡ (0, form.Val))
+ResultFits method.Be x = (x.receiver ≡ cap.Ref) × (x.result ≡ (none_entity, form.Val))
 ResultFits method.New x = (x.receiver ≡ cap.Ref) × (x.result.0 ≡ x.entity) × ((k : Cap) × (x.result.1 ≡ unalias k))
 ResultFits method.Spawn x = (x.receiver ≡ cap.Ref) × (x.result ≡ (x.entity, form.Tag))
 
@@ -59,7 +61,8 @@ param_slot m p = record { method = m; kind = slot.Param; depth = 0; written = So
 abbrev pub is_local : SlotKind → Bool
 is_local slot.Let = true
 is_local slot.Var = true
-is_local k = false
+is_local slot.This = false
+is_local slot.Param = false
 
 -- A node of this kind uses the slot of index s.
 abbrev pub Uses : ℕ → NodeKind → Type 0
@@ -128,7 +131,7 @@ pub record MethodFits (core : CoreData) (m : ℕ) (x : Method) : Type 0 where
   pub result : x.result.0 < length core.entities
   pub result_fits : ResultFits x.kind x
   -- its slots
-  pub few_slots : x.slots ≤ 64
+  pub few_slots : x.slots ≤ slot_limit
   pub slots : (m ≡ 0) ⊎ SlotsFit core m x
   -- its nodes
   pub has_body : (m ≡ 0) ⊎ (is_abstract owner.kind ≡ true) ⊎ IsSome x.body

@@ -3,6 +3,7 @@ use Rattle.std.specs.Prelude.{◌≡◌, ◌⊎◌, ℕ, ◌+◌, ◌<◌, ◌�
 use Rattle.pc_tree.specs.declared.kinds.EntityKind.TheVariants as kind
 use Rattle.pc_tree.specs.declared.kinds.Op.{Op}
 use Rattle.pc_tree.specs.declared.kinds.Op.TheVariants as op
+use Rattle.pc_tree.specs.BuiltIn.{none_entity, first_own}
 use Rattle.pc_core.specs.declared.declarations.EntityDef.{EntityDef}
 use Rattle.pc_core.specs.declared.declarations.Method.{Method}
 use Rattle.pc_core.specs.declared.declarations.MethodKind.{MethodKind}
@@ -57,7 +58,7 @@ is_binary o = true
 
 -- A primitive whose value is written: None, or one of the file.
 abbrev pub NamesPrimitive : CoreData → ℕ → Type 0
-NamesPrimitive core e = (e ≡ 0) ⊎ ((6 ≤ e) × ((x : EntityDef) × (slice_get core.entities e ≡ Some x) × (x.kind ≡ kind.Primitive)))
+NamesPrimitive core e = (e ≡ none_entity) ⊎ ((first_own ≤ e) × ((x : EntityDef) × (slice_get core.entities e ≡ Some x) × (x.kind ≡ kind.Primitive)))
 
 -- A method of this kind.
 abbrev pub NamesMethod : CoreData → MethodKind → ℕ → Type 0

@@ -27,8 +27,8 @@ impl Model for MethodIndex {
 }
 
 impl fmt::Debug for MethodIndex {
-    fn fmt<W: fmt::Write>(&self, f: &mut fmt::Formatter<W>) -> fmt::Result {
-        f.write_str("MethodIndex")
+    fn fmt<W: fmt::Write>(&self, formatter: &mut fmt::Formatter<W>) -> fmt::Result {
+        formatter.write_str("MethodIndex")
     }
 }
 

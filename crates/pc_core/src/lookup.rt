@@ -1,5 +1,6 @@
 //! Fields and methods by their names.
 ghost use Rattle.std.specs.Prelude.{◌≡◌, ℕ, ◌+◌, ◌<◌, ◌≤◌, ◌^◌, length, MatchOption, slice_range};
+ghost use Rattle.pc_caps.specs.Limits.{field_limit};
 ghost use Rattle.pc_core.specs.Lookup as spec;
 ghost use Rattle.pc_lists.specs.Lookup.{place_of};
 
@@ -53,7 +54,7 @@ fn part(methods: &[Method], first: u32, count: u32) -> &[Method]
 
 // The index of the first field of this name.
 fn place_of_field(fields: &[FieldInfo], name: u32) -> Option<u32>
-    requires { length fields.now ≤ 64 }
+    requires { length fields.now ≤ field_limit }
     ensures { result ≡ place_of spec.field_name name fields.now 0 }
 {
     let mut at = 0;

@@ -66,7 +66,11 @@ impl Text {
     {
         let form = match (&left.form, &right.form) {
             (Form::Whole(left), Form::Whole(right)) => join_whole(alloc, left, right)?,
-            (_, _) => Form::Pieces(joined(alloc, left.pieces(), right.pieces())?),
+            (Form::Pieces(_), _) | (Form::Whole(_), Form::Pieces(_)) => Form::Pieces(joined(
+                alloc,
+                left.pieces(),
+                right.pieces(),
+            )?),
         };
         Ok(Text { form })
     }

@@ -7,6 +7,7 @@ use Rattle.pc_caps.specs.declared.capability.Cap.{Cap}
 use Rattle.pc_caps.specs.declared.capability.Cap.TheVariants as cap
 use Rattle.pc_caps.specs.declared.capability.Form.{Form}
 use Rattle.pc_caps.specs.declared.capability.Form.TheVariants as form
+use Rattle.pc_tree.specs.BuiltIn.{none_entity, u64_entity, bool_entity, string_entity}
 use Rattle.pc_core.specs.declared.declarations.Method.{Method}
 use Rattle.pc_core.specs.declared.declarations.MethodKind.{MethodKind}
 use Rattle.pc_core.specs.declared.declarations.MethodKind.TheVariants as method
@@ -61,11 +62,15 @@ called core ns name = do
 
 abbrev pub is_function : MethodKind → Bool
 is_function method.Fun = true
-is_function k = false
+is_function method.Be = false
+is_function method.New = false
+is_function method.Spawn = false
 
 abbrev pub is_behaviour : MethodKind → Bool
 is_behaviour method.Be = true
-is_behaviour k = false
+is_behaviour method.Fun = false
+is_behaviour method.New = false
+is_behaviour method.Spawn = false
 
 -- The method is a function, the arguments go, and the receiver fits.
 abbrev pub calls : CoreData → List Note → Ty → Method → Bool
@@ -82,12 +87,20 @@ call_says core ns name m = do
 abbrev pub is_isolated : Form → Bool
 is_isolated form.Iso = true
 is_isolated form.Trn = true
-is_isolated f = false
+is_isolated form.IsoE = false
+is_isolated form.TrnE = false
+is_isolated form.Ref = false
+is_isolated form.Val = false
+is_isolated form.Box = false
+is_isolated form.Tag = false
 
 abbrev pub is_lent : Cap → Bool
 is_lent cap.Ref = true
 is_lent cap.Box = true
-is_lent k = false
+is_lent cap.Iso = false
+is_lent cap.Trn = false
+is_lent cap.Val = false
+is_lent cap.Tag = false
 
 -- The argument has a sendable form, or goes to a sendable parameter.
 abbrev pub argument_sendable : ParamInfo → Option Ty → Bool
@@ -132,7 +145,7 @@ send_says core ns name m = do
   i ← called core ns name
   f ← slice_get core.methods i.1
   n ← through_notes ns m
-  if sends core ns f then Some (says_of (Some (0, form.Val)) n) else None
+  if sends core ns f then Some (says_of (Some (none_entity, form.Val)) n) else None
 
 -- ---- the text of a value
 
@@ -143,7 +156,7 @@ same_text a b = false
 
 -- A number or a truth value.
 abbrev pub has_text : Ty → Bool
-has_text v = reads_as 1 v || reads_as 2 v
+has_text v = reads_as u64_entity v || reads_as bool_entity v
 
 -- Builtin: `string` without arguments, on a readable U64 or Bool; a String.
 abbrev pub has_string : List ℕ → Ty → Bool
@@ -154,4 +167,4 @@ builtin_says core ns name m = do
   v ← one_type ns
   text ← slice_get core.names name
   n ← through_notes ns m
-  if has_string text v then Some (says_of (Some (3, form.Val)) n) else None
+  if has_string text v then Some (says_of (Some (string_entity, form.Val)) n) else None

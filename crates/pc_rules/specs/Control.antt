@@ -6,6 +6,7 @@ use Rattle.pc_rules.specs.Operators.{meet_masks}
 use Rattle.pc_caps.specs.declared.capability.Cap.{Cap}
 use Rattle.pc_caps.specs.declared.capability.Form.{Form}
 use Rattle.pc_caps.specs.declared.capability.Form.TheVariants as form
+use Rattle.pc_tree.specs.BuiltIn.{none_entity, bool_entity}
 use Rattle.pc_core.specs.declared.declarations.Method.{Method}
 use Rattle.pc_core.specs.declared.declarations.MethodKind.{MethodKind}
 use Rattle.pc_core.specs.declared.declarations.MethodKind.TheVariants as method
@@ -59,7 +60,7 @@ branch_masks c m = if starts c.0 m && (starts c.1 (after c.0) && starts c.2 (aft
 -- A condition is a readable Bool.
 abbrev pub is_condition : Option Ty → Bool
 is_condition None = false
-is_condition (Some v) = reads_as 2 v
+is_condition (Some v) = reads_as bool_entity v
 
 -- If: the two branches' type.
 abbrev pub if_says : CoreData → List Note → Masks → Option Said
@@ -81,7 +82,7 @@ abbrev pub while_says : List Note → Masks → Option Said
 while_says ns m = do
   c ← two_notes ns
   n ← loop_masks c m
-  if is_condition c.0.ty then Some (says_of (Some (0, form.Val)) n) else None
+  if is_condition c.0.ty then Some (says_of (Some (none_entity, form.Val)) n) else None
 
 -- ---- recover
 
@@ -115,7 +116,9 @@ gives core r (Some v) = lower core v r
 
 abbrev pub result_ok : CoreData → MethodKind → Ty → Option Ty → Bool
 result_ok core method.Fun r v = gives core r v
-result_ok core k r v = true
+result_ok core method.Be r v = true
+result_ok core method.New r v = true
+result_ok core method.Spawn r v = true
 
 -- Body: the masks are those of the start, and a function's sequence gives its result. There is no value.
 abbrev pub body_says : CoreData → List Note → Node → Masks → Option Said

@@ -10,6 +10,7 @@ use Rattle.pc_caps.specs.declared.capability.Form.{Form}
 use Rattle.pc_caps.specs.declared.capability.Form.TheVariants as form
 use Rattle.pc_caps.specs.declared.span.Span.{Span}
 use Rattle.pc_tree.specs.declared.kinds.EntityKind.TheVariants as kind
+use Rattle.pc_tree.specs.BuiltIn.{none_entity, env_entity}
 use Rattle.pc_core.specs.declared.declarations.EntityDef.{EntityDef}
 use Rattle.pc_core.specs.declared.declarations.Method.{Method}
 use Rattle.pc_core.specs.declared.declarations.MethodKind.TheVariants as method
@@ -57,7 +58,7 @@ create_main = record {
   name = 2;
   kind = method.Spawn;
   receiver = cap.Ref;
-  params = record { entity = 4; cap = cap.Val; span = at 32 35 } ∷ [];
+  params = record { entity = env_entity; cap = cap.Val; span = at 32 35 } ∷ [];
   result = (7, form.Tag);
   first_slot = 1;
   slots = 3;
@@ -79,10 +80,10 @@ four_slots = record {
   slots =
       record { method = 1; kind = slot.This; depth = 0; written = Some (6, cap.Ref) }
       ∷ record { method = 2; kind = slot.This; depth = 0; written = Some (7, cap.Ref) }
-      ∷ record { method = 2; kind = slot.Param; depth = 0; written = Some (4, cap.Val) }
+      ∷ record { method = 2; kind = slot.Param; depth = 0; written = Some (env_entity, cap.Val) }
       ∷ record { method = 2; kind = slot.Let; depth = 0; written = Some (6, cap.Iso) } ∷ [];
   nodes =
-      node_of 1 (node.Prim 0) [] (at 6 7) ∷ node_of 1 node.Seq (0 ∷ []) (at 6 7) ∷ node_of 1 node.Body (1 ∷ []) (at 6 7)
+      node_of 1 (node.Prim none_entity) [] (at 6 7) ∷ node_of 1 node.Seq (0 ∷ []) (at 6 7) ∷ node_of 1 node.Body (1 ∷ []) (at 6 7)
       ∷ node_of 2 (node.New 1) [] (at 64 65) ∷ node_of 2 (node.Define 2) (3 ∷ []) (at 49 65) ∷ node_of 2 node.Seq (4 ∷ []) (at 49 65)
       ∷ node_of 2 node.Body (5 ∷ []) (at 25 31) ∷ [];
   names = codes "out" ∷ codes "print" ∷ codes "create" ∷ [];
@@ -102,9 +103,9 @@ noted r ty before after = record {
 
 abbrev pub derivation : Ann
 derivation = record {
-  slots = (6, cap.Ref) ∷ (7, cap.Ref) ∷ (4, cap.Val) ∷ (6, cap.Iso) ∷ [];
+  slots = (6, cap.Ref) ∷ (7, cap.Ref) ∷ (env_entity, cap.Val) ∷ (6, cap.Iso) ∷ [];
   notes =
-      noted rule.Prim (Some (0, form.Val)) 1 1 ∷ noted rule.Seq (Some (0, form.Val)) 1 1 ∷ noted rule.Body None 1 1
+      noted rule.Prim (Some (none_entity, form.Val)) 1 1 ∷ noted rule.Seq (Some (none_entity, form.Val)) 1 1 ∷ noted rule.Body None 1 1
       ∷ noted rule.New (Some (6, form.IsoE)) 3 3 ∷ noted rule.Define None 3 7 ∷ noted rule.Seq None 3 3 ∷ noted rule.Body None 3 3 ∷ [];
 }
 

@@ -7,6 +7,7 @@ use Rattle.pc_caps.specs.declared.capability.Cap.TheVariants as cap
 use Rattle.pc_caps.specs.declared.capability.Form.{Form}
 use Rattle.pc_caps.specs.declared.capability.Form.TheVariants as form
 use Rattle.pc_tree.specs.declared.kinds.Op.{Op}
+use Rattle.pc_tree.specs.BuiltIn.{none_entity, u64_entity, bool_entity, string_entity}
 use Rattle.pc_core.specs.declared.declarations.FieldInfo.{FieldInfo}
 use Rattle.pc_core.specs.declared.declarations.Method.{Method}
 use Rattle.pc_core.specs.declared.declarations.MethodKind.TheVariants as method
@@ -266,7 +267,7 @@ pub record Send (core : CoreData) (own : Note) (ns : List Note) (name : ℕ) : T
   pub call : Called core ns name
   pub behaviour : call.called.kind ≡ method.Be
   pub go : Go core call.arguments call.called.params
-  pub type : own.ty ≡ Some (0, form.Val)
+  pub type : own.ty ≡ Some (none_entity, form.Val)
   pub masks : OneAfterOther ns (before own) (after own)
 
 -- The text of a number or of a truth value.
@@ -274,8 +275,8 @@ pub record Builtin (core : CoreData) (own : Note) (ns : List Note) (name : ℕ) 
   pub child : Note
   pub children : ns ≡ child ∷ []
   pub is_string : slice_get core.names name ≡ Some (codes "string")
-  pub reads : Reads 1 child.ty ⊎ Reads 2 child.ty
-  pub type : own.ty ≡ Some (3, form.Val)
+  pub reads : Reads u64_entity child.ty ⊎ Reads bool_entity child.ty
+  pub type : own.ty ≡ Some (string_entity, form.Val)
   pub masks : OneAfterOther ns (before own) (after own)
 
 -- ---- operators
@@ -283,44 +284,44 @@ pub record Builtin (core : CoreData) (own : Note) (ns : List Note) (name : ℕ) 
 -- Arithmetic.
 pub record Arith (own : Note) (ns : List Note) (o : Op) : Type 0 where
   pub operator : is_arithmetic o ≡ true
-  pub both : BothRead 1 ns
-  pub type : own.ty ≡ Some (1, form.Val)
+  pub both : BothRead u64_entity ns
+  pub type : own.ty ≡ Some (u64_entity, form.Val)
   pub masks : OneAfterOther ns (before own) (after own)
 
 -- Less and greater.
 pub record Compare (own : Note) (ns : List Note) (o : Op) : Type 0 where
   pub operator : is_comparison o ≡ true
-  pub both : BothRead 1 ns
-  pub type : own.ty ≡ Some (2, form.Val)
+  pub both : BothRead u64_entity ns
+  pub type : own.ty ≡ Some (bool_entity, form.Val)
   pub masks : OneAfterOther ns (before own) (after own)
 
 -- Equality.
 pub record Equal (own : Note) (ns : List Note) (o : Op) : Type 0 where
   pub operator : is_equality o ≡ true
-  pub both : BothRead 1 ns ⊎ (BothRead 2 ns ⊎ BothRead 3 ns)
-  pub type : own.ty ≡ Some (2, form.Val)
+  pub both : BothRead u64_entity ns ⊎ (BothRead bool_entity ns ⊎ BothRead string_entity ns)
+  pub type : own.ty ≡ Some (bool_entity, form.Val)
   pub masks : OneAfterOther ns (before own) (after own)
 
 -- Two texts as one.
 pub record Join (own : Note) (ns : List Note) (o : Op) : Type 0 where
   pub operator : is_add o ≡ true
-  pub both : BothRead 3 ns
-  pub type : own.ty ≡ Some (3, form.Val)
+  pub both : BothRead string_entity ns
+  pub type : own.ty ≡ Some (string_entity, form.Val)
   pub masks : OneAfterOther ns (before own) (after own)
 
 -- `xor`.
 pub record Xor (own : Note) (ns : List Note) (o : Op) : Type 0 where
   pub operator : is_xor o ≡ true
-  pub both : BothRead 2 ns
-  pub type : own.ty ≡ Some (2, form.Val)
+  pub both : BothRead bool_entity ns
+  pub type : own.ty ≡ Some (bool_entity, form.Val)
   pub masks : OneAfterOther ns (before own) (after own)
 
 -- `not`.
 pub record Not (own : Note) (ns : List Note) : Type 0 where
   pub child : Note
   pub children : ns ≡ child ∷ []
-  pub reads : Reads 2 child.ty
-  pub type : own.ty ≡ Some (2, form.Val)
+  pub reads : Reads bool_entity child.ty
+  pub type : own.ty ≡ Some (bool_entity, form.Val)
   pub masks : OneAfterOther ns (before own) (after own)
 
 -- `and` and `or`.
@@ -328,9 +329,9 @@ pub record Lazy (own : Note) (ns : List Note) : Type 0 where
   pub left : Note
   pub right : Note
   pub children : ns ≡ left ∷ right ∷ []
-  pub left_reads : Reads 2 left.ty
-  pub right_reads : Reads 2 right.ty
-  pub type : own.ty ≡ Some (2, form.Val)
+  pub left_reads : Reads bool_entity left.ty
+  pub right_reads : Reads bool_entity right.ty
+  pub type : own.ty ≡ Some (bool_entity, form.Val)
   pub starts : before left ≡ before own
   pub goes_on : before right ≡ after left
   pub masks : after own ≡ meet_masks (after left) (after right)
@@ -344,7 +345,7 @@ pub record Identity (own : Note) (ns : List Note) : Type 0 where
   pub is_left : left.ty ≡ Some left_type
   pub right_type : Ty
   pub is_right : right.ty ≡ Some right_type
-  pub type : own.ty ≡ Some (2, form.Val)
+  pub type : own.ty ≡ Some (bool_entity, form.Val)
   pub masks : OneAfterOther ns (before own) (after own)
 
 -- ---- control
@@ -365,7 +366,7 @@ pub record If (core : CoreData) (own : Note) (ns : List Note) : Type 0 where
   pub yes : Note
   pub no : Note
   pub children : ns ≡ condition ∷ yes ∷ no ∷ []
-  pub reads : Reads 2 condition.ty
+  pub reads : Reads bool_entity condition.ty
   pub type : own.ty ≡ joined core yes.ty no.ty
   pub starts : before condition ≡ before own
   pub yes_starts : before yes ≡ after condition
@@ -377,8 +378,8 @@ pub record While (own : Note) (ns : List Note) : Type 0 where
   pub condition : Note
   pub body : Note
   pub children : ns ≡ condition ∷ body ∷ []
-  pub reads : Reads 2 condition.ty
-  pub type : own.ty ≡ Some (0, form.Val)
+  pub reads : Reads bool_entity condition.ty
+  pub type : own.ty ≡ Some (none_entity, form.Val)
   pub starts : before condition ≡ before own
   pub body_starts : before body ≡ after condition
   pub keeps : within own.live_before body.live_after ≡ true
@@ -412,9 +413,9 @@ pub record Body (core : CoreData) (own : Note) (ns : List Note) (x : Node) : Typ
 
 -- The note meets this rule of a node of this kind.
 abbrev pub Means : CoreData → Slots → Note → List Note → Node → Rule → NodeKind → Type 0
-Means core slots own ns x rule.Number (node.Number v) = Literal own 1
-Means core slots own ns x rule.Truth (node.Truth v) = Literal own 2
-Means core slots own ns x rule.Text (node.Text v) = Literal own 3
+Means core slots own ns x rule.Number (node.Number v) = Literal own u64_entity
+Means core slots own ns x rule.Truth (node.Truth v) = Literal own bool_entity
+Means core slots own ns x rule.Text (node.Text v) = Literal own string_entity
 Means core slots own ns x rule.Prim (node.Prim e) = Literal own e
 Means core slots own ns x rule.This node.This = This core slots own x
 Means core slots own ns x rule.Local (node.Local s) = Local core slots own x s

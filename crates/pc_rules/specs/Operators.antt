@@ -4,6 +4,7 @@ use Rattle.pc_tree.specs.declared.kinds.Op.{Op}
 use Rattle.pc_tree.specs.declared.kinds.Op.TheVariants as op
 use Rattle.pc_rules.specs.Parts.{Ty, Masks, says_of, reads_as, starts, after, through_notes, one_type, two_notes, two_types}
 use Rattle.pc_caps.specs.declared.capability.Form.TheVariants as form
+use Rattle.pc_tree.specs.BuiltIn.{u64_entity, bool_entity, string_entity}
 use Rattle.pc_lists.specs.Options.{◌>>=◌}
 use Rattle.pc_ann.specs.declared.annotation.Note.{Note}
 use Rattle.pc_masks.specs.Masks.{meet}
@@ -51,46 +52,46 @@ value_says e ns m = do
 abbrev pub arith_says : List Note → Op → Masks → Option Said
 arith_says ns o m = do
   vs ← two_types ns
-  if is_arithmetic o && both_read_as 1 vs then value_says 1 ns m else None
+  if is_arithmetic o && both_read_as u64_entity vs then value_says u64_entity ns m else None
 
 -- Compare: both U64; Bool.
 abbrev pub compare_says : List Note → Op → Masks → Option Said
 compare_says ns o m = do
   vs ← two_types ns
-  if is_comparison o && both_read_as 1 vs then value_says 2 ns m else None
+  if is_comparison o && both_read_as u64_entity vs then value_says bool_entity ns m else None
 
 -- Both U64, both Bool or both String.
 abbrev pub comparable : Ty × Ty → Bool
-comparable vs = both_read_as 1 vs || (both_read_as 2 vs || both_read_as 3 vs)
+comparable vs = both_read_as u64_entity vs || (both_read_as bool_entity vs || both_read_as string_entity vs)
 
 -- Equal: two such values; Bool.
 abbrev pub equal_says : List Note → Op → Masks → Option Said
 equal_says ns o m = do
   vs ← two_types ns
-  if is_equality o && comparable vs then value_says 2 ns m else None
+  if is_equality o && comparable vs then value_says bool_entity ns m else None
 
 -- Join: `+` on two Strings; String.
 abbrev pub join_says : List Note → Op → Masks → Option Said
 join_says ns o m = do
   vs ← two_types ns
-  if is_add o && both_read_as 3 vs then value_says 3 ns m else None
+  if is_add o && both_read_as string_entity vs then value_says string_entity ns m else None
 
 -- Logic: `xor` on two Bools, or `not` on one; Bool.
 abbrev pub xor_says : List Note → Op → Masks → Option Said
 xor_says ns o m = do
   vs ← two_types ns
-  if is_xor o && both_read_as 2 vs then value_says 2 ns m else None
+  if is_xor o && both_read_as bool_entity vs then value_says bool_entity ns m else None
 
 abbrev pub not_says : List Note → Masks → Option Said
 not_says ns m = do
   v ← one_type ns
-  if reads_as 2 v then value_says 2 ns m else None
+  if reads_as bool_entity v then value_says bool_entity ns m else None
 
 -- Identity: two values of any type; Bool.
 abbrev pub identity_says : List Note → Masks → Option Said
 identity_says ns m = do
   vs ← two_types ns
-  value_says 2 ns m
+  value_says bool_entity ns m
 
 -- The masks behind both of two ways.
 abbrev pub meet_masks : Masks → Masks → Masks
@@ -107,4 +108,4 @@ abbrev pub lazy_says : List Note → Masks → Option Said
 lazy_says ns m = do
   vs ← two_types ns
   n ← lazy_masks ns m
-  if both_read_as 2 vs then Some (says_of (Some (2, form.Val)) n) else None
+  if both_read_as bool_entity vs then Some (says_of (Some (bool_entity, form.Val)) n) else None

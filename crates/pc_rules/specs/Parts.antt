@@ -72,7 +72,8 @@ reachable x i = nat_eq i.0.depth x.depth || sendable i.1.1
 abbrev pub constructs : MethodKind → Bool
 constructs method.New = true
 constructs method.Spawn = true
-constructs k = false
+constructs method.Fun = false
+constructs method.Be = false
 
 -- How many fields an entity has.
 abbrev pub fields_in : Option EntityDef → ℕ

@@ -1,6 +1,7 @@
 -- The rules: what each says of a node by the types of the slots and the notes of its children, in order, and when a node
 -- meets the rule of its note.
 use Rattle.std.specs.Prelude.{◌≡◌, ℕ, List, Option, Some, None, slice_get}
+use Rattle.pc_tree.specs.BuiltIn.{u64_entity, bool_entity, string_entity}
 use Rattle.pc_ann.specs.declared.annotation.Rule.{Rule}
 use Rattle.pc_ann.specs.declared.annotation.Rule.TheVariants as rule
 use Rattle.pc_rules.specs.Parts.{Masks, Slots, before, notes_of}
@@ -21,9 +22,9 @@ use Rattle.pc_rules.specs.declared.said.Said.{Said}
 -- What a rule says of node x, with these masks before it, where it is a rule for a node of this kind and its condition
 -- holds: the node's type, or none, and the masks after it.
 abbrev pub rule_says : CoreData → Slots → List Note → Node → Masks → Rule → NodeKind → Option Said
-rule_says core slots ns x m rule.Number (node.Number v) = literal_says 1 m
-rule_says core slots ns x m rule.Truth (node.Truth v) = literal_says 2 m
-rule_says core slots ns x m rule.Text (node.Text v) = literal_says 3 m
+rule_says core slots ns x m rule.Number (node.Number v) = literal_says u64_entity m
+rule_says core slots ns x m rule.Truth (node.Truth v) = literal_says bool_entity m
+rule_says core slots ns x m rule.Text (node.Text v) = literal_says string_entity m
 rule_says core slots ns x m rule.Prim (node.Prim e) = literal_says e m
 rule_says core slots ns x m rule.This node.This = this_says core slots x m
 rule_says core slots ns x m rule.Local (node.Local s) = local_says core slots x s m

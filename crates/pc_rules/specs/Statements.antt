@@ -1,5 +1,6 @@
 -- Laws of the rules.
 use Rattle.std.specs.Prelude.{◌≡◌, ◌≢◌, ◌⊎◌, ◌↔◌, ℕ, ◌<◌, List, Some, slice_get}
+use Rattle.pc_caps.specs.Limits.{slot_limit}
 use Rattle.pc_core.specs.declared.nodes.Node.{Node}
 use Rattle.pc_core.specs.declared.nodes.NodeKind.{NodeKind}
 use Rattle.pc_core.specs.declared.nodes.NodeKind.TheVariants as node
@@ -31,7 +32,7 @@ ConsumeTakesOut =
 abbrev pub DefinePutsIn : Type 0
 DefinePutsIn =
     (core : CoreData) (ann : Ann) (x : Node) (s : ℕ) (m n : Masks) (r : Said) → says core ann x m rule.Define (node.Define s) ≡ Some r → through ann x.children m ≡ Some n
-    → ((i : ℕ) → (IsIn r.live i) ↔ (((i ≡ s) × (s < 64)) ⊎ IsIn n.0 i)) × (r.set ≡ n.1)
+    → ((i : ℕ) → (IsIn r.live i) ↔ (((i ≡ s) × (s < slot_limit)) ⊎ IsIn n.0 i)) × (r.set ≡ n.1)
 
 -- One of these nodes defines the slot of this index.
 abbrev pub Defines : CoreData → List ℕ → ℕ → Type 0

@@ -84,7 +84,9 @@ define_says core slots ns x s m = do
 
 abbrev pub is_var : SlotKind → Bool
 is_var slot.Var = true
-is_var k = false
+is_var slot.This = false
+is_var slot.Param = false
+is_var slot.Let = false
 
 -- Assign: the slot is a `var` and reachable, and the value goes to its type; the slot is live then. The value is the old
 -- one, where there is one.

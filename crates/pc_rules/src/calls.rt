@@ -9,6 +9,7 @@ use crate::said::Said;
 use pc_caps::{Cap, Form, fits, sendable, sendable_form};
 use pc_core::{Core, Method, MethodKind, ParamInfo};
 use pc_masks::Mask;
+use pc_tree::{BOOL_ENTITY, NONE_ENTITY, STRING_ENTITY, U64_ENTITY};
 
 // Whether the argument of this type goes to the parameter.
 fn argument_goes(core: &Core, param: ParamInfo, argument: Option<(u32, Form)>) -> bool
@@ -269,7 +270,7 @@ pub(crate) fn send_says(
     let method = core.method_at(found.1)?;
     let reached = through_notes(children, masks)?;
     if sends(core, children, method) {
-        Some(says_of(Some((0, Form::Val)), reached))
+        Some(says_of(Some((NONE_ENTITY, Form::Val)), reached))
     } else {
         None
     }
@@ -279,15 +280,15 @@ pub(crate) fn send_says(
 fn has_text(ty: (u32, Form)) -> bool
     ensures { result ≡ spec.has_text ty }
 {
-    reads_as(1, ty) || reads_as(2, ty)
+    reads_as(U64_ENTITY, ty) || reads_as(BOOL_ENTITY, ty)
 }
 
 // Whether two texts are equal.
-fn same_text(a: &[u8], b: &[u8]) -> bool
-    ensures { result ≡ spec.same_text a.now b.now }
+fn same_text(one: &[u8], other: &[u8]) -> bool
+    ensures { result ≡ spec.same_text one.now other.now }
 {
-    let mut left = b;
-    for byte in a {
+    let mut left = other;
+    for byte in one {
         match left {
             [] => return false,
             [first, others @ ..] => {
@@ -320,7 +321,7 @@ pub(crate) fn builtin_says(
     let text = core.name_at(name)?;
     let reached = through_notes(children, masks)?;
     if has_string(text.as_slice(), ty) {
-        Some(says_of(Some((3, Form::Val)), reached))
+        Some(says_of(Some((STRING_ENTITY, Form::Val)), reached))
     } else {
         None
     }

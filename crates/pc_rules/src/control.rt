@@ -11,9 +11,10 @@ use crate::parts::{
 };
 use crate::said::Said;
 use pc_ann::Note;
-use pc_caps::{Cap, Form, fits, lift, unalias};
+use pc_caps::{Cap, Form, fits, lift, unalias, SLOT_LIMIT};
 use pc_core::{Core, Method, MethodKind, Node, NodeKind};
 use pc_masks::Mask;
+use pc_tree::{BOOL_ENTITY, NONE_ENTITY};
 
 // The live mask without the slot that a node defines.
 fn without_definition(kind: &NodeKind, live: Mask) -> Mask
@@ -21,7 +22,29 @@ fn without_definition(kind: &NodeKind, live: Mask) -> Mask
 {
     match kind {
         NodeKind::Define(slot) => live.without(*slot),
-        _ => live,
+        NodeKind::Number(_)
+        | NodeKind::Truth(_)
+        | NodeKind::Text(_)
+        | NodeKind::Prim(_)
+        | NodeKind::This
+        | NodeKind::Local(_)
+        | NodeKind::Consume(_)
+        | NodeKind::Field(_)
+        | NodeKind::SetField(_)
+        | NodeKind::Assign(_)
+        | NodeKind::New(_)
+        | NodeKind::Spawn(_)
+        | NodeKind::Call(_)
+        | NodeKind::Binary(_)
+        | NodeKind::Not
+        | NodeKind::And
+        | NodeKind::Or
+        | NodeKind::Same(_)
+        | NodeKind::Seq
+        | NodeKind::If
+        | NodeKind::While
+        | NodeKind::Recover(_)
+        | NodeKind::Body => live,
     }
 }
 
@@ -61,22 +84,22 @@ pub(crate) fn seq_says(
 }
 
 // The type of two branches.
-fn joined(core: &Core, a: Option<(u32, Form)>, b: Option<(u32, Form)>) -> Option<(u32, Form)>
-    ensures { result ≡ spec.joined core.now a b }
+fn joined(core: &Core, one: Option<(u32, Form)>, other: Option<(u32, Form)>) -> Option<(u32, Form)>
+    ensures { result ≡ spec.joined core.now one other }
 {
-    match (a, b) {
+    match (one, other) {
         (Some(first), Some(second)) => joined_types(core, first, second),
         (_, _) => None,
     }
 }
 
-fn joined_types(core: &Core, a: (u32, Form), b: (u32, Form)) -> Option<(u32, Form)>
-    ensures { result ≡ spec.joined_types core.now a b }
+fn joined_types(core: &Core, one: (u32, Form), other: (u32, Form)) -> Option<(u32, Form)>
+    ensures { result ≡ spec.joined_types core.now one other }
 {
-    if lower(core, a, b) {
-        Some(b)
-    } else if lower(core, b, a) {
-        Some(a)
+    if lower(core, one, other) {
+        Some(other)
+    } else if lower(core, other, one) {
+        Some(one)
     } else {
         None
     }
@@ -100,7 +123,7 @@ fn is_condition(ty: Option<(u32, Form)>) -> bool
 {
     match ty {
         None => false,
-        Some(ty) => reads_as(2, ty),
+        Some(ty) => reads_as(BOOL_ENTITY, ty),
     }
 }
 
@@ -139,7 +162,7 @@ pub(crate) fn while_says(children: &Children, masks: (Mask, Mask)) -> Option<Sai
     let notes = two_notes(children)?;
     let reached = loop_masks(notes, masks)?;
     if is_condition(notes.0.ty) {
-        Some(says_of(Some((0, Form::Val)), reached))
+        Some(says_of(Some((NONE_ENTITY, Form::Val)), reached))
     } else {
         None
     }
@@ -186,10 +209,10 @@ pub fn start_live(method: &Method) -> Mask
     ensures { result ≡ first (1 + length method.now.params) }
 {
     let count = method.params.len();
-    if count < 63 {
+    if count < SLOT_LIMIT as usize {
         Mask::first(count as u32 + 1)
     } else {
-        Mask::first(64)
+        Mask::first(SLOT_LIMIT)
     }
 }
 
@@ -219,7 +242,7 @@ fn result_ok(
 {
     match kind {
         MethodKind::Fun => gives(core, result_type, value),
-        _ => true,
+        MethodKind::Be | MethodKind::New | MethodKind::Spawn => true,
     }
 }
 

@@ -9,7 +9,7 @@ use crate::parts::{
 use crate::said::Said;
 use pc_caps::Form;
 use pc_masks::Mask;
-use pc_tree::Op;
+use pc_tree::{Op, BOOL_ENTITY, STRING_ENTITY, U64_ENTITY};
 
 fn is_arithmetic(op: Op) -> bool
     ensures { result ≡ spec.is_arithmetic op }
@@ -61,8 +61,8 @@ pub(crate) fn arith_says(children: &Children, op: Op, masks: (Mask, Mask)) -> Op
     ensures { result ≡ spec.arith_says children.now op masks }
 {
     let values = two_types(children)?;
-    if is_arithmetic(op) && both_read_as(1, values) {
-        value_says(1, children, masks)
+    if is_arithmetic(op) && both_read_as(U64_ENTITY, values) {
+        value_says(U64_ENTITY, children, masks)
     } else {
         None
     }
@@ -73,8 +73,8 @@ pub(crate) fn compare_says(children: &Children, op: Op, masks: (Mask, Mask)) -> 
     ensures { result ≡ spec.compare_says children.now op masks }
 {
     let values = two_types(children)?;
-    if is_comparison(op) && both_read_as(1, values) {
-        value_says(2, children, masks)
+    if is_comparison(op) && both_read_as(U64_ENTITY, values) {
+        value_says(BOOL_ENTITY, children, masks)
     } else {
         None
     }
@@ -84,7 +84,9 @@ pub(crate) fn compare_says(children: &Children, op: Op, masks: (Mask, Mask)) -> 
 fn comparable(values: ((u32, Form), (u32, Form))) -> bool
     ensures { result ≡ spec.comparable values }
 {
-    both_read_as(1, values) || both_read_as(2, values) || both_read_as(3, values)
+    both_read_as(U64_ENTITY, values)
+        || both_read_as(BOOL_ENTITY, values)
+        || both_read_as(STRING_ENTITY, values)
 }
 
 // Equality.
@@ -93,7 +95,7 @@ pub(crate) fn equal_says(children: &Children, op: Op, masks: (Mask, Mask)) -> Op
 {
     let values = two_types(children)?;
     if is_equality(op) && comparable(values) {
-        value_says(2, children, masks)
+        value_says(BOOL_ENTITY, children, masks)
     } else {
         None
     }
@@ -104,8 +106,8 @@ pub(crate) fn join_says(children: &Children, op: Op, masks: (Mask, Mask)) -> Opt
     ensures { result ≡ spec.join_says children.now op masks }
 {
     let values = two_types(children)?;
-    if is_add(op) && both_read_as(3, values) {
-        value_says(3, children, masks)
+    if is_add(op) && both_read_as(STRING_ENTITY, values) {
+        value_says(STRING_ENTITY, children, masks)
     } else {
         None
     }
@@ -116,8 +118,8 @@ pub(crate) fn xor_says(children: &Children, op: Op, masks: (Mask, Mask)) -> Opti
     ensures { result ≡ spec.xor_says children.now op masks }
 {
     let values = two_types(children)?;
-    if is_xor(op) && both_read_as(2, values) {
-        value_says(2, children, masks)
+    if is_xor(op) && both_read_as(BOOL_ENTITY, values) {
+        value_says(BOOL_ENTITY, children, masks)
     } else {
         None
     }
@@ -128,8 +130,8 @@ pub(crate) fn not_says(children: &Children, masks: (Mask, Mask)) -> Option<Said>
     ensures { result ≡ spec.not_says children.now masks }
 {
     let value = one_type(children)?;
-    if reads_as(2, value) {
-        value_says(2, children, masks)
+    if reads_as(BOOL_ENTITY, value) {
+        value_says(BOOL_ENTITY, children, masks)
     } else {
         None
     }
@@ -140,14 +142,14 @@ pub(crate) fn identity_says(children: &Children, masks: (Mask, Mask)) -> Option<
     ensures { result ≡ spec.identity_says children.now masks }
 {
     let _values = two_types(children)?;
-    value_says(2, children, masks)
+    value_says(BOOL_ENTITY, children, masks)
 }
 
 // The masks behind both of two ways.
-pub(crate) fn meet_masks(a: (Mask, Mask), b: (Mask, Mask)) -> (Mask, Mask)
-    ensures { result ≡ spec.meet_masks a b }
+pub(crate) fn meet_masks(one: (Mask, Mask), other: (Mask, Mask)) -> (Mask, Mask)
+    ensures { result ≡ spec.meet_masks one other }
 {
-    (a.0.meet(b.0), a.1.meet(b.1))
+    (one.0.meet(other.0), one.1.meet(other.1))
 }
 
 // The masks behind an operator whose right side may not be evaluated.
@@ -169,8 +171,8 @@ pub(crate) fn lazy_says(children: &Children, masks: (Mask, Mask)) -> Option<Said
 {
     let values = two_types(children)?;
     let reached = lazy_masks(children, masks)?;
-    if both_read_as(2, values) {
-        Some(says_of(Some((2, Form::Val)), reached))
+    if both_read_as(BOOL_ENTITY, values) {
+        Some(says_of(Some((BOOL_ENTITY, Form::Val)), reached))
     } else {
         None
     }

@@ -6,7 +6,7 @@ ghost use Rattle.pc_rules.specs.Parts as spec;
 use crate::children::Children;
 use crate::said::Said;
 use pc_ann::{Ann, Note};
-use pc_caps::{Cap, Form, below, fits, sendable};
+use pc_caps::{Cap, Form, below, fits, sendable, FIELD_LIMIT};
 use pc_core::{Core, EntityDef, MethodKind, Node, Slot};
 use pc_masks::Mask;
 use pc_sub::is_sub;
@@ -37,10 +37,10 @@ pub(crate) fn goes_to(core: &Core, value: (u32, Form), place: (u32, Cap)) -> boo
 }
 
 // Whether a type is below another in entity and form.
-pub(crate) fn lower(core: &Core, a: (u32, Form), b: (u32, Form)) -> bool
-    ensures { result ≡ spec.lower core.now a b }
+pub(crate) fn lower(core: &Core, one: (u32, Form), other: (u32, Form)) -> bool
+    ensures { result ≡ spec.lower core.now one other }
 {
-    is_sub(core, a.0, b.0) && below(a.1, b.1)
+    is_sub(core, one.0, other.0) && below(one.1, other.1)
 }
 
 // Whether a value is a readable one of this entity.
@@ -89,15 +89,15 @@ pub(crate) fn all_fields(core: &Core, entity: u32) -> Mask
     }
 }
 
-// The set of this entity's fields: there are at most 64.
+// The set of this entity's fields.
 fn all_of(entity: &EntityDef) -> Mask
     ensures { result ≡ first (length entity.now.fields) }
 {
     let count = entity.fields.len();
-    if count < 64 {
+    if count < FIELD_LIMIT as usize {
         Mask::first(count as u32)
     } else {
-        Mask::first(64)
+        Mask::first(FIELD_LIMIT)
     }
 }
 

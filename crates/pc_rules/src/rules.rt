@@ -18,6 +18,7 @@ use pc_ann::{Ann, Note, Rule};
 use pc_caps::Cap;
 use pc_core::{Core, Node, NodeKind};
 use pc_masks::Mask;
+use pc_tree::{BOOL_ENTITY, STRING_ENTITY, U64_ENTITY};
 
 // What the rule says of this node, by the types of the slots and the notes of its children.
 fn rule_says(
@@ -31,9 +32,9 @@ fn rule_says(
     ensures { result ≡ spec.rule_says core.now slots.now children.now node.now masks rule node.now.kind }
 {
     match (rule, &node.kind) {
-        (Rule::Number, NodeKind::Number(_)) => literal_says(1, masks),
-        (Rule::Truth, NodeKind::Truth(_)) => literal_says(2, masks),
-        (Rule::Text, NodeKind::Text(_)) => literal_says(3, masks),
+        (Rule::Number, NodeKind::Number(_)) => literal_says(U64_ENTITY, masks),
+        (Rule::Truth, NodeKind::Truth(_)) => literal_says(BOOL_ENTITY, masks),
+        (Rule::Text, NodeKind::Text(_)) => literal_says(STRING_ENTITY, masks),
         (Rule::Prim, NodeKind::Prim(entity)) => literal_says(*entity, masks),
         (Rule::This, NodeKind::This) => this_says(core, slots, node, masks),
         (Rule::Local, NodeKind::Local(slot)) => local_says(core, slots, node, *slot, masks),
@@ -126,13 +127,13 @@ fn meets(core: &Core, ann: &Ann, node: &Node, note: Note) -> bool
 
 /// Whether node `n` meets its rule, by its own note and those of its children: its type and its masks are what the rule of
 /// its note says. Takes no memory.
-pub fn rule_holds(core: &Core, ann: &Ann, n: u32) -> bool
+pub fn rule_holds(core: &Core, ann: &Ann, number: u32) -> bool
     requires slots { length ann.now.slots ≡ length core.now.slots }
     requires notes { length ann.now.notes ≡ length core.now.nodes }
-    requires node { n < length core.now.nodes }
-    ensures { IsTrue result ↔ spec.MeetsRule core.now ann.now n }
+    requires node { number < length core.now.nodes }
+    ensures { IsTrue result ↔ spec.MeetsRule core.now ann.now number }
 {
-    match (core.node_at(n), note_at(ann, n)) {
+    match (core.node_at(number), note_at(ann, number)) {
         (Some(node), Some(note)) => meets(core, ann, node, note),
         (_, _) => false,
     }
@@ -157,12 +158,12 @@ fn meets_by(core: &Core, slots: &[(u32, Cap)], own: Note, children: &Children, n
 
 /// Whether node `n` meets the rule of this note of it, by the types of the slots and the notes of its children, in order.
 /// Takes no memory.
-pub fn holds(core: &Core, slots: &[(u32, Cap)], own: &Note, children: &[Note], n: u32) -> bool
+pub fn holds(core: &Core, slots: &[(u32, Cap)], own: &Note, children: &[Note], number: u32) -> bool
     requires slots { length slots.now ≡ length core.now.slots }
-    requires node { n < length core.now.nodes }
-    ensures { IsTrue result ↔ spec.Holds core.now slots.now own.now children.now n }
+    requires node { number < length core.now.nodes }
+    ensures { IsTrue result ↔ spec.Holds core.now slots.now own.now children.now number }
 {
-    match core.node_at(n) {
+    match core.node_at(number) {
         None => false,
         Some(node) => meets_by(core, slots, *own, &Children::held(children), node),
     }

@@ -95,24 +95,24 @@ fn defined_type(written: Option<(u32, Cap)>, value: (u32, Form)) -> (u32, Cap)
     }
 }
 
-fn same_cap(a: Cap, b: Cap) -> bool
-    ensures { result ≡ spec.same_cap a b }
+fn same_cap(one: Cap, other: Cap) -> bool
+    ensures { result ≡ spec.same_cap one other }
 {
-    match (a, b) {
+    match (one, other) {
         (Cap::Iso, Cap::Iso) => true,
         (Cap::Trn, Cap::Trn) => true,
         (Cap::Ref, Cap::Ref) => true,
         (Cap::Val, Cap::Val) => true,
         (Cap::Box, Cap::Box) => true,
         (Cap::Tag, Cap::Tag) => true,
-        (_, _) => false,
+        (Cap::Iso | Cap::Trn | Cap::Ref | Cap::Val | Cap::Box | Cap::Tag, _) => false,
     }
 }
 
-fn same_place(a: (u32, Cap), b: (u32, Cap)) -> bool
-    ensures { result ≡ spec.same_place a b }
+fn same_place(one: (u32, Cap), other: (u32, Cap)) -> bool
+    ensures { result ≡ spec.same_place one other }
 {
-    a.0 == b.0 && same_cap(a.1, b.1)
+    one.0 == other.0 && same_cap(one.1, other.1)
 }
 
 // Whether the slot has the type of its definition, and the value goes to it.

@@ -22,7 +22,11 @@ abbrev pub isolates : Form → Bool
 isolates form.IsoE = true
 isolates form.TrnE = true
 isolates form.Val = true
-isolates f = false
+isolates form.Iso = false
+isolates form.Trn = false
+isolates form.Ref = false
+isolates form.Box = false
+isolates form.Tag = false
 
 -- The parameters of this method must be sendable: a behaviour, an actor's constructor, or a class's that is `iso`, `trn`
 -- or `val`.

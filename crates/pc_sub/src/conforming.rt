@@ -7,16 +7,16 @@ use crate::faults::DeclFault;
 use crate::stands::stands_for;
 use pc_core::{Core, EntityDef, Method};
 
-/// Whether entity `e` conforms to the trait or interface `t`: for each method of `t` it has one of the same name and kind
-/// that may be called in its place, where entities are compared by chains of `is` alone. It is true of every entity where
-/// `t` has no methods. Takes no memory.
+/// Whether an entity conforms to the trait or interface `above`: for each method there it has one of the same name and kind
+/// that may be called in its place, where entities are compared by chains of `is` alone. It is true of every entity if
+/// `above` has no methods. Takes no memory.
 #[tactic(auto, using(crate::specs::Agreement::conforms_iff))]
-pub fn conforms(core: &Core, e: u32, t: u32) -> bool
-    ensures methods { IsTrue result ↔ spec.Conforms core.now e t }
-    ensures value { result ≡ spec.conforms core.now e t }
+pub fn conforms(core: &Core, entity: u32, above: u32) -> bool
+    ensures methods { IsTrue result ↔ spec.Conforms core.now entity above }
+    ensures value { result ≡ spec.conforms core.now entity above }
 {
     core.formed();
-    nothing_is_wrong(core, e, t)
+    nothing_is_wrong(core, entity, above)
 }
 
 // The same, as it is computed.

@@ -7,22 +7,22 @@ use crate::conforming::conforms;
 use pc_core::Core;
 use pc_tree::EntityKind;
 
-/// Whether entity `a` is below entity `b`: they are the same, or a chain of `is` leads from `a` to `b`, or `b` is an
-/// interface and `a` conforms to it (nominal and structural subtyping, in the Pony tutorial). Takes no memory.
+/// Whether an entity is below the one called `above`: they are the same, or a chain of `is` leads from it to that one, or that
+/// one is an interface to which it conforms (nominal and structural subtyping, in the Pony tutorial). Takes no memory.
 #[tactic(auto, using(crate::specs::Agreement::is_sub_iff))]
-pub fn is_sub(core: &Core, a: u32, b: u32) -> bool
-    ensures order { IsTrue result ↔ spec.Sub core.now a b }
-    ensures value { result ≡ spec.is_sub core.now a b }
+pub fn is_sub(core: &Core, entity: u32, above: u32) -> bool
+    ensures order { IsTrue result ↔ spec.Sub core.now entity above }
+    ensures value { result ≡ spec.is_sub core.now entity above }
 {
     core.formed();
-    is_below(core, a, b)
+    is_below(core, entity, above)
 }
 
 // The same, as it is computed.
-fn is_below(core: &Core, a: u32, b: u32) -> bool
-    ensures { result ≡ spec.is_sub core.now a b }
+fn is_below(core: &Core, entity: u32, above: u32) -> bool
+    ensures { result ≡ spec.is_sub core.now entity above }
 {
-    is_chain(core, a, b) || is_interface(core, b) && conforms(core, a, b)
+    is_chain(core, entity, above) || is_interface(core, above) && conforms(core, entity, above)
 }
 
 // Whether there is an interface of this number.
