@@ -23,7 +23,8 @@ use Rattle.pc_semantics.specs.declared.outcome.Lack.{Lack}
 use Rattle.pc_semantics.specs.Around.{Around, Move, Stuck, Overflows, Goes, Writes, Makes, Spawns, Enters, Sends, Leaves, with_stack, pushed, with_slot, doing, none, or_none, with_top, pop, popped, with_popped, pop_arguments}
 use Rattle.pc_semantics.specs.Children.{evaluations}
 use Rattle.pc_semantics.specs.Evaluation.{push_slot, take_slot, first_then, evaluate, evaluate_node, items}
-use Rattle.pc_semantics.specs.Operators.{text_limit, gives, of_numbers, of_truths, of_texts, with_number, with_truth, with_text, binary, negated, same_address, is_number, is_truth, is_text, is_primitive, is_object, same_truth, same_value, compared}
+use Rattle.pc_semantics.specs.Operators.{gives, of_numbers, of_truths, of_texts, with_number, with_truth, with_text, binary, negated, same_address, is_number, is_truth, is_text, is_primitive, is_object, same_truth, same_value, compared}
+use Rattle.pc_caps.specs.Limits.{text_limit}
 use Rattle.pc_semantics.specs.Choices.{truth, apply_task, right_side, test_and, test_or, test_task, branch, turn}
 use Rattle.pc_semantics.specs.Fields.{held, store, store_task}
 use Rattle.pc_semantics.specs.Calls.{leave_object, leave, return_task}

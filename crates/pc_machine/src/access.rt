@@ -24,7 +24,29 @@ fn name_read(kind: &NodeKind) -> Option<u32>
 {
     match kind {
         NodeKind::Field(name) => Some(*name),
-        _ => None,
+        NodeKind::Number(_)
+        | NodeKind::Truth(_)
+        | NodeKind::Text(_)
+        | NodeKind::Prim(_)
+        | NodeKind::This
+        | NodeKind::Local(_)
+        | NodeKind::Consume(_)
+        | NodeKind::SetField(_)
+        | NodeKind::Define(_)
+        | NodeKind::Assign(_)
+        | NodeKind::New(_)
+        | NodeKind::Spawn(_)
+        | NodeKind::Call(_)
+        | NodeKind::Binary(_)
+        | NodeKind::Not
+        | NodeKind::And
+        | NodeKind::Or
+        | NodeKind::Same(_)
+        | NodeKind::Seq
+        | NodeKind::If
+        | NodeKind::While
+        | NodeKind::Recover(_)
+        | NodeKind::Body => None,
     }
 }
 
@@ -34,7 +56,29 @@ fn name_written(kind: &NodeKind) -> Option<u32>
 {
     match kind {
         NodeKind::SetField(name) => Some(*name),
-        _ => None,
+        NodeKind::Number(_)
+        | NodeKind::Truth(_)
+        | NodeKind::Text(_)
+        | NodeKind::Prim(_)
+        | NodeKind::This
+        | NodeKind::Local(_)
+        | NodeKind::Consume(_)
+        | NodeKind::Field(_)
+        | NodeKind::Define(_)
+        | NodeKind::Assign(_)
+        | NodeKind::New(_)
+        | NodeKind::Spawn(_)
+        | NodeKind::Call(_)
+        | NodeKind::Binary(_)
+        | NodeKind::Not
+        | NodeKind::And
+        | NodeKind::Or
+        | NodeKind::Same(_)
+        | NodeKind::Seq
+        | NodeKind::If
+        | NodeKind::While
+        | NodeKind::Recover(_)
+        | NodeKind::Body => None,
     }
 }
 
@@ -53,7 +97,17 @@ fn touched_name(core: &Core, task: Task) -> Option<(u32, bool)>
             let name = name_written(&node.kind)?;
             Some((name, true))
         }
-        _ => None,
+        Task::Eval(_)
+        | Task::Store(_)
+        | Task::Make(_)
+        | Task::Spawn(_)
+        | Task::Invoke(_)
+        | Task::Apply(_)
+        | Task::Test(_)
+        | Task::Branch(_)
+        | Task::Loop(_)
+        | Task::Discard
+        | Task::Return => None,
     }
 }
 

@@ -229,7 +229,15 @@ fn first_call(core: &Core, heap: &Heap, actors: usize, frame: &Frame) -> Ahead
             None => Ahead::Lacks,
         },
         Task::Return => end(core, frame),
-        _ => unreachable!(),
+        Task::Eval(_)
+        | Task::Get(_)
+        | Task::Put(_)
+        | Task::Store(_)
+        | Task::Apply(_)
+        | Task::Test(_)
+        | Task::Branch(_)
+        | Task::Loop(_)
+        | Task::Discard => unreachable!(),
     }
 }
 

@@ -15,12 +15,8 @@ use pc_caps::List;
 use pc_core::Core;
 use pc_heap::{Address, Heap, Value};
 use pc_semantics::main_create;
+use pc_tree::{ENV_ENTITY, OUT_STREAM_ENTITY};
 use std::alloc::{AllocError, Global};
-
-/// The numbers of the entities of the environment and of the stream.
-const ENVIRONMENT: u32 = 4;
-
-const STREAM: u32 = 5;
 
 // An object of an entity, without field values, made by an actor.
 fn add_object(core: &Core, heap: &mut Heap, maker: u32, entity: u32) -> Result<Address, AllocError>
@@ -49,8 +45,8 @@ fn add_objects(core: &Core, heap: &mut Heap, main: u32) -> Result<(), AllocError
     ensures { OnOk result (heap.new.objects ≡ (spec.start_of core.now (Some (main, 0))).objects) }
 {
     core.formed();
-    let stream = add_object(core, heap, 0, STREAM)?;
-    let environment = add_object(core, heap, 0, ENVIRONMENT)?;
+    let stream = add_object(core, heap, 0, OUT_STREAM_ENTITY)?;
+    let environment = add_object(core, heap, 0, ENV_ENTITY)?;
     set_out(heap, environment, stream);
     add_object(core, heap, 1, main)?;
     Ok(())

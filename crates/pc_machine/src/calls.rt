@@ -13,6 +13,7 @@ use crate::plan::Plan;
 use pc_core::{Core, Node, NodeKind};
 use pc_heap::Value;
 use pc_semantics::{Frame, Lack};
+use pc_tree::NONE_ENTITY;
 use std::alloc::{AllocError, Global};
 
 // What a class's constructor of a number is about to do with these arguments.
@@ -35,7 +36,14 @@ fn plan_object(
     let Some(body) = method.body else {
         return Ok(Plan::Lacks(Lack::Method));
     };
-    let frame = begin_frame(alloc, number, method, Value::Prim(0), arguments, body)?;
+    let frame = begin_frame(
+        alloc,
+        number,
+        method,
+        Value::Prim(NONE_ENTITY),
+        arguments,
+        body,
+    )?;
     Ok(Plan::Makes {
         count: arguments.len(),
         entity: method.entity,

@@ -53,7 +53,7 @@ pub fn receiver_of(value: &Value, actors: usize) -> Option<u32>
         Value::At(address) if address.serial == 0 && (address.maker as usize) < actors => Some(
             address.maker,
         ),
-        _ => None,
+        Value::Num(_) | Value::Truth(_) | Value::Text(_) | Value::Prim(_) | Value::At(_) => None,
     }
 }
 

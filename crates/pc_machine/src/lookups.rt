@@ -1,15 +1,17 @@
 //! What a core and a heap say of entities.
 ghost use Rattle.std.specs.Prelude.{◌≡◌, ◌≤◌, slice_get};
+ghost use Rattle.pc_caps.specs.Limits.{field_limit};
 ghost use Rattle.pc_semantics.specs.Around as around;
 ghost use Rattle.pc_semantics.specs.Configurations.{fields_in};
 
 use pc_core::Core;
 use pc_heap::{Heap, Value};
+use pc_tree::{BOOL_ENTITY, STRING_ENTITY, U64_ENTITY};
 
 /// How many fields the entity of a number has, and 0 where there is no such entity.
 pub fn fields_of(core: &Core, entity: u32) -> u32
     ensures count { result ≡ fields_in (slice_get core.now.entities entity) }
-    ensures few { result ≤ 64 }
+    ensures few { result ≤ field_limit }
 {
     core.formed();
     match core.entity_at(entity) {
@@ -23,9 +25,9 @@ pub fn entity_of(heap: &Heap, value: &Value) -> Option<u32>
     ensures { result ≡ around.entity_of heap.now.objects value.now }
 {
     match value {
-        Value::Num(_) => Some(1),
-        Value::Truth(_) => Some(2),
-        Value::Text(_) => Some(3),
+        Value::Num(_) => Some(U64_ENTITY),
+        Value::Truth(_) => Some(BOOL_ENTITY),
+        Value::Text(_) => Some(STRING_ENTITY),
         Value::Prim(entity) => Some(*entity),
         Value::At(address) => heap.class_of(*address),
     }

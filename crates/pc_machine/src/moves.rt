@@ -12,6 +12,7 @@ use crate::plan::{Change, Plan};
 use crate::state::State;
 use pc_heap::Value;
 use pc_semantics::{Frame, Message, Outcome, Stack};
+use pc_tree::NONE_ENTITY;
 use std::alloc::{AllocError, Global};
 
 // The frames of a running actor change. An `Err` leaves them as they were.
@@ -89,7 +90,13 @@ fn send(
 {
     state.actors.deliver(receiver as usize, message)?;
     let actor = actor as usize;
-    place_for(alloc, &mut state.actors, actor, count, Value::Prim(0));
+    place_for(
+        alloc,
+        &mut state.actors,
+        actor,
+        count,
+        Value::Prim(NONE_ENTITY),
+    );
     Ok(Outcome::Moved)
 }
 

@@ -42,6 +42,14 @@ pub fn plan_first(
             None => Ok(Plan::Lacks(Lack::Value)),
         },
         Task::Return => plan_return(core, frame),
-        _ => unreachable!(),
+        Task::Eval(_)
+        | Task::Get(_)
+        | Task::Put(_)
+        | Task::Store(_)
+        | Task::Apply(_)
+        | Task::Test(_)
+        | Task::Branch(_)
+        | Task::Loop(_)
+        | Task::Discard => unreachable!(),
     }
 }

@@ -1,5 +1,6 @@
 -- What a task sees, and what it may do.
 use Rattle.std.specs.Prelude.{ℕ, zero, suc, ◌-◌, List, [], ◌∷◌, ◌++◌, map, length, replicate, Option, Some, None, slice_set}
+use Rattle.pc_tree.specs.BuiltIn.{none_entity, u64_entity, bool_entity, string_entity}
 use Rattle.pc_heap.specs.Objects.{ObjectMap, class_at}
 use Rattle.pc_heap.specs.declared.value.Address.{Address}
 use Rattle.pc_heap.specs.Object.{Object}
@@ -69,7 +70,7 @@ first_frame m x this arguments body = record { method = m; slots = first_slots x
 
 -- None, the value of what has no other.
 abbrev pub none : Value
-none = Prim 0
+none = Prim none_entity
 
 abbrev pub or_none : Option Value → Value
 or_none None = none
@@ -77,9 +78,9 @@ or_none (Some v) = v
 
 -- A value's own entity.
 abbrev pub entity_of : ObjectMap → Value → Option ℕ
-entity_of objects (Num n) = Some 1
-entity_of objects (Truth b) = Some 2
-entity_of objects (Text t) = Some 3
+entity_of objects (Num n) = Some u64_entity
+entity_of objects (Truth b) = Some bool_entity
+entity_of objects (Text t) = Some string_entity
 entity_of objects (Prim e) = Some e
 entity_of objects (At a) = class_at objects a
 

@@ -67,7 +67,8 @@ send around m x arguments f v = Stuck lack.Object
 abbrev pub invoke_kind : Around → ℕ → Method → Value → List Value → Frame → MethodKind → Move
 invoke_kind around m x this arguments f method.Fun = counted x arguments (enter m x this arguments f x.body)
 invoke_kind around m x this arguments f method.Be = send around m x arguments f this
-invoke_kind around m x this arguments f k = Stuck lack.Method
+invoke_kind around m x this arguments f method.New = Stuck lack.Method
+invoke_kind around m x this arguments f method.Spawn = Stuck lack.Method
 
 -- `string` of numbers and truth values, which no entity declares.
 abbrev pub truth_text : Bool → List ℕ
@@ -122,7 +123,8 @@ leave_object o = Stuck lack.Slot
 abbrev pub leave : Frame → MethodKind → Move
 leave f method.Fun = pop f (λ v g. Leaves (Some v))
 leave f method.New = leave_object (slice_get f.slots 0)
-leave f k = Leaves None
+leave f method.Be = Leaves None
+leave f method.Spawn = Leaves None
 
 abbrev pub return_task : Frame → Option Method → Move
 return_task f None = Stuck lack.Method

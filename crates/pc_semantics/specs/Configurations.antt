@@ -2,6 +2,7 @@
 use Rattle.std.specs.Prelude.{ℕ, List, [], ◌∷◌, Option, Some, None, slice_get, slice_set, length, map, codes, position}
 use Rattle.std.specs.Str.{bytes_eq}
 use Rattle.std.specs.FinMap.{empty, insert}
+use Rattle.pc_tree.specs.BuiltIn.{env_entity, out_stream_entity}
 use Rattle.pc_heap.specs.Objects.{ObjectMap, new_object, with_field}
 use Rattle.pc_heap.specs.declared.value.Address.{Address}
 use Rattle.pc_heap.specs.Object.{Object}
@@ -60,7 +61,7 @@ blank_object core e = new_object e (fields_in (slice_get core.entities e))
 
 -- The environment: its field `out` is actor 0.
 abbrev pub environment : CoreData → Object
-environment core = with_field (blank_object core 4) 0 (At (own_address 0))
+environment core = with_field (blank_object core env_entity) 0 (At (own_address 0))
 
 abbrev pub environment_address : Address
 environment_address = record { maker = 0; serial = 1 }
@@ -70,7 +71,7 @@ environment_address = record { maker = 0; serial = 1 }
 abbrev pub start_of : CoreData → Option (ℕ × ℕ) → Configuration
 start_of core None = record { objects = empty; actors = []; printed = [] }
 start_of core (Some main) = record {
-  objects = insert (insert (insert empty (own_address 0) (blank_object core 5)) environment_address (environment core)) (own_address 1) (blank_object core main.0);
+  objects = insert (insert (insert empty (own_address 0) (blank_object core out_stream_entity)) environment_address (environment core)) (own_address 1) (blank_object core main.0);
   actors =
       record { mailbox = []; frames = [] }
       ∷ record { mailbox = record { method = main.1; arguments = At environment_address ∷ [] } ∷ []; frames = [] } ∷ [];

@@ -14,7 +14,7 @@ use Rattle.pc_semantics.specs.declared.outcome.Lack.TheVariants as lack
 use Rattle.pc_semantics.specs.declared.outcome.Outcome.{Outcome}
 use Rattle.pc_semantics.specs.declared.outcome.Outcome.TheVariants.{Moved, Skipped, Lacks, TooLong}
 use Rattle.pc_semantics.specs.Configurations.{Configuration, start, own_address}
-use Rattle.pc_semantics.specs.Operators.{text_limit}
+use Rattle.pc_caps.specs.Limits.{text_limit}
 use Rattle.pc_semantics.specs.Runs.{after, outcomes}
 use Rattle.pc_semantics.specs.Safety.{Race}
 use Rattle.pc_semantics.specs.Text.{run_text, steps_of, waiting}

@@ -1,6 +1,7 @@
 -- What operators give.
 use Rattle.std.specs.Prelude.{ℕ, ◌+◌, ◌-◌, ◌*◌, ◌/◌, ◌%◌, ◌^◌, Bool, false, not, List, ◌++◌, length, Option, Some, None, nat_eq, nat_lt, cond, if◌then◌else◌}
 use Rattle.std.specs.Str.{bytes_eq}
+use Rattle.pc_caps.specs.Limits.{text_limit}
 use Rattle.pc_heap.specs.declared.value.Address.{Address}
 use Rattle.pc_heap.specs.declared.value.Value.{Value}
 use Rattle.pc_heap.specs.declared.value.Value.TheVariants.{Num, Truth, Text, Prim, At}
@@ -9,10 +10,6 @@ use Rattle.pc_tree.specs.declared.kinds.Op.TheVariants as op
 use Rattle.pc_semantics.specs.declared.frames.Frame.{Frame}
 use Rattle.pc_semantics.specs.declared.outcome.Lack.TheVariants as lack
 use Rattle.pc_semantics.specs.Around.{Move, Stuck, Overflows, Goes, pushed}
-
--- How many bytes a text may have.
-abbrev pub text_limit : ℕ
-text_limit = 4096
 
 -- The value is pushed; where there is none, a value of another kind is lacking.
 abbrev pub gives : Frame → Option Value → Move

@@ -1,11 +1,12 @@
 -- Small programs, as their cores. What the machine does not look at is left out: slots, capabilities, results and places in
 -- a text.
-use Rattle.std.specs.Prelude.{ℕ, ◌-◌, true, false, List, [], ◌∷◌, length, Some, codes}
+use Rattle.std.specs.Prelude.{ℕ, ◌-◌, true, false, List, [], ◌∷◌, length, Some, codes, ◌+◌}
 use Rattle.pc_caps.specs.declared.capability.Cap.TheVariants as cap
 use Rattle.pc_caps.specs.declared.capability.Form.TheVariants as form
 use Rattle.pc_tree.specs.declared.kinds.EntityKind.{EntityKind}
 use Rattle.pc_tree.specs.declared.kinds.EntityKind.TheVariants as kind
 use Rattle.pc_tree.specs.declared.kinds.Op.TheVariants as op
+use Rattle.pc_tree.specs.BuiltIn.{none_entity, u64_entity, env_entity, first_own}
 use Rattle.pc_core.specs.declared.declarations.EntityDef.{EntityDef}
 use Rattle.pc_core.specs.declared.declarations.FieldInfo.{FieldInfo}
 use Rattle.pc_core.specs.declared.declarations.Method.{Method}
@@ -55,13 +56,13 @@ program es ms ns = record {
 
 -- An entity with or without the field `n`, and the number of its one method.
 abbrev pub field_n : List FieldInfo
-field_n = record { name = n; fixed = false; entity = 1; cap = cap.Val } ∷ []
+field_n = record { name = n; fixed = false; entity = u64_entity; cap = cap.Val } ∷ []
 
 abbrev pub entity : EntityKind → List ℕ → List FieldInfo → ℕ → EntityDef
 entity k name fields method = record { kind = k; cap = cap.Tag; name = name; span = nowhere; provides = []; above = []; fields = fields; first_method = method; methods = 1 }
 
 abbrev pub param : ParamInfo
-param = record { entity = 4; cap = cap.Val; span = nowhere }
+param = record { entity = env_entity; cap = cap.Val; span = nowhere }
 
 -- The constructor of an entity: its kind, how many parameters and slots it has, and its body.
 abbrev pub constructor_of : ℕ → MethodKind → List ParamInfo → (slots body : ℕ) → Method
@@ -85,12 +86,12 @@ node_of k children = record { kind = k; children = children; depth = 0; method =
 -- A program of Main alone: its constructor, with that many slots, has these nodes, of which the last is its body.
 abbrev pub main_with : List FieldInfo → ℕ → List Node → CoreData
 main_with fields slots ns =
-    program (entity kind.Actor (codes "Main") fields 1 ∷ []) (constructor_of 6 method.Spawn (param ∷ []) slots (length ns - 1) ∷ []) ns
+    program (entity kind.Actor (codes "Main") fields 1 ∷ []) (constructor_of first_own method.Spawn (param ∷ []) slots (length ns - 1) ∷ []) ns
 
 -- The same with one more entity and its constructor, whose nodes come first.
 abbrev pub with_entity : EntityDef → Method → ℕ → List Node → CoreData
 with_entity e m slots ns =
-    program (e ∷ entity kind.Actor (codes "Main") [] 2 ∷ []) (m ∷ constructor_of 7 method.Spawn (param ∷ []) slots (length ns - 1) ∷ []) ns
+    program (e ∷ entity kind.Actor (codes "Main") [] 2 ∷ []) (m ∷ constructor_of (first_own + 1) method.Spawn (param ∷ []) slots (length ns - 1) ∷ []) ns
 
 -- ---- the programs
 
@@ -176,8 +177,8 @@ counting = main_with [] 3 (
 
 -- actor A, whose constructor does nothing, and a Main that makes one
 abbrev pub spawning : CoreData
-spawning = with_entity (entity kind.Actor (codes "A") [] 1) (constructor_of 6 method.Spawn [] 1 2) 2 (
-    node_of (node.Prim 0) []
+spawning = with_entity (entity kind.Actor (codes "A") [] 1) (constructor_of first_own method.Spawn [] 1 2) 2 (
+    node_of (node.Prim none_entity) []
     ∷ node_of node.Seq (0 ∷ [])
     ∷ node_of node.Body (1 ∷ [])
     ∷ node_of (node.Spawn 1) []
@@ -187,7 +188,7 @@ spawning = with_entity (entity kind.Actor (codes "A") [] 1) (constructor_of 6 me
 
 -- class C, whose constructor sets `n` to 5, and a Main that prints the `n` of a new one
 abbrev pub making : CoreData
-making = with_entity (entity kind.Class (codes "C") field_n 1) (constructor_of 6 method.New [] 1 4) 2 (
+making = with_entity (entity kind.Class (codes "C") field_n 1) (constructor_of first_own method.New [] 1 4) 2 (
     node_of (node.Number 5) []
     ∷ node_of node.This []
     ∷ node_of (node.SetField n) (0 ∷ 1 ∷ [])

@@ -6,7 +6,7 @@ use Rattle.pc_lists.specs.Texts.{line_end}
 use Rattle.pc_core.specs.CoreData.{CoreData}
 use Rattle.pc_semantics.specs.declared.actors.Actor.{Actor}
 use Rattle.pc_semantics.specs.declared.outcome.Outcome.{Outcome}
-use Rattle.pc_semantics.specs.declared.outcome.Outcome.TheVariants.{Moved, Skipped}
+use Rattle.pc_semantics.specs.declared.outcome.Outcome.TheVariants.{Moved, Skipped, Lacks, TooLong}
 use Rattle.pc_semantics.specs.Configurations.{Configuration}
 use Rattle.pc_semantics.specs.Runs.{after, outcomes}
 
@@ -20,11 +20,15 @@ steps_of turns = flat_map (λ (t : ℕ × ℕ). replicate t.1 t.0) turns
 
 abbrev pub is_moved : Outcome → Bool
 is_moved Moved = true
-is_moved o = false
+is_moved Skipped = false
+is_moved (Lacks l) = false
+is_moved TooLong = false
 
 abbrev pub is_skipped : Outcome → Bool
 is_skipped Skipped = true
-is_skipped o = false
+is_skipped Moved = false
+is_skipped (Lacks l) = false
+is_skipped TooLong = false
 
 -- The messages that wait.
 abbrev pub waiting : Configuration → ℕ

@@ -32,7 +32,8 @@ use Rattle.pc_semantics.specs.Around.{Around, Move, Stuck, Overflows, Goes, Spaw
 use Rattle.pc_semantics.specs.Children.{evaluations}
 use Rattle.pc_semantics.specs.Evaluation.{push_slot, take_slot, items, first_then, evaluate, evaluate_node}
 use Rattle.pc_semantics.specs.Fields.{get_value, get_field, get_of, get_from, get_task, put_value, put_field, put_of, put_into, put_task, store, store_task}
-use Rattle.pc_semantics.specs.Operators.{text_limit, gives, of_numbers, of_truths, of_texts, binary, negated}
+use Rattle.pc_semantics.specs.Operators.{gives, of_numbers, of_truths, of_texts, binary, negated}
+use Rattle.pc_caps.specs.Limits.{text_limit}
 use Rattle.pc_semantics.specs.Choices.{truth, apply_task, right_side, test_and, test_or, test_task, branch, turn}
 use Rattle.pc_semantics.specs.Calls.{counted, is_string, text_of, begin_new, make_of, make_task, spawn_of, spawn_task, enter, send, invoke_kind, push_text, invoke_found, invoke_method, invoke_on, invoke_task, leave_object, leave, return_task}
 use Rattle.pc_semantics.specs.Tasks.{at_node, task_move}

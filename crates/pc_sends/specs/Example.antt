@@ -3,6 +3,7 @@ use Rattle.std.specs.Prelude.{◌≡◌, ◌⊎◌, ◌↔◌, ℕ, List, [], �
 use Rattle.pc_caps.specs.declared.capability.Cap.TheVariants as cap
 use Rattle.pc_caps.specs.declared.capability.Form.TheVariants as form
 use Rattle.pc_tree.specs.declared.kinds.EntityKind.TheVariants as kind
+use Rattle.pc_tree.specs.BuiltIn.{none_entity}
 use Rattle.pc_core.specs.declared.declarations.EntityDef.{EntityDef}
 use Rattle.pc_core.specs.declared.declarations.Method.{Method}
 use Rattle.pc_core.specs.declared.declarations.MethodKind.{MethodKind}
@@ -32,7 +33,7 @@ method_of e name k body = record {
   kind = k;
   receiver = cap.Ref;
   params = [];
-  result = (0, form.Val);
+  result = (none_entity, form.Val);
   first_slot = 0;
   slots = 1;
   first_node = 0;
@@ -48,11 +49,11 @@ node_of m k children = record { kind = k; children = children; depth = 0; method
 abbrev pub never_stops : CoreData
 never_stops = program (actor (codes "A") 1 3 ∷ actor (codes "Main") 4 1 ∷ []) (method_of 6 go method.Be 1 ∷ method_of 6 stop method.Be 3 ∷ method_of 6 create method.Spawn 5 ∷ method_of 7 create method.Spawn 9 ∷ [])
     (
-    node_of 1 (node.Prim 0) []
+    node_of 1 (node.Prim none_entity) []
     ∷ node_of 1 node.Body (0 ∷ [])
-    ∷ node_of 2 (node.Prim 0) []
+    ∷ node_of 2 (node.Prim none_entity) []
     ∷ node_of 2 node.Body (2 ∷ [])
-    ∷ node_of 3 (node.Prim 0) []
+    ∷ node_of 3 (node.Prim none_entity) []
     ∷ node_of 3 node.Body (4 ∷ [])
     ∷ node_of 4 (node.Spawn 3) []
     ∷ node_of 4 (node.Call go) (6 ∷ [])

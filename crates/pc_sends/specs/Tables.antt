@@ -1,6 +1,7 @@
 -- The table of who sends what.
 use Rattle.std.specs.Prelude.{◌≡◌, ◌⊎◌, ◌↔◌, ℕ, ◌<◌, ◌≤◌, true, List, Option, Some, slice_get}
 use Rattle.pc_tree.specs.declared.kinds.EntityKind.TheVariants as kind
+use Rattle.pc_tree.specs.BuiltIn.{first_own}
 use Rattle.pc_core.specs.declared.declarations.EntityDef.{EntityDef}
 use Rattle.pc_core.specs.declared.declarations.Method.{Method}
 use Rattle.pc_core.specs.CoreData.{CoreData}
@@ -27,11 +28,11 @@ InOrder rows = (i j : ℕ) (a b : Row) → i < j → slice_get rows i ≡ Some a
 
 -- ---- what is never sent
 
--- An actor of the file: its entities come behind the six that are built in.
+-- An actor of the file: its entities come behind those that are built in.
 pub record IsOwnActor (core : CoreData) (e : ℕ) : Type 0 where
   pub entity : EntityDef
   pub is_entity : slice_get core.entities e ≡ Some entity
-  pub own : 6 ≤ e
+  pub own : first_own ≤ e
   pub actor : entity.kind ≡ kind.Actor
 
 -- A behaviour or a constructor of an actor of the file.

@@ -11,11 +11,8 @@ use crate::table::Row;
 use pc_caps::List;
 use pc_core::Core;
 use pc_semantics::main_create;
-use pc_tree::EntityKind;
+use pc_tree::{EntityKind, FIRST_OWN};
 use std::alloc::{AllocError, Global};
-
-/// The first entity of the file.
-const FIRST: u32 = 6;
 
 // The targets of these rows.
 fn targets_of(alloc: Global, rows: &[Row]) -> Result<Found, AllocError>
@@ -43,7 +40,7 @@ fn is_own_actor(core: &Core, entity: u32) -> bool
     ensures { IsTrue result ↔ spec.IsOwnActor core.now entity }
 {
     match core.entity_at(entity) {
-        Some(found) => FIRST <= entity && is_actor(found.kind),
+        Some(found) => FIRST_OWN <= entity && is_actor(found.kind),
         None => false,
     }
 }

@@ -43,43 +43,42 @@ fn first_of(children: &[u32]) -> Ahead
 }
 
 // The evaluation of a node of this kind, with these children.
-fn kind(frame: &Frame, children: &[u32], kind: &NodeKind) -> Ahead
+fn evaluate_kind(frame: &Frame, children: &[u32], kind: &NodeKind) -> Ahead
     ensures { (n : ℕ) → result ≡ by_move (evaluation.evaluate (relieved frame.now) n children.now kind.now) }
 {
     match kind {
-        NodeKind::Number(_) => Ahead::Task,
-        NodeKind::Truth(_) => Ahead::Task,
-        NodeKind::Text(_) => Ahead::Task,
-        NodeKind::Prim(_) => Ahead::Task,
+        NodeKind::Number(_)
+        | NodeKind::Truth(_)
+        | NodeKind::Text(_)
+        | NodeKind::Prim(_)
+        | NodeKind::Field(_)
+        | NodeKind::SetField(_)
+        | NodeKind::Define(_)
+        | NodeKind::Assign(_)
+        | NodeKind::New(_)
+        | NodeKind::Spawn(_)
+        | NodeKind::Call(_)
+        | NodeKind::Binary(_)
+        | NodeKind::Not
+        | NodeKind::Same(_)
+        | NodeKind::Seq => Ahead::Task,
         NodeKind::This => slot(frame, 0),
-        NodeKind::Local(place) => slot(frame, *place),
-        NodeKind::Consume(place) => slot(frame, *place),
-        NodeKind::Field(_) => Ahead::Task,
-        NodeKind::SetField(_) => Ahead::Task,
-        NodeKind::Define(_) => Ahead::Task,
-        NodeKind::Assign(_) => Ahead::Task,
-        NodeKind::New(_) => Ahead::Task,
-        NodeKind::Spawn(_) => Ahead::Task,
-        NodeKind::Call(_) => Ahead::Task,
-        NodeKind::Binary(_) => Ahead::Task,
-        NodeKind::Not => Ahead::Task,
-        NodeKind::Same(_) => Ahead::Task,
-        NodeKind::And => first_of(children),
-        NodeKind::Or => first_of(children),
-        NodeKind::If => first_of(children),
-        NodeKind::While => first_of(children),
-        NodeKind::Seq => Ahead::Task,
-        NodeKind::Recover(_) => first_of(children),
-        NodeKind::Body => first_of(children),
+        NodeKind::Local(place) | NodeKind::Consume(place) => slot(frame, *place),
+        NodeKind::And
+        | NodeKind::Or
+        | NodeKind::If
+        | NodeKind::While
+        | NodeKind::Recover(_)
+        | NodeKind::Body => first_of(children),
     }
 }
 
-// The task Eval of node n.
-fn evaluate(core: &Core, frame: &Frame, n: u32) -> Ahead
-    ensures { result ≡ by_move (evaluation.evaluate_node (relieved frame.now) n (slice_get core.now.nodes n)) }
+// The task Eval of this node.
+fn evaluate(core: &Core, frame: &Frame, number: u32) -> Ahead
+    ensures { result ≡ by_move (evaluation.evaluate_node (relieved frame.now) number (slice_get core.now.nodes number)) }
 {
-    match core.node_at(n) {
-        Some(node) => kind(frame, node.children.as_slice(), &node.kind),
+    match core.node_at(number) {
+        Some(node) => evaluate_kind(frame, node.children.as_slice(), &node.kind),
         None => Ahead::Lacks,
     }
 }
@@ -103,16 +102,38 @@ fn read(core: &Core, heap: &Heap, frame: &Frame, name: u32) -> Ahead
     }
 }
 
-// The task Get of node n.
-fn get(core: &Core, heap: &Heap, frame: &Frame, n: u32) -> Ahead
-    ensures { result ≡ by_move (at_node (slice_get core.now.nodes n) (λ x. fields.get_task core.now (seeing heap.now.objects) (relieved frame.now) x.kind)) }
+// The task Get of this node.
+fn get(core: &Core, heap: &Heap, frame: &Frame, number: u32) -> Ahead
+    ensures { result ≡ by_move (at_node (slice_get core.now.nodes number) (λ x. fields.get_task core.now (seeing heap.now.objects) (relieved frame.now) x.kind)) }
 {
-    let Some(node) = core.node_at(n) else {
+    let Some(node) = core.node_at(number) else {
         return Ahead::Lacks;
     };
     match &node.kind {
         NodeKind::Field(name) => read(core, heap, frame, *name),
-        _ => Ahead::Lacks,
+        NodeKind::Number(_)
+        | NodeKind::Truth(_)
+        | NodeKind::Text(_)
+        | NodeKind::Prim(_)
+        | NodeKind::This
+        | NodeKind::Local(_)
+        | NodeKind::Consume(_)
+        | NodeKind::SetField(_)
+        | NodeKind::Define(_)
+        | NodeKind::Assign(_)
+        | NodeKind::New(_)
+        | NodeKind::Spawn(_)
+        | NodeKind::Call(_)
+        | NodeKind::Binary(_)
+        | NodeKind::Not
+        | NodeKind::And
+        | NodeKind::Or
+        | NodeKind::Same(_)
+        | NodeKind::Seq
+        | NodeKind::If
+        | NodeKind::While
+        | NodeKind::Recover(_)
+        | NodeKind::Body => Ahead::Lacks,
     }
 }
 
@@ -137,17 +158,39 @@ fn write(core: &Core, heap: &Heap, frame: &Frame, name: u32) -> Ahead
     }
 }
 
-// The task Put of node n.
-fn put(core: &Core, heap: &Heap, frame: &Frame, n: u32) -> Ahead
+// The task Put of this node.
+fn put(core: &Core, heap: &Heap, frame: &Frame, number: u32) -> Ahead
     requires { Fielded core.now heap.now.objects }
-    ensures { result ≡ by_move (at_node (slice_get core.now.nodes n) (λ x. fields.put_task core.now (seeing heap.now.objects) (relieved frame.now) x.kind)) }
+    ensures { result ≡ by_move (at_node (slice_get core.now.nodes number) (λ x. fields.put_task core.now (seeing heap.now.objects) (relieved frame.now) x.kind)) }
 {
-    let Some(node) = core.node_at(n) else {
+    let Some(node) = core.node_at(number) else {
         return Ahead::Lacks;
     };
     match &node.kind {
         NodeKind::SetField(name) => write(core, heap, frame, *name),
-        _ => Ahead::Lacks,
+        NodeKind::Number(_)
+        | NodeKind::Truth(_)
+        | NodeKind::Text(_)
+        | NodeKind::Prim(_)
+        | NodeKind::This
+        | NodeKind::Local(_)
+        | NodeKind::Consume(_)
+        | NodeKind::Field(_)
+        | NodeKind::Define(_)
+        | NodeKind::Assign(_)
+        | NodeKind::New(_)
+        | NodeKind::Spawn(_)
+        | NodeKind::Call(_)
+        | NodeKind::Binary(_)
+        | NodeKind::Not
+        | NodeKind::And
+        | NodeKind::Or
+        | NodeKind::Same(_)
+        | NodeKind::Seq
+        | NodeKind::If
+        | NodeKind::While
+        | NodeKind::Recover(_)
+        | NodeKind::Body => Ahead::Lacks,
     }
 }
 
@@ -162,17 +205,37 @@ fn top(frame: &Frame) -> Ahead
     }
 }
 
-// The task Store of node n.
-fn store(core: &Core, frame: &Frame, n: u32) -> Ahead
-    ensures { result ≡ by_move (at_node (slice_get core.now.nodes n) (λ x. fields.store_task (relieved frame.now) x.kind)) }
+// The task Store of this node.
+fn store(core: &Core, frame: &Frame, number: u32) -> Ahead
+    ensures { result ≡ by_move (at_node (slice_get core.now.nodes number) (λ x. fields.store_task (relieved frame.now) x.kind)) }
 {
-    let Some(node) = core.node_at(n) else {
+    let Some(node) = core.node_at(number) else {
         return Ahead::Lacks;
     };
     match &node.kind {
-        NodeKind::Define(_) => top(frame),
-        NodeKind::Assign(_) => top(frame),
-        _ => Ahead::Lacks,
+        NodeKind::Define(_) | NodeKind::Assign(_) => top(frame),
+        NodeKind::Number(_)
+        | NodeKind::Truth(_)
+        | NodeKind::Text(_)
+        | NodeKind::Prim(_)
+        | NodeKind::This
+        | NodeKind::Local(_)
+        | NodeKind::Consume(_)
+        | NodeKind::Field(_)
+        | NodeKind::SetField(_)
+        | NodeKind::New(_)
+        | NodeKind::Spawn(_)
+        | NodeKind::Call(_)
+        | NodeKind::Binary(_)
+        | NodeKind::Not
+        | NodeKind::And
+        | NodeKind::Or
+        | NodeKind::Same(_)
+        | NodeKind::Seq
+        | NodeKind::If
+        | NodeKind::While
+        | NodeKind::Recover(_)
+        | NodeKind::Body => Ahead::Lacks,
     }
 }
 
@@ -198,9 +261,20 @@ fn of_texts(op: Op, left: &Text, right: &Text) -> Ahead
                 Ahead::Task
             }
         }
-        Op::Eq => Ahead::Task,
-        Op::Ne => Ahead::Task,
-        _ => Ahead::Lacks,
+        Op::Eq | Op::Ne => Ahead::Task,
+        Op::Sub
+        | Op::Mul
+        | Op::Div
+        | Op::Rem
+        | Op::Lt
+        | Op::Le
+        | Op::Gt
+        | Op::Ge
+        | Op::And
+        | Op::Or
+        | Op::Xor
+        | Op::Is
+        | Op::Isnt => Ahead::Lacks,
     }
 }
 
@@ -212,7 +286,8 @@ fn binary(op: Op, left: &Value, right: &Value) -> Ahead
         (Value::Num(left), Value::Num(right)) => given(of_numbers(op, *left, *right)),
         (Value::Truth(left), Value::Truth(right)) => given(of_truths(op, *left, *right)),
         (Value::Text(left), Value::Text(right)) => of_texts(op, left, right),
-        (_, _) => Ahead::Lacks,
+        (Value::Num(_) | Value::Truth(_) | Value::Text(_) | Value::Prim(_) | Value::At(_), _) =>
+            Ahead::Lacks,
     }
 }
 
@@ -246,22 +321,42 @@ fn apply_not(frame: &Frame) -> Ahead
 {
     match frame.stack.top() {
         Some(Value::Truth(_)) => Ahead::Task,
-        _ => Ahead::Lacks,
+        Some(Value::Num(_) | Value::Text(_) | Value::Prim(_) | Value::At(_)) | None => Ahead::Lacks,
     }
 }
 
-// The task Apply of node n.
-fn apply(core: &Core, frame: &Frame, n: u32) -> Ahead
-    ensures { result ≡ by_move (at_node (slice_get core.now.nodes n) (λ x. choices.apply_task (relieved frame.now) x.kind)) }
+// The task Apply of this node.
+fn apply(core: &Core, frame: &Frame, number: u32) -> Ahead
+    ensures { result ≡ by_move (at_node (slice_get core.now.nodes number) (λ x. choices.apply_task (relieved frame.now) x.kind)) }
 {
-    let Some(node) = core.node_at(n) else {
+    let Some(node) = core.node_at(number) else {
         return Ahead::Lacks;
     };
     match &node.kind {
         NodeKind::Binary(op) => apply_binary(frame, *op),
         NodeKind::Same(_) => apply_same(frame),
         NodeKind::Not => apply_not(frame),
-        _ => Ahead::Lacks,
+        NodeKind::Number(_)
+        | NodeKind::Truth(_)
+        | NodeKind::Text(_)
+        | NodeKind::Prim(_)
+        | NodeKind::This
+        | NodeKind::Local(_)
+        | NodeKind::Consume(_)
+        | NodeKind::Field(_)
+        | NodeKind::SetField(_)
+        | NodeKind::Define(_)
+        | NodeKind::Assign(_)
+        | NodeKind::New(_)
+        | NodeKind::Spawn(_)
+        | NodeKind::Call(_)
+        | NodeKind::And
+        | NodeKind::Or
+        | NodeKind::Seq
+        | NodeKind::If
+        | NodeKind::While
+        | NodeKind::Recover(_)
+        | NodeKind::Body => Ahead::Lacks,
     }
 }
 
@@ -303,17 +398,38 @@ fn test_or(frame: &Frame, children: &[u32]) -> Ahead
     }
 }
 
-// The task Test of node n.
-fn test(core: &Core, frame: &Frame, n: u32) -> Ahead
-    ensures { result ≡ by_move (at_node (slice_get core.now.nodes n) (λ x. choices.test_task (relieved frame.now) x.children x.kind)) }
+// The task Test of this node.
+fn test(core: &Core, frame: &Frame, number: u32) -> Ahead
+    ensures { result ≡ by_move (at_node (slice_get core.now.nodes number) (λ x. choices.test_task (relieved frame.now) x.children x.kind)) }
 {
-    let Some(node) = core.node_at(n) else {
+    let Some(node) = core.node_at(number) else {
         return Ahead::Lacks;
     };
     match &node.kind {
         NodeKind::And => test_and(frame, node.children.as_slice()),
         NodeKind::Or => test_or(frame, node.children.as_slice()),
-        _ => Ahead::Lacks,
+        NodeKind::Number(_)
+        | NodeKind::Truth(_)
+        | NodeKind::Text(_)
+        | NodeKind::Prim(_)
+        | NodeKind::This
+        | NodeKind::Local(_)
+        | NodeKind::Consume(_)
+        | NodeKind::Field(_)
+        | NodeKind::SetField(_)
+        | NodeKind::Define(_)
+        | NodeKind::Assign(_)
+        | NodeKind::New(_)
+        | NodeKind::Spawn(_)
+        | NodeKind::Call(_)
+        | NodeKind::Binary(_)
+        | NodeKind::Not
+        | NodeKind::Same(_)
+        | NodeKind::Seq
+        | NodeKind::If
+        | NodeKind::While
+        | NodeKind::Recover(_)
+        | NodeKind::Body => Ahead::Lacks,
     }
 }
 
@@ -330,11 +446,11 @@ fn take_branch(frame: &Frame, children: &[u32]) -> Ahead
     }
 }
 
-// The task Branch of node n.
-fn branch(core: &Core, frame: &Frame, n: u32) -> Ahead
-    ensures { result ≡ by_move (at_node (slice_get core.now.nodes n) (λ x. choices.branch_task (relieved frame.now) x.children)) }
+// The task Branch of this node.
+fn branch(core: &Core, frame: &Frame, number: u32) -> Ahead
+    ensures { result ≡ by_move (at_node (slice_get core.now.nodes number) (λ x. choices.branch_task (relieved frame.now) x.children)) }
 {
-    match core.node_at(n) {
+    match core.node_at(number) {
         Some(node) => take_branch(frame, node.children.as_slice()),
         None => Ahead::Lacks,
     }
@@ -353,11 +469,11 @@ fn turn(frame: &Frame, children: &[u32]) -> Ahead
     }
 }
 
-// The task Loop of node n.
-fn go_round(core: &Core, frame: &Frame, n: u32) -> Ahead
-    ensures { result ≡ by_move (at_node (slice_get core.now.nodes n) (λ x. choices.loop_task (relieved frame.now) n x.children)) }
+// The task Loop of this node.
+fn go_round(core: &Core, frame: &Frame, number: u32) -> Ahead
+    ensures { result ≡ by_move (at_node (slice_get core.now.nodes number) (λ x. choices.loop_task (relieved frame.now) number x.children)) }
 {
-    match core.node_at(n) {
+    match core.node_at(number) {
         Some(node) => turn(frame, node.children.as_slice()),
         None => Ahead::Lacks,
     }

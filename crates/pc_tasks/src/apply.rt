@@ -93,19 +93,44 @@ fn apply_not(frame: &mut Frame) -> Outcome
     replace_one(frame, applied)
 }
 
-/// The task Apply of node n: its operator takes its operands, and gives its result.
-pub fn apply(alloc: Global, core: &Core, frame: &mut Frame, n: u32) -> Result<Outcome, AllocError>
+/// The task Apply of this node: its operator takes its operands, and gives its result.
+pub fn apply(
+    alloc: Global,
+    core: &Core,
+    frame: &mut Frame,
+    number: u32,
+) -> Result<Outcome, AllocError>
     requires { 0 < length frame.old.tasks }
-    ensures ok { IfOk result (λ o. within frame.old (at_node (slice_get core.now.nodes n) (λ x. spec.apply_task (relieved frame.old) x.kind)) ≡ Some (o, frame.new)) }
+    ensures ok { IfOk result (λ o. within frame.old (at_node (slice_get core.now.nodes number) (λ x. spec.apply_task (relieved frame.old) x.kind)) ≡ Some (o, frame.new)) }
     ensures err { OnErr result (frame.new ≡ frame.old) }
 {
-    let Some(node) = core.node_at(n) else {
+    let Some(node) = core.node_at(number) else {
         return Ok(Outcome::Lacks(Lack::Value));
     };
     match &node.kind {
         NodeKind::Binary(op) => apply_binary(alloc, frame, *op),
         NodeKind::Same(wanted) => Ok(apply_same(frame, *wanted)),
         NodeKind::Not => Ok(apply_not(frame)),
-        _ => Ok(Outcome::Lacks(Lack::Value)),
+        NodeKind::Number(_)
+        | NodeKind::Truth(_)
+        | NodeKind::Text(_)
+        | NodeKind::Prim(_)
+        | NodeKind::This
+        | NodeKind::Local(_)
+        | NodeKind::Consume(_)
+        | NodeKind::Field(_)
+        | NodeKind::SetField(_)
+        | NodeKind::Define(_)
+        | NodeKind::Assign(_)
+        | NodeKind::New(_)
+        | NodeKind::Spawn(_)
+        | NodeKind::Call(_)
+        | NodeKind::And
+        | NodeKind::Or
+        | NodeKind::Seq
+        | NodeKind::If
+        | NodeKind::While
+        | NodeKind::Recover(_)
+        | NodeKind::Body => Ok(Outcome::Lacks(Lack::Value)),
     }
 }

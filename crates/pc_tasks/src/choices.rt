@@ -56,27 +56,48 @@ fn right_side(frame: &mut Frame, children: &[u32]) -> Outcome
     Outcome::Moved
 }
 
-/// The task Test of node n: the left side of an `and` or `or` decides, or the right side is evaluated.
-pub fn test(core: &Core, frame: &mut Frame, n: u32) -> Outcome
+/// The task Test of this node: the left side of an `and` or `or` decides, or the right side is evaluated.
+pub fn test(core: &Core, frame: &mut Frame, number: u32) -> Outcome
     requires { 0 < length frame.old.tasks }
-    ensures { within frame.old (at_node (slice_get core.now.nodes n) (λ x. spec.test_task (relieved frame.old) x.children x.kind)) ≡ Some (result, frame.new) }
+    ensures { within frame.old (at_node (slice_get core.now.nodes number) (λ x. spec.test_task (relieved frame.old) x.children x.kind)) ≡ Some (result, frame.new) }
 {
-    let Some(node) = core.node_at(n) else {
+    let Some(node) = core.node_at(number) else {
         return Outcome::Lacks(Lack::Value);
     };
     match &node.kind {
         NodeKind::And => test_and(frame, node.children.as_slice()),
         NodeKind::Or => test_or(frame, node.children.as_slice()),
-        _ => Outcome::Lacks(Lack::Value),
+        NodeKind::Number(_)
+        | NodeKind::Truth(_)
+        | NodeKind::Text(_)
+        | NodeKind::Prim(_)
+        | NodeKind::This
+        | NodeKind::Local(_)
+        | NodeKind::Consume(_)
+        | NodeKind::Field(_)
+        | NodeKind::SetField(_)
+        | NodeKind::Define(_)
+        | NodeKind::Assign(_)
+        | NodeKind::New(_)
+        | NodeKind::Spawn(_)
+        | NodeKind::Call(_)
+        | NodeKind::Binary(_)
+        | NodeKind::Not
+        | NodeKind::Same(_)
+        | NodeKind::Seq
+        | NodeKind::If
+        | NodeKind::While
+        | NodeKind::Recover(_)
+        | NodeKind::Body => Outcome::Lacks(Lack::Value),
     }
 }
 
-/// The task Branch of node n: one of the two branches is evaluated.
-pub fn branch(core: &Core, frame: &mut Frame, n: u32) -> Outcome
+/// The task Branch of this node: one of the two branches is evaluated.
+pub fn branch(core: &Core, frame: &mut Frame, number: u32) -> Outcome
     requires { 0 < length frame.old.tasks }
-    ensures { within frame.old (at_node (slice_get core.now.nodes n) (λ x. spec.branch_task (relieved frame.old) x.children)) ≡ Some (result, frame.new) }
+    ensures { within frame.old (at_node (slice_get core.now.nodes number) (λ x. spec.branch_task (relieved frame.old) x.children)) ≡ Some (result, frame.new) }
 {
-    match core.node_at(n) {
+    match core.node_at(number) {
         Some(node) => take_branch(frame, node.children.as_slice()),
         None => Outcome::Lacks(Lack::Value),
     }
@@ -99,23 +120,23 @@ fn take_branch(frame: &mut Frame, children: &[u32]) -> Outcome
     Outcome::Moved
 }
 
-/// The task Loop of node n: the body is evaluated and its value dropped, and then comes the whole again; or the value is
+/// The task Loop of this node: the body is evaluated and its value dropped, and then comes the whole again; or the value is
 /// None.
-pub fn go_round(core: &Core, frame: &mut Frame, n: u32) -> Result<Outcome, AllocError>
+pub fn go_round(core: &Core, frame: &mut Frame, number: u32) -> Result<Outcome, AllocError>
     requires { 0 < length frame.old.tasks }
-    ensures ok { IfOk result (λ o. within frame.old (at_node (slice_get core.now.nodes n) (λ x. spec.loop_task (relieved frame.old) n x.children)) ≡ Some (o, frame.new)) }
+    ensures ok { IfOk result (λ o. within frame.old (at_node (slice_get core.now.nodes number) (λ x. spec.loop_task (relieved frame.old) number x.children)) ≡ Some (o, frame.new)) }
     ensures err { OnErr result (frame.new ≡ frame.old) }
 {
-    match core.node_at(n) {
-        Some(node) => turn(frame, n, node.children.as_slice()),
+    match core.node_at(number) {
+        Some(node) => turn(frame, number, node.children.as_slice()),
         None => Ok(Outcome::Lacks(Lack::Value)),
     }
 }
 
 // A turn of the `while` with these children, or its end.
-fn turn(frame: &mut Frame, n: u32, children: &[u32]) -> Result<Outcome, AllocError>
+fn turn(frame: &mut Frame, number: u32, children: &[u32]) -> Result<Outcome, AllocError>
     requires { 0 < length frame.old.tasks }
-    ensures ok { IfOk result (λ o. within frame.old (spec.loop_task (relieved frame.old) n children.now) ≡ Some (o, frame.new)) }
+    ensures ok { IfOk result (λ o. within frame.old (spec.loop_task (relieved frame.old) number children.now) ≡ Some (o, frame.new)) }
     ensures err { OnErr result (frame.new ≡ frame.old) }
 {
     let Some(Value::Truth(truth)) = frame.stack.top() else {
@@ -125,7 +146,10 @@ fn turn(frame: &mut Frame, n: u32, children: &[u32]) -> Result<Outcome, AllocErr
         return Ok(Outcome::Lacks(Lack::Value));
     };
     if *truth {
-        go_on_with(frame, &[Task::Eval(*body), Task::Discard, Task::Eval(n)])?;
+        go_on_with(
+            frame,
+            &[Task::Eval(*body), Task::Discard, Task::Eval(number)],
+        )?;
         drop(frame.stack.pop());
     } else {
         drop(frame.stack.replace_top(none()));

@@ -95,12 +95,12 @@ fn items_first(frame: &mut Frame, children: &SharedList<u32>) -> Result<Outcome,
 // The evaluation of a node of this kind, with these children.
 fn evaluate(
     frame: &mut Frame,
-    n: u32,
+    number: u32,
     children: &SharedList<u32>,
     kind: &NodeKind,
 ) -> Result<Outcome, AllocError>
     requires { 0 < length frame.old.tasks }
-    ensures ok { IfOk result (λ o. within frame.old (spec.evaluate (relieved frame.old) n children.now kind.now) ≡ Some (o, frame.new)) }
+    ensures ok { IfOk result (λ o. within frame.old (spec.evaluate (relieved frame.old) number children.now kind.now) ≡ Some (o, frame.new)) }
     ensures err { OnErr result (frame.new ≡ frame.old) }
 {
     match kind {
@@ -111,34 +111,38 @@ fn evaluate(
         NodeKind::This => push_slot(frame, 0),
         NodeKind::Local(slot) => push_slot(frame, *slot),
         NodeKind::Consume(slot) => take_slot(frame, *slot),
-        NodeKind::Field(_) => children_first(frame, children, Task::Get(n)),
-        NodeKind::SetField(_) => children_first(frame, children, Task::Put(n)),
+        NodeKind::Field(_) => children_first(frame, children, Task::Get(number)),
+        NodeKind::SetField(_) => children_first(frame, children, Task::Put(number)),
         NodeKind::Define(_) | NodeKind::Assign(_) => {
-            children_first(frame, children, Task::Store(n))
+            children_first(frame, children, Task::Store(number))
         }
-        NodeKind::New(_) => children_first(frame, children, Task::Make(n)),
-        NodeKind::Spawn(_) => children_first(frame, children, Task::Spawn(n)),
-        NodeKind::Call(_) => children_first(frame, children, Task::Invoke(n)),
+        NodeKind::New(_) => children_first(frame, children, Task::Make(number)),
+        NodeKind::Spawn(_) => children_first(frame, children, Task::Spawn(number)),
+        NodeKind::Call(_) => children_first(frame, children, Task::Invoke(number)),
         NodeKind::Binary(_) | NodeKind::Not | NodeKind::Same(_) => {
-            children_first(frame, children, Task::Apply(n))
+            children_first(frame, children, Task::Apply(number))
         }
-        NodeKind::And | NodeKind::Or => first_then(frame, children.as_slice(), Some(Task::Test(n))),
-        NodeKind::If => first_then(frame, children.as_slice(), Some(Task::Branch(n))),
-        NodeKind::While => first_then(frame, children.as_slice(), Some(Task::Loop(n))),
+        NodeKind::And | NodeKind::Or => first_then(
+            frame,
+            children.as_slice(),
+            Some(Task::Test(number)),
+        ),
+        NodeKind::If => first_then(frame, children.as_slice(), Some(Task::Branch(number))),
+        NodeKind::While => first_then(frame, children.as_slice(), Some(Task::Loop(number))),
         NodeKind::Seq => items_first(frame, children),
         NodeKind::Recover(_) => first_then(frame, children.as_slice(), None),
         NodeKind::Body => first_then(frame, children.as_slice(), Some(Task::Return)),
     }
 }
 
-/// The task Eval of node n: its value is pushed, or the tasks that lead to its value come first.
-pub fn evaluate_node(core: &Core, frame: &mut Frame, n: u32) -> Result<Outcome, AllocError>
+/// The task Eval of this node: its value is pushed, or the tasks that lead to its value come first.
+pub fn evaluate_node(core: &Core, frame: &mut Frame, number: u32) -> Result<Outcome, AllocError>
     requires { 0 < length frame.old.tasks }
-    ensures ok { IfOk result (λ o. within frame.old (spec.evaluate_node (relieved frame.old) n (slice_get core.now.nodes n)) ≡ Some (o, frame.new)) }
+    ensures ok { IfOk result (λ o. within frame.old (spec.evaluate_node (relieved frame.old) number (slice_get core.now.nodes number)) ≡ Some (o, frame.new)) }
     ensures err { OnErr result (frame.new ≡ frame.old) }
 {
-    let Some(node) = core.node_at(n) else {
+    let Some(node) = core.node_at(number) else {
         return Ok(Outcome::Lacks(Lack::Value));
     };
-    evaluate(frame, n, &node.children, &node.kind)
+    evaluate(frame, number, &node.children, &node.kind)
 }

@@ -19,7 +19,9 @@ fn read(core: &Core, heap: &Heap, frame: &mut Frame, name: u32) -> Result<Outcom
 {
     let address = match frame.stack.top() {
         Some(Value::At(address)) => *address,
-        Some(_) => return Ok(Outcome::Lacks(Lack::Object)),
+        Some(Value::Num(_) | Value::Truth(_) | Value::Text(_) | Value::Prim(_)) => return Ok(
+            Outcome::Lacks(Lack::Object),
+        ),
         None => return Ok(Outcome::Lacks(Lack::Value)),
     };
     let Some(entity) = heap.class_of(address) else {
@@ -37,18 +39,40 @@ fn read(core: &Core, heap: &Heap, frame: &mut Frame, name: u32) -> Result<Outcom
     Ok(Outcome::Moved)
 }
 
-/// The task Get of node n: the origin goes, and the value of its field comes.
-pub fn get(core: &Core, heap: &Heap, frame: &mut Frame, n: u32) -> Result<Outcome, AllocError>
+/// The task Get of this node: the origin goes, and the value of its field comes.
+pub fn get(core: &Core, heap: &Heap, frame: &mut Frame, number: u32) -> Result<Outcome, AllocError>
     requires { 0 < length frame.old.tasks }
-    ensures ok { IfOk result (λ o. within frame.old (at_node (slice_get core.now.nodes n) (λ x. spec.get_task core.now (seeing heap.now.objects) (relieved frame.old) x.kind)) ≡ Some (o, frame.new)) }
+    ensures ok { IfOk result (λ o. within frame.old (at_node (slice_get core.now.nodes number) (λ x. spec.get_task core.now (seeing heap.now.objects) (relieved frame.old) x.kind)) ≡ Some (o, frame.new)) }
     ensures err { OnErr result (frame.new ≡ frame.old) }
 {
-    let Some(node) = core.node_at(n) else {
+    let Some(node) = core.node_at(number) else {
         return Ok(Outcome::Lacks(Lack::Value));
     };
     match &node.kind {
         NodeKind::Field(name) => read(core, heap, frame, *name),
-        _ => Ok(Outcome::Lacks(Lack::Value)),
+        NodeKind::Number(_)
+        | NodeKind::Truth(_)
+        | NodeKind::Text(_)
+        | NodeKind::Prim(_)
+        | NodeKind::This
+        | NodeKind::Local(_)
+        | NodeKind::Consume(_)
+        | NodeKind::SetField(_)
+        | NodeKind::Define(_)
+        | NodeKind::Assign(_)
+        | NodeKind::New(_)
+        | NodeKind::Spawn(_)
+        | NodeKind::Call(_)
+        | NodeKind::Binary(_)
+        | NodeKind::Not
+        | NodeKind::And
+        | NodeKind::Or
+        | NodeKind::Same(_)
+        | NodeKind::Seq
+        | NodeKind::If
+        | NodeKind::While
+        | NodeKind::Recover(_)
+        | NodeKind::Body => Ok(Outcome::Lacks(Lack::Value)),
     }
 }
 
@@ -76,18 +100,39 @@ fn store_in(frame: &mut Frame, slot: u32) -> Result<Outcome, AllocError>
     Ok(Outcome::Moved)
 }
 
-/// The task Store of node n: the value goes into the slot, and the one before comes, or None.
-pub fn store(core: &Core, frame: &mut Frame, n: u32) -> Result<Outcome, AllocError>
+/// The task Store of this node: the value goes into the slot, and the one before comes, or None.
+pub fn store(core: &Core, frame: &mut Frame, number: u32) -> Result<Outcome, AllocError>
     requires { 0 < length frame.old.tasks }
-    ensures ok { IfOk result (λ o. within frame.old (at_node (slice_get core.now.nodes n) (λ x. spec.store_task (relieved frame.old) x.kind)) ≡ Some (o, frame.new)) }
+    ensures ok { IfOk result (λ o. within frame.old (at_node (slice_get core.now.nodes number) (λ x. spec.store_task (relieved frame.old) x.kind)) ≡ Some (o, frame.new)) }
     ensures err { OnErr result (frame.new ≡ frame.old) }
 {
-    let Some(node) = core.node_at(n) else {
+    let Some(node) = core.node_at(number) else {
         return Ok(Outcome::Lacks(Lack::Value));
     };
     match &node.kind {
         NodeKind::Define(slot) | NodeKind::Assign(slot) => store_in(frame, *slot),
-        _ => Ok(Outcome::Lacks(Lack::Value)),
+        NodeKind::Number(_)
+        | NodeKind::Truth(_)
+        | NodeKind::Text(_)
+        | NodeKind::Prim(_)
+        | NodeKind::This
+        | NodeKind::Local(_)
+        | NodeKind::Consume(_)
+        | NodeKind::Field(_)
+        | NodeKind::SetField(_)
+        | NodeKind::New(_)
+        | NodeKind::Spawn(_)
+        | NodeKind::Call(_)
+        | NodeKind::Binary(_)
+        | NodeKind::Not
+        | NodeKind::And
+        | NodeKind::Or
+        | NodeKind::Same(_)
+        | NodeKind::Seq
+        | NodeKind::If
+        | NodeKind::While
+        | NodeKind::Recover(_)
+        | NodeKind::Body => Ok(Outcome::Lacks(Lack::Value)),
     }
 }
 
@@ -127,17 +172,39 @@ fn write(core: &Core, heap: &mut Heap, frame: &mut Frame, name: u32) -> Outcome
     }
 }
 
-/// The task Put of node n: the origin and the value go, the field gets the value, and the one before comes, or None.
-pub fn put(core: &Core, heap: &mut Heap, frame: &mut Frame, n: u32) -> Outcome
+/// The task Put of this node: the origin and the value go, the field gets the value, and the one before comes, or None.
+pub fn put(core: &Core, heap: &mut Heap, frame: &mut Frame, number: u32) -> Outcome
     requires { 0 < length frame.old.tasks }
-    ensures end { ended heap.old.objects frame.old (at_node (slice_get core.now.nodes n) (λ x. spec.put_task core.now (seeing heap.old.objects) (relieved frame.old) x.kind)) ≡ Some (result, heap.new.objects, frame.new) }
+    ensures end { ended heap.old.objects frame.old (at_node (slice_get core.now.nodes number) (λ x. spec.put_task core.now (seeing heap.old.objects) (relieved frame.old) x.kind)) ≡ Some (result, heap.new.objects, frame.new) }
     ensures room { heap.new.room ≡ heap.old.room }
 {
-    let Some(node) = core.node_at(n) else {
+    let Some(node) = core.node_at(number) else {
         return Outcome::Lacks(Lack::Value);
     };
     match &node.kind {
         NodeKind::SetField(name) => write(core, heap, frame, *name),
-        _ => Outcome::Lacks(Lack::Value),
+        NodeKind::Number(_)
+        | NodeKind::Truth(_)
+        | NodeKind::Text(_)
+        | NodeKind::Prim(_)
+        | NodeKind::This
+        | NodeKind::Local(_)
+        | NodeKind::Consume(_)
+        | NodeKind::Field(_)
+        | NodeKind::Define(_)
+        | NodeKind::Assign(_)
+        | NodeKind::New(_)
+        | NodeKind::Spawn(_)
+        | NodeKind::Call(_)
+        | NodeKind::Binary(_)
+        | NodeKind::Not
+        | NodeKind::And
+        | NodeKind::Or
+        | NodeKind::Same(_)
+        | NodeKind::Seq
+        | NodeKind::If
+        | NodeKind::While
+        | NodeKind::Recover(_)
+        | NodeKind::Body => Outcome::Lacks(Lack::Value),
     }
 }

@@ -31,6 +31,7 @@ pub fn same_value(left: &Value, right: &Value) -> bool
         (Value::Text(left), Value::Text(right)) => left.is_equal(right),
         (Value::Prim(left), Value::Prim(right)) => *left == *right,
         (Value::At(left), Value::At(right)) => same_address(*left, *right),
-        (_, _) => false,
+        (Value::Num(_) | Value::Truth(_) | Value::Text(_) | Value::Prim(_) | Value::At(_), _) =>
+            false,
     }
 }

@@ -22,7 +22,17 @@ pub fn is_inside(frame: &Frame) -> bool
         Some(Task::Spawn(_)) => false,
         Some(Task::Invoke(_)) => false,
         Some(Task::Return) => false,
-        Some(_) => true,
+        Some(
+            Task::Eval(_)
+            | Task::Get(_)
+            | Task::Put(_)
+            | Task::Store(_)
+            | Task::Apply(_)
+            | Task::Test(_)
+            | Task::Branch(_)
+            | Task::Loop(_)
+            | Task::Discard,
+        ) => true,
     }
 }
 

@@ -1,16 +1,15 @@
 //! What operators give.
 ghost use Rattle.std.specs.Prelude.{◌≡◌, ◌/◌, ◌%◌, ◌++◌, length, nat_lt, IfOk};
+ghost use Rattle.pc_caps.specs.Limits.{text_limit};
 ghost use Rattle.pc_semantics.specs.declared.frames.Frame.{Frame};
 ghost use Rattle.pc_semantics.specs.Operators as spec;
 ghost use Rattle.pc_tasks.specs.Applied.{applied_to};
 
 use crate::identity::same_truth;
+use pc_caps::TEXT_LIMIT;
 use pc_heap::{Text, Value};
 use pc_tree::Op;
 use std::alloc::{AllocError, Global};
-
-/// How many bytes a text may have.
-const TEXT_LIMIT: usize = 4096;
 
 /// What an operator makes of its operands.
 #[derive(Drop)]
@@ -63,15 +62,27 @@ pub fn of_truths(op: Op, left: bool, right: bool) -> Option<Value>
     match op {
         Op::Eq => Some(Value::Truth(same_truth(left, right))),
         Op::Ne | Op::Xor => Some(Value::Truth(!same_truth(left, right))),
-        _ => None,
+        Op::Add
+        | Op::Sub
+        | Op::Mul
+        | Op::Div
+        | Op::Rem
+        | Op::Lt
+        | Op::Le
+        | Op::Gt
+        | Op::Ge
+        | Op::And
+        | Op::Or
+        | Op::Is
+        | Op::Isnt => None,
     }
 }
 
 /// Whether the text of both would be longer than a text may be.
 pub fn is_too_long(left: &Text, right: &Text) -> bool
-    ensures { result ≡ nat_lt spec.text_limit (length (left.now ++ right.now)) }
+    ensures { result ≡ nat_lt text_limit (length (left.now ++ right.now)) }
 {
-    match left.room_behind(TEXT_LIMIT) {
+    match left.room_behind(TEXT_LIMIT as usize) {
         Some(room) => right.room_behind(room).is_none(),
         None => true,
     }
@@ -96,7 +107,19 @@ fn of_texts(alloc: Global, op: Op, left: &Text, right: &Text) -> Result<Applied,
         Op::Add => joined(alloc, left, right),
         Op::Eq => Ok(Applied::Gives(Value::Truth(left.is_equal(right)))),
         Op::Ne => Ok(Applied::Gives(Value::Truth(!left.is_equal(right)))),
-        _ => Ok(Applied::OtherKind),
+        Op::Sub
+        | Op::Mul
+        | Op::Div
+        | Op::Rem
+        | Op::Lt
+        | Op::Le
+        | Op::Gt
+        | Op::Ge
+        | Op::And
+        | Op::Or
+        | Op::Xor
+        | Op::Is
+        | Op::Isnt => Ok(Applied::OtherKind),
     }
 }
 
@@ -118,7 +141,9 @@ pub fn binary(alloc: Global, op: Op, left: &Value, right: &Value) -> Result<Appl
         (Value::Num(left), Value::Num(right)) => Ok(given(of_numbers(op, *left, *right))),
         (Value::Truth(left), Value::Truth(right)) => Ok(given(of_truths(op, *left, *right))),
         (Value::Text(left), Value::Text(right)) => of_texts(alloc, op, left, right),
-        (_, _) => Ok(Applied::OtherKind),
+        (Value::Num(_) | Value::Truth(_) | Value::Text(_) | Value::Prim(_) | Value::At(_), _) => Ok(
+            Applied::OtherKind,
+        ),
     }
 }
 
@@ -128,6 +153,6 @@ pub fn negated(value: &Value) -> Applied
 {
     match value {
         Value::Truth(truth) => Applied::Gives(Value::Truth(!*truth)),
-        _ => Applied::OtherKind,
+        Value::Num(_) | Value::Text(_) | Value::Prim(_) | Value::At(_) => Applied::OtherKind,
     }
 }

@@ -3,10 +3,11 @@ ghost use Rattle.std.specs.Prelude.{◌≡◌};
 ghost use Rattle.pc_semantics.specs.Around as spec;
 
 use pc_heap::Value;
+use pc_tree::NONE_ENTITY;
 
 /// None, the value of what has no other.
 pub fn none() -> Value
     ensures { result ≡ spec.none }
 {
-    Value::Prim(0)
+    Value::Prim(NONE_ENTITY)
 }

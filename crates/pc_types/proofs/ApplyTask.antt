@@ -21,7 +21,8 @@ use Rattle.pc_ann.specs.declared.annotation.Rule.TheVariants as rule
 use Rattle.pc_semantics.specs.declared.frames.Frame.{Frame}
 use Rattle.pc_semantics.specs.declared.frames.Task.TheVariants as task
 use Rattle.pc_semantics.specs.Around.{Around, Move, Overflows, Goes, with_stack, pushed}
-use Rattle.pc_semantics.specs.Operators.{text_limit, gives, of_numbers, of_truths, joined, of_texts, with_number, with_truth, with_text, binary, negated, same_truth, same_value, compared}
+use Rattle.pc_semantics.specs.Operators.{gives, of_numbers, of_truths, joined, of_texts, with_number, with_truth, with_text, binary, negated, same_truth, same_value, compared}
+use Rattle.pc_caps.specs.Limits.{text_limit}
 use Rattle.pc_semantics.specs.Choices.{apply_task}
 use Rattle.pc_rules.specs.Parts.{Ty, Masks, reads_as, before, through, type_of, one_child}
 use Rattle.pc_rules.specs.Fields.{is_this}

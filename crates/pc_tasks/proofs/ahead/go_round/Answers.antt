@@ -10,5 +10,5 @@ use Rattle.pc_tasks.proofs.ahead.go_round.Goals as goal
 pub returns-in-Some : goal.returns-in-Some
 returns-in-Some c =
     let f = relieved c.args.frame.now in
-    c.turn.ensures c.args.n ∙ ap (λ (cs : List ℕ). by_move (loop_task f c.args.n cs)) c.as_slice.ensures
-    ∙ ap (λ (o : Option Node). by_move (at_node o (λ x. loop_task f c.args.n x.children))) c.in-Some.ensures
+    c.turn.ensures c.args.number ∙ ap (λ (cs : List ℕ). by_move (loop_task f c.args.number cs)) c.as_slice.ensures
+    ∙ ap (λ (o : Option Node). by_move (at_node o (λ x. loop_task f c.args.number x.children))) c.in-Some.ensures
