@@ -1,9 +1,9 @@
 -- Where there is no fault, what the numbers in an expression name is there.
 use Rattle.std.proofs.Common.{◌≡◌, ℕ, suc, ◌+◌, ◌<◌, ◌≤◌, length, List, [], ◌∷◌, ◌++◌, Option, Some, None, Bool, true, false, refl, sym, subst, inl, inr, arith, if◌then◌else◌}
-use Rattle.std.specs.Prelude.{slice_get, nat_eq, nat_lt, ◌⊎◌}
+use Rattle.std.specs.Prelude.{slice_get, nat_eq, nat_le, ◌⊎◌}
 use Rattle.std.specs.Str.{bytes_eq}
 use Rattle.std.proofs.Common.{ap, ◌∙◌}
-use Rattle.std.proofs.lemmas.Bool.{ltb-true, eqb-true}
+use Rattle.std.proofs.lemmas.Bool.{leb-true, eqb-true}
 use Rattle.std.proofs.lemmas.Option.{same_Some, none-some}
 use Rattle.pc_caps.specs.declared.span.Span.{Span}
 use Rattle.pc_tree.specs.declared.kinds.Op.{Op}
@@ -12,6 +12,7 @@ use Rattle.pc_tree.specs.declared.names.Name.{Name}
 use Rattle.pc_tree.specs.declared.kinds.EntityKind.{EntityKind}
 use Rattle.pc_tree.specs.declared.kinds.EntityKind.TheVariants as kind
 use Rattle.pc_tree.specs.Tree as t
+use Rattle.pc_tree.specs.BuiltIn.{first_own}
 use Rattle.pc_body_spec.specs.Roses.{Rose, Roses, rose, more, no_roses, and_last, two, three}
 use Rattle.pc_body_spec.specs.Scopes.{Context, Scope, Constructor, Known, text_from, type_from, is_own, by_kind, Meaning, local, field, method, nothing, TypeMeaning, primitive, created, no_value, slot_of, text_of, resolve, type_meaning, constructor_named, scope_after, deeper}
 use Rattle.pc_body_spec.specs.Expressions.{value_then, use_other, join, added_this, operation, read_field, call, read_name, consumed, write_name, new_object, create_name, read_type, Start, with_method, with_type, with_value, start_of, start_with_name, apply_name, apply_primitive, apply, call_named, Use, read, write, use_field, if_of, arm_place, sequence, expr_of, assign_of, infix_of, operands_of, chain_of, named_of, exprs_of, arms_of, arm_of, other_of, whole_of, seq_of, items_of, item_of}
@@ -59,9 +60,9 @@ TypeKnown c no_value = Unit {0}
 own_number : (e : ℕ) → is_own e ≡ true → (e ≡ 0) ⊎ (6 ≤ e)
 own_number e h = by (nat_eq e 0) refl h
   where
-    by : (b : Bool) → nat_eq e 0 ≡ b → (if b then true else nat_lt 5 e) ≡ true → (e ≡ 0) ⊎ (6 ≤ e)
+    by : (b : Bool) → nat_eq e 0 ≡ b → (if b then true else nat_le first_own e) ≡ true → (e ≡ 0) ⊎ (6 ≤ e)
     by true z k = inl (eqb-true e 0 z)
-    by false z k = let l : 5 < e = ltb-true 5 e k in inr (omega (arith, l))
+    by false z k = inr (leb-true first_own e k)
 
 kind_known : (c : Context) (e : ℕ) (x : Known) (k : EntityKind) → slice_get c.entities e ≡ Some x → x.kind ≡ k → (e ≡ 0) ⊎ (6 ≤ e) → TypeKnown c (by_kind k e x.constructors)
 kind_known c e x kind.Class g h o = (e, x, g, h, refl)

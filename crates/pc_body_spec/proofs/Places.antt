@@ -11,7 +11,8 @@ use Rattle.pc_lists.specs.Places.{Each, Ascends}
 use Rattle.pc_body_spec.specs.Scopes.{Context, Scope, Constructor, Meaning, local, field, method, nothing, TypeMeaning, primitive, created, no_value, slot_of, slot_at, resolve, type_meaning, constructor_named, scope_after, params_scope, deeper}
 use Rattle.pc_body_spec.specs.Expressions.{Start, with_method, with_type, with_value, start_of, create_name}
 use Rattle.pc_body_spec.specs.Bodies.{initial_fields}
-use Rattle.pc_body_spec.specs.Faults.{Fault, unknown, double, long_text, unless_some, when, is_taken, is_entity, literal_limit, name_faults, type_faults, written_faults, Next, arguments, name, end, next_of, start_faults, constructor_faults, dot_faults, faults_of, exprs_faults, suffixes_faults, arms_faults, arm_faults, other_faults, seq_faults, items_faults, item_faults, value_faults, initial_faults, written_body_faults, body_faults}
+use Rattle.pc_body_spec.specs.Faults.{Fault, unknown, double, long_text, unless_some, when, is_taken, is_entity, name_faults, type_faults, written_faults, Next, arguments, name, end, next_of, start_faults, constructor_faults, dot_faults, faults_of, exprs_faults, suffixes_faults, arms_faults, arm_faults, other_faults, seq_faults, items_faults, item_faults, value_faults, initial_faults, written_body_faults, body_faults}
+use Rattle.pc_caps.specs.Limits.{text_limit}
 use Rattle.pc_body_spec.specs.Slots.{Local, locals_of, exprs_locals, suffixes_locals, arm_locals, arms_locals, other_locals, seq_locals, items_locals, item_locals, value_locals, initial_locals, body_locals, method_locals, placed_from}
 use Rattle.pc_body_spec.specs.Places.{written_places, places, exprs_places, suffixes_places, arm_places, arms_places, other_places, seq_places, items_places, item_places, value_places, initial_places, written_body_places, body_places, fault_start, local_start}
 use Rattle.pc_body_spec.specs.Laws.{FirstIsLeast, LocalsHaveSlots}
@@ -129,7 +130,7 @@ mutual
   expr_at : (c : Context) (sc : Scope) (e : t.Expr) → FaultsAt (faults_of c sc e) (places e)
   expr_at c sc (t.number n s) = none
   expr_at c sc (t.truth b s) = none
-  expr_at c sc (t.text b s) = when_at (nat_lt literal_limit (length b)) (long_text s)
+  expr_at c sc (t.text b s) = when_at (nat_lt text_limit (length b)) (long_text s)
   expr_at c sc (t.name n) = name_at (resolve c sc n.text) n.span
   expr_at c sc (t.type_name n) = type_at (type_meaning c n.text) n.span
   expr_at c sc (t.this s) = none

@@ -11,7 +11,8 @@ use Rattle.pc_lists.specs.Places.{Each}
 use Rattle.pc_core.specs.Methods.{PostOrder}
 use Rattle.pc_core.specs.Growing.{post_order_push}
 use Rattle.pc_lists.proofs.Gets.{append_get}
-use Rattle.pc_body_spec.specs.Roses.{Rose, Roses, rose, more, no_roses, Numbered, and_then, put, puts, push, node_of, node_limit}
+use Rattle.pc_body_spec.specs.Roses.{Rose, Roses, rose, more, no_roses, Numbered, and_then, put, puts, push, node_of}
+use Rattle.pc_caps.specs.Limits.{node_limit}
 use Rattle.pc_body_spec.specs.Laws.{WasPut, IsPostOrder}
 
 -- what a chain gives, taken apart

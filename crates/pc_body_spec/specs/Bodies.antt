@@ -24,12 +24,15 @@ initials_then c (f ∷ fs) rest = initial_of c f.name f.value (initials_then c f
 -- Only constructors begin with the initial values.
 abbrev pub initial_fields : MethodWord → List t.Field → List t.Field
 initial_fields word.New fs = fs
-initial_fields w fs = []
+initial_fields word.Fun fs = []
+initial_fields word.Be fs = []
 
 -- A function without a written result gives None.
 abbrev pub gives_none : MethodWord → Option TypeRef → Bool
 gives_none word.Fun None = true
-gives_none w r = false
+gives_none word.Fun (Some ty) = false
+gives_none word.Be r = false
+gives_none word.New r = false
 
 abbrev pub none_last : Bool → Span → Roses → Roses
 none_last true s rs = and_last rs (added_none s 0)

@@ -8,6 +8,7 @@ use Rattle.pc_tree.specs.declared.kinds.Op.TheVariants as op
 use Rattle.pc_tree.specs.declared.names.Name.{Name}
 use Rattle.pc_tree.specs.declared.names.TypeRef.{TypeRef}
 use Rattle.pc_tree.specs.Tree as t
+use Rattle.pc_tree.specs.BuiltIn.{none_entity}
 use Rattle.pc_core.specs.declared.nodes.SlotKind.TheVariants as slot
 use Rattle.pc_core.specs.declared.nodes.Node.{Node}
 use Rattle.pc_core.specs.declared.nodes.NodeKind.TheVariants as node
@@ -106,12 +107,12 @@ second_nodes =
     ∷ node_of 3 (node.Field 3) (at 54 55) 0 (9 ∷ [])
     ∷ node_of 3 (node.SetField 4) (at 54 61) 0 (8 ∷ 10 ∷ [])
     ∷ node_of 3 node.Seq (at 54 61) 0 (11 ∷ [])
-    ∷ node_of 3 (node.Prim 0) (at 62 65) 0 ([])
+    ∷ node_of 3 (node.Prim none_entity) (at 62 65) 0 ([])
     ∷ node_of 3 node.Seq (at 62 65) 0 (13 ∷ [])
     ∷ node_of 3 node.If (at 40 65) 0 (7 ∷ 12 ∷ 14 ∷ [])
     ∷ node_of 3 node.Seq (at 40 65) 0 (15 ∷ [])
     ∷ node_of 3 node.If (at 25 65) 0 (1 ∷ 5 ∷ 16 ∷ [])
-    ∷ node_of 3 (node.Prim 0) (at 6 8) 0 ([])
+    ∷ node_of 3 (node.Prim none_entity) (at 6 8) 0 ([])
     ∷ node_of 3 node.Seq (at 25 65) 0 (17 ∷ 18 ∷ [])
     ∷ node_of 3 node.Body (at 6 8) 0 (19 ∷ [])
     ∷ []

@@ -5,6 +5,7 @@ use Rattle.pc_tree.specs.declared.kinds.Op.{Op}
 use Rattle.pc_tree.specs.declared.kinds.Op.TheVariants as op
 use Rattle.pc_tree.specs.declared.names.Name.{Name}
 use Rattle.pc_tree.specs.Tree as t
+use Rattle.pc_tree.specs.BuiltIn.{none_entity}
 use Rattle.pc_core.specs.declared.nodes.NodeKind.{NodeKind}
 use Rattle.pc_core.specs.declared.nodes.NodeKind.TheVariants as node
 use Rattle.pc_body_spec.specs.Roses.{Rose, Roses, rose, leaf, no_roses, more, one, two, three, and_last}
@@ -146,7 +147,7 @@ arm_place false whole arm = join arm whole
 
 -- The value None, for which nothing is written.
 abbrev pub added_none : Span → ℕ → Rose
-added_none s d = leaf (node.Prim 0) s d
+added_none s d = leaf (node.Prim none_entity) s d
 
 -- A sequence has an item: without one, which no text spells, it gives None.
 abbrev pub or_none : Span → ℕ → Roses → Roses

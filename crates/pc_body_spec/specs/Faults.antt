@@ -2,6 +2,7 @@
 use Rattle.std.specs.Prelude.{ℕ, Bool, true, false, List, [], ◌∷◌, ◌++◌, length, Option, Some, None, if◌then◌else◌, nat_lt}
 use Rattle.std.specs.Str.{bytes_eq}
 use Rattle.pc_caps.specs.declared.span.Span.{Span}
+use Rattle.pc_caps.specs.Limits.{text_limit}
 use Rattle.pc_tree.specs.declared.names.Name.{Name}
 use Rattle.pc_tree.specs.declared.names.TypeRef.{TypeRef}
 use Rattle.pc_tree.specs.Tree as t
@@ -16,10 +17,6 @@ pub data Fault : Type 0 where
   double : Span → Fault
   -- a text that is too long
   long_text : Span → Fault
-
--- A text has at most so many bytes.
-abbrev pub literal_limit : ℕ
-literal_limit = 4096
 
 abbrev pub when : Bool → Fault → List Fault
 when true f = f ∷ []
@@ -89,7 +86,7 @@ abbrev mutual
   pub faults_of : Context → Scope → t.Expr → List Fault
   faults_of c sc (t.number n s) = []
   faults_of c sc (t.truth b s) = []
-  faults_of c sc (t.text b s) = when (nat_lt literal_limit (length b)) (long_text s)
+  faults_of c sc (t.text b s) = when (nat_lt text_limit (length b)) (long_text s)
   faults_of c sc (t.name n) = name_faults (resolve c sc n.text) n.span
   faults_of c sc (t.type_name n) = type_faults (type_meaning c n.text) n.span
   faults_of c sc (t.this s) = []

@@ -9,7 +9,8 @@ use Rattle.pc_core.specs.Nodes.{HasArity, inner_depth}
 use Rattle.pc_caps.specs.declared.capability.Cap.{Cap}
 use Rattle.pc_tree.specs.declared.names.TypeRef.{TypeRef}
 use Rattle.pc_tree.specs.Tree as t
-use Rattle.pc_body_spec.specs.Roses.{Rose, put, node_limit}
+use Rattle.pc_body_spec.specs.Roses.{Rose, put}
+use Rattle.pc_caps.specs.Limits.{node_limit, slot_limit}
 use Rattle.pc_body_spec.specs.Scopes.{Context, Scope, params_scope, slot_at}
 use Rattle.pc_body_spec.specs.Expressions.{expr_of}
 use Rattle.pc_body_spec.specs.Shapes.{Shaped}
@@ -153,9 +154,9 @@ WrittenTypesAreThere = (c : Context) (ty : TypeRef) → written_faults c (Some t
 abbrev pub MethodsStand : Type 0
 MethodsStand =
     (c : Context) (m : ℕ) (fs : List t.Field) (x : t.Method) (n : ℕ) (before after : List Node) → 0 < length c.texts → method_of c m fs x before ≡ Ok (Some n, after)
-    → (1 + length (slot_names fs x) ≤ 64) × BodyStands c m n before after
+    → (1 + length (slot_names fs x) ≤ slot_limit) × BodyStands c m n before after
 
 abbrev pub AddedMethodsStand : Type 0
 AddedMethodsStand =
     (c : Context) (m : ℕ) (fs : List t.Field) (name : Span) (n : ℕ) (before after : List Node) → 0 < length c.texts → added_of c m fs name before ≡ Ok (Some n, after)
-    → (1 + length (local_names (initial_locals fs)) ≤ 64) × BodyStands c m n before after
+    → (1 + length (local_names (initial_locals fs)) ≤ slot_limit) × BodyStands c m n before after

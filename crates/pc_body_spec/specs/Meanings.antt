@@ -2,6 +2,7 @@
 use Rattle.std.specs.Prelude.{◌≡◌, ◌⊎◌, ℕ, ◌<◌, ◌≤◌, true, length, Some, slice_get}
 use Rattle.pc_tree.specs.declared.kinds.EntityKind.{EntityKind}
 use Rattle.pc_tree.specs.declared.kinds.EntityKind.TheVariants as kind
+use Rattle.pc_tree.specs.BuiltIn.{none_entity, first_own}
 use Rattle.pc_core.specs.declared.nodes.NodeKind.{NodeKind}
 use Rattle.pc_core.specs.declared.nodes.NodeKind.TheVariants as node
 use Rattle.pc_lists.specs.Places.{Has}
@@ -29,7 +30,7 @@ IsConstructor c k m = (e : ℕ) × (x : Known) × (slice_get c.entities e ≡ So
 -- What a node of this kind names is there: None or a primitive of the program's own, a constructor of a class or of an
 -- actor, and a text; an operator is one that has no kind of its own. A body is nowhere.
 abbrev pub Names : Context → NodeKind → Type 0
-Names c (node.Prim e) = (e ≡ 0) ⊎ ((6 ≤ e) × IsOfKind c kind.Primitive e)
+Names c (node.Prim e) = (e ≡ none_entity) ⊎ ((first_own ≤ e) × IsOfKind c kind.Primitive e)
 Names c (node.New m) = IsConstructor c kind.Class m
 Names c (node.Spawn m) = IsConstructor c kind.Actor m
 Names c (node.Field f) = f < length c.texts

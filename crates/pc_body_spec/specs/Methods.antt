@@ -1,6 +1,7 @@
 -- What becomes of a method: its nodes behind those of the methods before it, or its first fault.
-use Rattle.std.specs.Prelude.{ℕ, List, [], ◌∷◌, ◌++◌, map, Option, Some, None, Result, Ok, Err, slice_get}
+use Rattle.std.specs.Prelude.{ℕ, List, [], ◌∷◌, ◌++◌, map, Option, Some, None, Result, Ok, Err, slice_get, ◌-◌}
 use Rattle.pc_caps.specs.declared.span.Span.{Span}
+use Rattle.pc_caps.specs.Limits.{slot_limit}
 use Rattle.pc_tree.specs.declared.names.Name.{Name}
 use Rattle.pc_tree.specs.declared.file.ParamDef.{ParamDef}
 use Rattle.pc_tree.specs.Tree as t
@@ -33,7 +34,8 @@ local_names ls = map (λ l. l.name) ls
 abbrev pub slot_names : List t.Field → t.Method → List Name
 slot_names fs x = param_names x.params ++ local_names (method_locals fs x)
 
--- The first fault of the body comes before the 65th slot, and this before the count of the nodes.
+-- The first fault of the body comes before a slot past the limit, and this before the count of the nodes. The names are those of
+-- the slots behind that of `this`.
 abbrev pub unless_fault : List Fault → Outcome → Outcome
 unless_fault [] rest = rest
 unless_fault (f ∷ fs) rest = Err (in_body f)
@@ -43,7 +45,7 @@ unless_name None rest = rest
 unless_name (Some n) rest = Err (slots_full n.span)
 
 abbrev pub unless_full : List Name → Outcome → Outcome
-unless_full names rest = unless_name (slice_get names 63) rest
+unless_full names rest = unless_name (slice_get names (slot_limit - 1)) rest
 
 abbrev pub numbered : Span → Numbered ℕ → Outcome
 numbered name None = Err (nodes_full name)

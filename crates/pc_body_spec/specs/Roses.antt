@@ -1,6 +1,7 @@
 -- What a part of a body becomes before its nodes have numbers, and how it is numbered.
 use Rattle.std.specs.Prelude.{ℕ, List, [], ◌∷◌, ◌++◌, length, Option, Some, None, if◌then◌else◌, nat_lt}
 use Rattle.pc_caps.specs.declared.span.Span.{Span}
+use Rattle.pc_caps.specs.Limits.{node_limit}
 use Rattle.pc_core.specs.declared.nodes.Node.{Node}
 use Rattle.pc_core.specs.declared.nodes.NodeKind.{NodeKind}
 
@@ -41,10 +42,6 @@ and_then (Some r) f = f r.0 r.1
 
 abbrev pub node_of : ℕ → NodeKind → Span → ℕ → List ℕ → Node
 node_of m k s d children = record { kind = k; children = children; depth = d; method = m; span = s }
-
--- The nodes of a core are at most so many.
-abbrev pub node_limit : ℕ
-node_limit = 200000
 
 -- A node of method m is put behind the others, and its number is its place.
 unfoldable pub push : ℕ → NodeKind → Span → ℕ → List ℕ → List Node → Numbered ℕ

@@ -1,5 +1,5 @@
 -- What the names in a body mean.
-use Rattle.std.specs.Prelude.{ℕ, suc, ◌+◌, ◌-◌, ◌^◌, min, Bool, true, false, List, [], ◌∷◌, ◌++◌, Option, Some, None, if◌then◌else◌, nat_eq, nat_lt}
+use Rattle.std.specs.Prelude.{ℕ, suc, ◌+◌, ◌-◌, ◌^◌, min, Bool, true, false, List, [], ◌∷◌, ◌++◌, Option, Some, None, if◌then◌else◌, nat_eq, nat_le}
 use Rattle.std.specs.Str.{bytes_eq}
 use Rattle.pc_caps.specs.declared.capability.Cap.{Cap}
 use Rattle.pc_tree.specs.declared.kinds.EntityKind.{EntityKind}
@@ -7,6 +7,7 @@ use Rattle.pc_tree.specs.declared.kinds.EntityKind.TheVariants as kind
 use Rattle.pc_tree.specs.declared.names.Name.{Name}
 use Rattle.pc_tree.specs.declared.file.ParamDef.{ParamDef}
 use Rattle.pc_tree.specs.Tree as t
+use Rattle.pc_tree.specs.BuiltIn.{none_entity, first_own}
 
 -- A constructor of an entity: its name, and its number among the methods of the program.
 pub record Constructor : Type 0 where
@@ -97,9 +98,9 @@ pub data TypeMeaning : Type 0 where
   created : Bool → List Constructor → TypeMeaning
   no_value : TypeMeaning
 
--- Of the entities of the language, which are the first six, None alone has a value that its name stands for.
+-- Of the entities of the language, None alone has a value that its name stands for.
 abbrev pub is_own : ℕ → Bool
-is_own e = if nat_eq e 0 then true else nat_lt 5 e
+is_own e = if nat_eq e none_entity then true else nat_le first_own e
 
 abbrev pub by_kind : EntityKind → ℕ → List Constructor → TypeMeaning
 by_kind kind.Class e cs = created false cs

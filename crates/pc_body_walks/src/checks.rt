@@ -1,22 +1,20 @@
 //! What single names and texts of a body may be.
 ghost use Rattle.std.specs.Prelude.{◌∷◌, [], length, nat_lt, if◌then◌else◌};
+ghost use Rattle.pc_caps.specs.Limits.{text_limit};
 ghost use Rattle.pc_body_spec.specs.Scopes.{constructor_named as constructor_in, resolve, slot_of as slot_in, type_meaning};
 ghost use Rattle.pc_body_spec.specs.Faults as spec;
 ghost use Rattle.pc_body_walks.specs.Checking.{Tells};
 
 use crate::fault::BodyFault;
-use pc_caps::Span;
+use pc_caps::{Span, TEXT_LIMIT};
 use pc_resolve::{Constructors, Context, Meaning, Scope, TypeMeaning};
 use pc_tree::{Name, TypeRef};
 
-/// How many bytes a text may have.
-const TEXT_LIMIT: usize = 4_096;
-
 /// A text is not too long.
 pub(crate) fn check_text(bytes: &[u8], span: Span) -> Result<(), BodyFault>
-    ensures { Tells result (spec.when (nat_lt spec.literal_limit (length bytes.now)) (spec.long_text span)) }
+    ensures { Tells result (spec.when (nat_lt text_limit (length bytes.now)) (spec.long_text span)) }
 {
-    if bytes.len() > TEXT_LIMIT {
+    if bytes.len() > TEXT_LIMIT as usize {
         Err(BodyFault::LongText(span))
     } else {
         Ok(())

@@ -85,10 +85,15 @@ fn body(alloc: Global, locals: &mut List<Local>, body: &Option<Seq>) -> Result<(
 }
 
 #[cycle(walk)]
-fn expr(alloc: Global, locals: &mut List<Local>, depth: u32, e: &Expr) -> Result<(), AllocError>
-    ensures { OnOk result (locals.new ≡ locals.old ++ spec.locals_of depth (expr_view e.now)) }
+fn expr(
+    alloc: Global,
+    locals: &mut List<Local>,
+    depth: u32,
+    expression: &Expr,
+) -> Result<(), AllocError>
+    ensures { OnOk result (locals.new ≡ locals.old ++ spec.locals_of depth (expr_view expression.now)) }
 {
-    match e {
+    match expression {
         Expr::Number { .. }
         | Expr::Truth { .. }
         | Expr::Text { .. }
@@ -145,10 +150,15 @@ fn suffix_list(
 }
 
 #[cycle(walk)]
-fn suffix(alloc: Global, locals: &mut List<Local>, depth: u32, x: &Suffix) -> Result<(), AllocError>
-    ensures { OnOk result (locals.new ≡ locals.old ++ spec.suffix_locals depth (suffix_view x.now)) }
+fn suffix(
+    alloc: Global,
+    locals: &mut List<Local>,
+    depth: u32,
+    part: &Suffix,
+) -> Result<(), AllocError>
+    ensures { OnOk result (locals.new ≡ locals.old ++ spec.suffix_locals depth (suffix_view part.now)) }
 {
-    match x {
+    match part {
         Suffix::Dot(_) => Ok(()),
         Suffix::Args { args, .. } => exprs(alloc, locals, depth, args.as_slice()),
     }
@@ -170,11 +180,11 @@ fn arm_list(
 }
 
 #[cycle(walk)]
-fn arm(alloc: Global, locals: &mut List<Local>, depth: u32, x: &Arm) -> Result<(), AllocError>
-    ensures { OnOk result (locals.new ≡ locals.old ++ spec.arm_locals depth (arm_view x.now)) }
+fn arm(alloc: Global, locals: &mut List<Local>, depth: u32, part: &Arm) -> Result<(), AllocError>
+    ensures { OnOk result (locals.new ≡ locals.old ++ spec.arm_locals depth (arm_view part.now)) }
 {
-    sequence(alloc, locals, depth, &x.cond)?;
-    sequence(alloc, locals, depth, &x.body)
+    sequence(alloc, locals, depth, &part.cond)?;
+    sequence(alloc, locals, depth, &part.body)
 }
 
 #[cycle(walk)]
@@ -215,10 +225,10 @@ fn items(alloc: Global, locals: &mut List<Local>, depth: u32, xs: &[Item]) -> Re
 }
 
 #[cycle(walk)]
-fn item(alloc: Global, locals: &mut List<Local>, depth: u32, x: &Item) -> Result<(), AllocError>
-    ensures { OnOk result (locals.new ≡ locals.old ++ spec.item_locals depth (item_view x.now)) }
+fn item(alloc: Global, locals: &mut List<Local>, depth: u32, part: &Item) -> Result<(), AllocError>
+    ensures { OnOk result (locals.new ≡ locals.old ++ spec.item_locals depth (item_view part.now)) }
 {
-    match x {
+    match part {
         Item::Local {
             fixed,
             name,

@@ -72,10 +72,10 @@ fn body(table: &mut NameTable, body: &Option<Seq>) -> Result<(), AllocError>
 }
 
 #[cycle(walk)]
-fn expr(table: &mut NameTable, e: &Expr) -> Result<(), AllocError>
-    ensures { OnOk result (table.new ≡ spec.with_expr table.old (expr_view e.now)) }
+fn expr(table: &mut NameTable, expression: &Expr) -> Result<(), AllocError>
+    ensures { OnOk result (table.new ≡ spec.with_expr table.old (expr_view expression.now)) }
 {
-    match e {
+    match expression {
         Expr::Number { .. }
         | Expr::Truth { .. }
         | Expr::Text { .. }
@@ -126,10 +126,10 @@ fn suffix_list(table: &mut NameTable, xs: &[Suffix]) -> Result<(), AllocError>
 }
 
 #[cycle(walk)]
-fn suffix(table: &mut NameTable, x: &Suffix) -> Result<(), AllocError>
-    ensures { OnOk result (table.new ≡ spec.with_suffix table.old (suffix_view x.now)) }
+fn suffix(table: &mut NameTable, part: &Suffix) -> Result<(), AllocError>
+    ensures { OnOk result (table.new ≡ spec.with_suffix table.old (suffix_view part.now)) }
 {
-    match x {
+    match part {
         Suffix::Dot(name) => table.add(name.text.as_slice()),
         Suffix::Args { args, .. } => exprs(table, args.as_slice()),
     }
@@ -146,11 +146,11 @@ fn arm_list(table: &mut NameTable, xs: &[Arm]) -> Result<(), AllocError>
 }
 
 #[cycle(walk)]
-fn arm(table: &mut NameTable, x: &Arm) -> Result<(), AllocError>
-    ensures { OnOk result (table.new ≡ spec.with_arm table.old (arm_view x.now)) }
+fn arm(table: &mut NameTable, part: &Arm) -> Result<(), AllocError>
+    ensures { OnOk result (table.new ≡ spec.with_arm table.old (arm_view part.now)) }
 {
-    sequence(table, &x.cond)?;
-    sequence(table, &x.body)
+    sequence(table, &part.cond)?;
+    sequence(table, &part.body)
 }
 
 #[cycle(walk)]
@@ -181,10 +181,10 @@ fn items(table: &mut NameTable, xs: &[Item]) -> Result<(), AllocError>
 }
 
 #[cycle(walk)]
-fn item(table: &mut NameTable, x: &Item) -> Result<(), AllocError>
-    ensures { OnOk result (table.new ≡ spec.with_item table.old (item_view x.now)) }
+fn item(table: &mut NameTable, part: &Item) -> Result<(), AllocError>
+    ensures { OnOk result (table.new ≡ spec.with_item table.old (item_view part.now)) }
 {
-    match x {
+    match part {
         Item::Local { value, .. } => expr(table, value),
         Item::Plain(e) => expr(table, e),
     }

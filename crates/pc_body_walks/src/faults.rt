@@ -91,11 +91,16 @@ fn body(
 
 #[cycle(walk)]
 #[tactic(auto, using(crate::proofs::Firsts::is_first_on))]
-fn expr(alloc: Global, context: &Context, scope: &mut Scope, e: &Expr) -> Result<(), BodyFault>
-    ensures tells { Tells result (spec.faults_of context.now scope.old (expr_view e.now)) }
+fn expr(
+    alloc: Global,
+    context: &Context,
+    scope: &mut Scope,
+    expression: &Expr,
+) -> Result<(), BodyFault>
+    ensures tells { Tells result (spec.faults_of context.now scope.old (expr_view expression.now)) }
     ensures scope { OnOk result (scope.new ≡ scope.old) }
 {
-    match e {
+    match expression {
         Expr::Number { .. } | Expr::Truth { .. } | Expr::This(_) => Ok(()),
         Expr::Text { bytes, span } => check_text(bytes.as_slice(), *span),
         Expr::Name(name) => check_name(context, scope, name),
@@ -133,16 +138,16 @@ fn chain_head(
     alloc: Global,
     context: &Context,
     scope: &mut Scope,
-    e: &Expr,
+    expression: &Expr,
     next: Next,
 ) -> Result<(), BodyFault>
-    ensures tells { Tells result (spec.start_faults (start_of context.now scope.old (expr_view e.now)) (next_view next) (spec.faults_of context.now scope.old (expr_view e.now))) }
+    ensures tells { Tells result (spec.start_faults (start_of context.now scope.old (expr_view expression.now)) (next_view next) (spec.faults_of context.now scope.old (expr_view expression.now))) }
     ensures scope { OnOk result (scope.new ≡ scope.old) }
 {
-    if is_called(context, scope, e, next) {
+    if is_called(context, scope, expression, next) {
         return Ok(());
     }
-    expr(alloc, context, scope, e)
+    expr(alloc, context, scope, expression)
 }
 
 #[cycle(walk)]
@@ -176,11 +181,16 @@ fn suffix_list(
 }
 
 #[cycle(walk)]
-fn suffix(alloc: Global, context: &Context, scope: &mut Scope, x: &Suffix) -> Result<(), BodyFault>
-    ensures tells { Tells result (suffix_faults context.now scope.old (suffix_view x.now)) }
+fn suffix(
+    alloc: Global,
+    context: &Context,
+    scope: &mut Scope,
+    part: &Suffix,
+) -> Result<(), BodyFault>
+    ensures tells { Tells result (suffix_faults context.now scope.old (suffix_view part.now)) }
     ensures scope { OnOk result (scope.new ≡ scope.old) }
 {
-    match x {
+    match part {
         Suffix::Dot(_) => Ok(()),
         Suffix::Args { args, .. } => exprs(alloc, context, scope, args.as_slice()),
     }
@@ -205,12 +215,12 @@ fn arm_list(
 
 #[cycle(walk)]
 #[tactic(auto, using(crate::proofs::Firsts::is_first_on))]
-fn arm(alloc: Global, context: &Context, scope: &mut Scope, x: &Arm) -> Result<(), BodyFault>
-    ensures tells { Tells result (spec.arm_faults context.now scope.old (arm_view x.now)) }
+fn arm(alloc: Global, context: &Context, scope: &mut Scope, part: &Arm) -> Result<(), BodyFault>
+    ensures tells { Tells result (spec.arm_faults context.now scope.old (arm_view part.now)) }
     ensures scope { OnOk result (scope.new ≡ scope.old) }
 {
-    sequence(alloc, context, scope, &x.cond)?;
-    sequence(alloc, context, scope, &x.body)
+    sequence(alloc, context, scope, &part.cond)?;
+    sequence(alloc, context, scope, &part.body)
 }
 
 #[cycle(walk)]
@@ -255,11 +265,11 @@ fn items(alloc: Global, context: &Context, scope: &mut Scope, xs: &[Item]) -> Re
 
 #[cycle(walk)]
 #[tactic(auto, using(crate::proofs::Firsts::is_first_on))]
-fn item(alloc: Global, context: &Context, scope: &mut Scope, x: &Item) -> Result<(), BodyFault>
-    ensures tells { Tells result (spec.item_faults context.now scope.old (item_view x.now)) }
-    ensures scope { OnOk result (scope.new ≡ scope_after context.now scope.old (item_view x.now)) }
+fn item(alloc: Global, context: &Context, scope: &mut Scope, part: &Item) -> Result<(), BodyFault>
+    ensures tells { Tells result (spec.item_faults context.now scope.old (item_view part.now)) }
+    ensures scope { OnOk result (scope.new ≡ scope_after context.now scope.old (item_view part.now)) }
 {
-    match x {
+    match part {
         Item::Local {
             name,
             ty,

@@ -49,7 +49,19 @@ pub(crate) fn is_called(context: &Context, scope: &Scope, head: &Expr, next: Nex
     match head {
         Expr::Name(name) => is_called_method(context, scope, name, next),
         Expr::TypeName(name) => is_called_type(context, name, next),
-        _ => false,
+        Expr::Number { .. }
+        | Expr::Truth { .. }
+        | Expr::Text { .. }
+        | Expr::This(_)
+        | Expr::Consume { .. }
+        | Expr::Not { .. }
+        | Expr::Infix { .. }
+        | Expr::Chain { .. }
+        | Expr::Group { .. }
+        | Expr::If { .. }
+        | Expr::While { .. }
+        | Expr::Recover { .. }
+        | Expr::Assign { .. } => false,
     }
 }
 
@@ -81,7 +93,20 @@ pub(crate) fn check_head_name(
 {
     match head {
         Expr::TypeName(head) => check_type_suffixes(context, head, suffixes),
-        _ => Ok(()),
+        Expr::Number { .. }
+        | Expr::Truth { .. }
+        | Expr::Text { .. }
+        | Expr::Name(_)
+        | Expr::This(_)
+        | Expr::Consume { .. }
+        | Expr::Not { .. }
+        | Expr::Infix { .. }
+        | Expr::Chain { .. }
+        | Expr::Group { .. }
+        | Expr::If { .. }
+        | Expr::While { .. }
+        | Expr::Recover { .. }
+        | Expr::Assign { .. } => Ok(()),
     }
 }
 

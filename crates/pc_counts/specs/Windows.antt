@@ -1,7 +1,7 @@
 -- As the code computes it: the blocks of the traits and interfaces of a file for 64 names, from one number on.
 use Rattle.std.specs.Prelude.{◌≡◌, ℕ, ◌-◌, Bool, ◌&&◌, List, [], ◌∷◌, length, Option, Some, None, slice_get, slice_set, nat_le, nat_lt, if◌then◌else◌}
 use Rattle.pc_tree.specs.Tree as t
-use Rattle.pc_members.specs.Chains.{first_own}
+use Rattle.pc_tree.specs.BuiltIn.{first_own}
 use Rattle.pc_counts.specs.declared.block.Block.{Block}
 use Rattle.pc_counts.specs.declared.listing.Listing.{Listing}
 use Rattle.pc_counts.specs.Blocks.{nothing, single, followed}

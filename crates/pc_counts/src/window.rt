@@ -7,11 +7,8 @@ ghost use Rattle.pc_counts.specs.Windows as spec;
 use crate::block::Block;
 use crate::listing::Listing;
 use pc_caps::List;
-use pc_tree::{Entity, MethodDef};
+use pc_tree::{Entity, FIRST_OWN, MethodDef};
 use std::alloc::{AllocError, Global};
-
-/// How many entities are built in.
-const FIRST_OWN: usize = 6;
 
 /// How many names a block is about.
 pub(crate) const WIDTH: u32 = 64;
@@ -51,7 +48,7 @@ fn own_block(start: u32, numbers: &[u32], methods: &[MethodDef]) -> Block
 pub(crate) fn block_at(table: &[Block], number: u32) -> Block
     ensures { result ≡ spec.block_at table.now number }
 {
-    match table.get((number as usize).saturating_sub(FIRST_OWN)) {
+    match table.get((number as usize).saturating_sub(FIRST_OWN as usize)) {
         Some(block) => *block,
         None => Block::nothing(),
     }

@@ -1,8 +1,9 @@
--- The most slots and the most nodes of an annotation's text.
+-- The most slots and the most nodes of an annotation's text: as many as a program may have.
 use Rattle.std.specs.Prelude.{ℕ}
+use Rattle.pc_caps.specs.Limits as program
 
 abbrev pub slot_limit : ℕ
-slot_limit = 640000
+slot_limit = program.program_slot_limit
 
 abbrev pub node_limit : ℕ
-node_limit = 200000
+node_limit = program.node_limit

@@ -5,8 +5,8 @@ ghost use Rattle.pc_deriv.specs.LineState.{taken_of, Room, Sound};
 
 use crate::front::front_line;
 use crate::line::{Line, LineFault};
-use crate::reading::{NODE_LIMIT, SLOT_LIMIT};
 use crate::version::{Version, version_of};
+use pc_caps::{NODE_LIMIT, PROGRAM_SLOT_LIMIT};
 
 /// The most bytes of a line, its end among them. No line of an annotation's text is longer.
 const LONGEST_LINE: usize = 128;
@@ -43,7 +43,7 @@ fn within_limits(line: Line) -> Result<Line, LineFault>
             slots,
             nodes,
         } => {
-            if slots <= SLOT_LIMIT && nodes <= NODE_LIMIT {
+            if slots <= PROGRAM_SLOT_LIMIT && nodes <= NODE_LIMIT {
                 Ok(line)
             } else {
                 Err(LineFault::TooMany)

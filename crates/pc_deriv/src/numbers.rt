@@ -8,41 +8,41 @@ use pc_masks::Mask;
 const FULL_MASK: u64 = 1 << 60;
 
 /// The decimal digit that a byte is.
-fn decimal_digit(b: u8) -> Option<u64>
-    ensures value { result ≡ reading.digit_of 10 b }
+fn decimal_digit(byte: u8) -> Option<u64>
+    ensures value { result ≡ reading.digit_of 10 byte }
     ensures within { IfSome result (λ d. d < 10) }
 {
-    if b.is_ascii_digit() {
-        Some((b - b'0') as u64)
+    if byte.is_ascii_digit() {
+        Some((byte - b'0') as u64)
     } else {
         None
     }
 }
 
 /// The hexadecimal digit that a byte is, letters in lower case.
-fn hex_digit(b: u8) -> Option<u64>
-    ensures value { result ≡ reading.digit_of 16 b }
+fn hex_digit(byte: u8) -> Option<u64>
+    ensures value { result ≡ reading.digit_of 16 byte }
     ensures within { IfSome result (λ d. d < 16) }
 {
-    if b.is_ascii_digit() {
-        Some((b - b'0') as u64)
-    } else if b >= b'a' && b <= b'f' {
-        Some((b - b'a' + 10) as u64)
+    if byte.is_ascii_digit() {
+        Some((byte - b'0') as u64)
+    } else if byte >= b'a' && byte <= b'f' {
+        Some((byte - b'a' + 10) as u64)
     } else {
         None
     }
 }
 
 /// The number with one decimal digit more. Nothing follows the digit 0 at the front.
-fn with_decimal(value: u64, b: u8) -> Option<u64>
+fn with_decimal(value: u64, byte: u8) -> Option<u64>
     requires { value < 2 ^ 32 }
-    ensures value { result ≡ reading.with_digit 10 (2 ^ 32 - 1) value b }
+    ensures value { result ≡ reading.with_digit 10 (2 ^ 32 - 1) value byte }
     ensures within { IfSome result (λ v. v < 2 ^ 32) }
 {
     if value == 0 {
         return None;
     }
-    let more = value * 10 + decimal_digit(b)?;
+    let more = value * 10 + decimal_digit(byte)?;
     if more <= u32::MAX as u64 {
         Some(more)
     } else {
@@ -51,13 +51,13 @@ fn with_decimal(value: u64, b: u8) -> Option<u64>
 }
 
 /// The mask with one digit more. Nothing follows the digit 0 at the front.
-fn with_hex(value: u64, b: u8) -> Option<u64>
-    ensures { result ≡ reading.with_digit 16 (2 ^ 64 - 1) value b }
+fn with_hex(value: u64, byte: u8) -> Option<u64>
+    ensures { result ≡ reading.with_digit 16 (2 ^ 64 - 1) value byte }
 {
     if value == 0 || value >= FULL_MASK {
         return None;
     }
-    Some(value * 16 + hex_digit(b)?)
+    Some(value * 16 + hex_digit(byte)?)
 }
 
 /// The decimal number below 2^32 with which the text begins, and what follows it and the byte that ends it.

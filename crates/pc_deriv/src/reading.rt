@@ -12,14 +12,8 @@ use crate::fault::DerivFault;
 use crate::lines::{head_at, note_at, slot_at};
 use crate::version::Version;
 use pc_ann::{Ann, Note};
-use pc_caps::{Cap, List};
+use pc_caps::{Cap, List, NODE_LIMIT, PROGRAM_SLOT_LIMIT};
 use std::alloc::Global;
-
-/// The most slots of an annotation that is read.
-pub const SLOT_LIMIT: u32 = 640_000;
-
-/// The most nodes.
-pub const NODE_LIMIT: u32 = 200_000;
 
 /// Reads so many lines of slots.
 #[tactic(auto, using(crate::proofs::Reached::no_slot, crate::proofs::Reached::slot_more, crate::proofs::Reached::slot_stops))]
@@ -80,7 +74,7 @@ fn read_lines(alloc: Global, bytes: &[u8]) -> Result<Ann, DerivFault>
         Some(head) => head,
         None => return Err(DerivFault::BadLine(1)),
     };
-    if slot_count > SLOT_LIMIT || node_count > NODE_LIMIT {
+    if slot_count > PROGRAM_SLOT_LIMIT || node_count > NODE_LIMIT {
         return Err(DerivFault::TooMany);
     }
     let (slots, text) = read_slots(alloc, text, slot_count)?;

@@ -15,7 +15,7 @@ use Rattle.pc_core.specs.Formed.{Formed}
 use Rattle.pc_core.specs.CoreData.{CoreData}
 use Rattle.pc_names.specs.declared.fault.NameFault.{NameFault}
 use Rattle.pc_names.specs.declared.fault.NameFault.TheVariants as fault
-use Rattle.pc_members.specs.Chains.{first_own}
+use Rattle.pc_tree.specs.BuiltIn.{first_own}
 use Rattle.pc_names.specs.Names.{NamesData, Collected}
 use Rattle.pc_order.specs.Laws.{BodiesAscend}
 use Rattle.pc_body_spec.specs.Scopes.{Context}

@@ -1,5 +1,6 @@
 -- The core of a file, as the code tells it.
 use Rattle.std.specs.Prelude.{◌≡◌, ◌≤◌, List, length, Result, Ok, Err}
+use Rattle.pc_caps.specs.Limits.{node_limit, program_slot_limit}
 use Rattle.pc_tree.specs.Tree as t
 use Rattle.pc_token.specs.declared.kinds.Token.{Token}
 use Rattle.pc_grammar.specs.SpellsFile.{SpellsFile}
@@ -18,7 +19,7 @@ Spelled f = (ts : List Token) × SpellsFile f ts × Ascends (starts ts)
 
 -- The core of a file that tokens spell fits together, and has at most so many slots and nodes.
 abbrev pub CoresAreFormed : Type 0
-CoresAreFormed = (file : t.File) (core : CoreData) → Spelled file → Stands file core → Formed core × (length core.slots ≤ 640000) × (length core.nodes ≤ 200000)
+CoresAreFormed = (file : t.File) (core : CoreData) → Spelled file → Stands file core → Formed core × (length core.slots ≤ program_slot_limit) × (length core.nodes ≤ node_limit)
 
 -- The first fault of the file's members. Memory may run out at any time.
 abbrev pub IsFirstFault : t.File → NameFault → Type 0

@@ -1,6 +1,7 @@
 -- What becomes of the members of a file, as the code tells it.
-use Rattle.std.specs.Prelude.{◌≡◌, ℕ, suc, List, [], ◌∷◌, ◌++◌, map, length, Option, Some, None, Result, Ok, Err, slice_get}
+use Rattle.std.specs.Prelude.{◌≡◌, ℕ, suc, List, [], ◌∷◌, ◌++◌, map, length, Option, Some, None, Result, Ok, Err, slice_get, ◌-◌}
 use Rattle.pc_caps.specs.declared.span.Span.{Span}
+use Rattle.pc_caps.specs.Limits.{slot_limit}
 use Rattle.pc_tree.specs.declared.names.Name.{Name}
 use Rattle.pc_tree.specs.Tree as t
 use Rattle.pc_core.specs.declared.nodes.Node.{Node}
@@ -60,7 +61,7 @@ span_of (Some n) = Some n.span
 
 -- The place of the 65th slot's name.
 abbrev pub extra_slot : Member → List Local → Option Span
-extra_slot x locals = span_of (slice_get (member_params x ++ local_names locals) 63)
+extra_slot x locals = span_of (slice_get (member_params x ++ local_names locals) (slot_limit - 1))
 
 -- What becomes of a member that has these locals, where this becomes of its nodes.
 abbrev pub before_nodes : Context → t.Entity → Member → List Local → Outcome → Outcome

@@ -1,7 +1,8 @@
 //! The entities of a core.
 ghost use Rattle.std.specs.Prelude.{◌≡◌, ◌++◌, [], ◌+◌, ◌<◌, ◌^◌, map, length, slice_get, IfOk, OnOk};
 ghost use Rattle.pc_tree.specs.View.{entity_view, field_view};
-ghost use Rattle.pc_members.specs.Chains.{first_own, numbers_of};
+ghost use Rattle.pc_members.specs.Chains.{numbers_of};
+ghost use Rattle.pc_tree.specs.BuiltIn.{first_own};
 ghost use Rattle.pc_members.specs.Reach.{or_nil};
 ghost use Rattle.pc_members.specs.Views.{table_view};
 ghost use Rattle.pc_file_spec.specs.Cores as spec;
@@ -15,11 +16,8 @@ use pc_core::{EntityDef, FieldInfo};
 use pc_members::Member;
 use pc_names::Names;
 use pc_resolve::Context;
-use pc_tree::{Entity, FieldDef, Name};
+use pc_tree::{Entity, FIRST_OWN, FieldDef, Name};
 use std::alloc::{AllocError, Global};
-
-/// How many entities are built in.
-const FIRST_OWN: usize = 6;
 
 fn field_of(context: &Context, field: &FieldDef) -> FieldInfo
     ensures { result ≡ spec.field_of context.now.texts context.now.entities (field_view field.now) }
@@ -134,7 +132,7 @@ fn add_entities(
     let mut first = 1;
     for at in 0..entities.len() {
         let after = number_after(first, table[at].as_slice())?;
-        let number = (FIRST_OWN + at) as u32;
+        let number = (FIRST_OWN as usize + at) as u32;
         let entity = &entities[at];
         let made = make_entity(alloc, context, names, number, first, entity, after - first)?;
         list.push(made)?;

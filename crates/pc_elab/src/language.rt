@@ -5,7 +5,7 @@ ghost use Rattle.pc_file_spec.specs.Cores as spec;
 
 use pc_caps::{Cap, Form, List, Span};
 use pc_core::{EntityDef, FieldInfo, Method, MethodKind, ParamInfo};
-use pc_tree::EntityKind;
+use pc_tree::{EntityKind, NONE_ENTITY, OUT_STREAM_ENTITY, STRING_ENTITY};
 use std::alloc::{AllocError, Global};
 
 // What the language has stands nowhere in the text.
@@ -61,7 +61,7 @@ fn list_env_fields(alloc: Global) -> Result<List<FieldInfo>, AllocError>
     fields.push(FieldInfo {
         name: 0,
         fixed: true,
-        entity: 5,
+        entity: OUT_STREAM_ENTITY,
         cap: Cap::Tag,
     })?;
     Ok(fields)
@@ -104,17 +104,17 @@ pub(crate) fn make_print(alloc: Global) -> Result<Method, AllocError>
 {
     let mut params = List::new(alloc);
     params.push(ParamInfo {
-        entity: 3,
+        entity: STRING_ENTITY,
         cap: Cap::Val,
         span: NOWHERE,
     })?;
     Ok(Method {
-        entity: 5,
+        entity: OUT_STREAM_ENTITY,
         name: 1,
         kind: MethodKind::Be,
         receiver: Cap::Ref,
         params,
-        result: (0, Form::Val),
+        result: (NONE_ENTITY, Form::Val),
         first_slot: 0,
         slots: 0,
         first_node: 0,

@@ -1,7 +1,7 @@
 //! The parts of a program, entity by entity.
 ghost use Rattle.std.specs.Prelude.{◌≡◌, ◌+◌, ◌<◌, ◌^◌, map, length, IfOk, OnOk};
 ghost use Rattle.pc_tree.specs.View.{entity_view, field_view};
-ghost use Rattle.pc_members.specs.Chains.{first_own};
+ghost use Rattle.pc_tree.specs.BuiltIn.{first_own};
 ghost use Rattle.pc_members.specs.Words.{field_texts};
 ghost use Rattle.pc_members.specs.Members.{member_text};
 ghost use Rattle.pc_members.specs.Views.{member_view, members_view, table_view};
@@ -16,11 +16,8 @@ use pc_caps::List;
 use pc_members::Member;
 use pc_names::NameFault;
 use pc_resolve::Context;
-use pc_tree::{Entity, FieldDef};
+use pc_tree::{Entity, FIRST_OWN, FieldDef};
 use std::alloc::{AllocError, Global};
-
-/// How many entities are built in.
-const FIRST_OWN: usize = 6;
 
 fn list_field_names(alloc: Global, fields: &[FieldDef]) -> Result<List<List<u8>>, AllocError>
     ensures { IfOk result (λ l. l ≡ field_texts (map field_view fields.now)) }
@@ -113,7 +110,7 @@ pub(crate) fn add_entities(
     ensures texts { OnOk result (context.new.texts ≡ context.old.texts) }
 {
     for at in 0..entities.len() {
-        let number = (FIRST_OWN + at) as u32;
+        let number = (FIRST_OWN as usize + at) as u32;
         let members = table[at].as_slice();
         add_entity(alloc, context, parts, number, &entities[at], members)?;
     }

@@ -15,7 +15,7 @@ use crate::language::make_print;
 use crate::signature::{kind_of, params_of, receiver_of, result_of};
 use crate::slots::add_slots;
 use pc_body_walks::{BodyFault, Local, check, check_added};
-use pc_caps::{List, Span};
+use pc_caps::{List, SLOT_LIMIT, Span};
 use pc_core::{Method, Node, ParamInfo, Slot};
 use pc_emit::{EmitStop, emit, emit_added};
 use pc_members::Member;
@@ -28,7 +28,7 @@ use std::alloc::{AllocError, Global};
 const MOST: usize = 4_294_967_295;
 
 /// The slot that is one too many has this index behind the slot of `this`.
-const EXTRA_SLOT: usize = 63;
+const EXTRA_SLOT: usize = SLOT_LIMIT as usize - 1;
 
 /// The methods, slots and nodes so far.
 #[derive(Drop)]
@@ -168,13 +168,19 @@ fn member_outcome(
     }
 }
 
-// Where the slots and nodes of a method stand.
+// Where the nodes of a method stand.
+#[derive(Clone, Copy)]
+struct Nodes {
+    first: u32,
+    body: Option<u32>,
+}
+
+// Where its slots and its nodes stand.
 #[derive(Clone, Copy)]
 struct Places {
     first_slot: u32,
     slots: u32,
-    first_node: u32,
-    body: Option<u32>,
+    nodes: Nodes,
 }
 
 // A member of the entity of this number as a method, with these parameters and places.
@@ -187,7 +193,7 @@ fn declare(
     places: Places,
 ) -> Method
     requires { params ≡ signatures.params_of context.now.entities (member_view member) }
-    ensures { result ≡ signatures.declared context.now (owned number_of_entity (entity_view entity.now) (member_view member.entry)) places.first_slot places.slots places.first_node places.body }
+    ensures { result ≡ signatures.declared context.now (owned number_of_entity (entity_view entity.now) (member_view member.entry)) places.first_slot places.slots places.nodes.first places.nodes.body }
 {
     Method {
         entity: number_of_entity,
@@ -198,8 +204,8 @@ fn declare(
         result: result_of(context, entity.kind, number_of_entity, member),
         first_slot: places.first_slot,
         slots: places.slots,
-        first_node: places.first_node,
-        body: places.body,
+        first_node: places.nodes.first,
+        body: places.nodes.body,
         span: member.span(entity.name.span),
     }
 }
@@ -213,11 +219,10 @@ fn join(
     entity: &Entity,
     member: Member,
     locals: &[Local],
-    first_node: u32,
-    body: Option<u32>,
+    nodes: Nodes,
 ) -> Result<(), AllocError>
     requires { locals.now ≡ signatures.locals_of (entity_view entity.now) (member_view member) }
-    ensures { OnOk result (parts_view parts.new ≡ spec.joined_with context.now (parts_view parts.old) (owned number_of_entity (entity_view entity.now) (member_view member.entry)) first_node body) }
+    ensures { OnOk result (parts_view parts.new ≡ spec.joined_with context.now (parts_view parts.old) (owned number_of_entity (entity_view entity.now) (member_view member.entry)) nodes.first nodes.body) }
 {
     let method = number(parts.methods.len())?;
     let first_slot = number(parts.slots.len())?;
@@ -236,8 +241,7 @@ fn join(
     let places = Places {
         first_slot,
         slots: behind - first_slot,
-        first_node,
-        body,
+        nodes,
     };
     let declared = declare(context, number_of_entity, entity, member, params, places);
     parts.methods.push(declared)?;
@@ -258,9 +262,10 @@ pub(crate) fn add_member(
     ensures { spec.Grows result (parts_view parts.new) (and_member context.now (parts_view parts.old) (owned number_of_entity (entity_view entity.now) (member_view member.entry))) }
 {
     let method = number(parts.methods.len())?;
-    let first_node = number(parts.nodes.len())?;
+    let first = number(parts.nodes.len())?;
     let nodes = &mut parts.nodes;
     let body = member_outcome(alloc, context, method, nodes, entity, member, locals)?;
+    let nodes = Nodes { first, body };
     join(
         alloc,
         context,
@@ -269,8 +274,7 @@ pub(crate) fn add_member(
         entity,
         member,
         locals,
-        first_node,
-        body,
+        nodes,
     )?;
     Ok(())
 }

@@ -10,7 +10,7 @@ use pc_caps::{Cap, Form, List, plain, unalias};
 use pc_core::{MethodKind, ParamInfo};
 use pc_members::Member;
 use pc_resolve::Context;
-use pc_tree::{EntityKind, MethodDef, MethodWord, ParamDef, TypeRef};
+use pc_tree::{EntityKind, MethodDef, MethodWord, NONE_ENTITY, ParamDef, TypeRef};
 use std::alloc::{AllocError, Global};
 
 /// A type among the entities of a file. Where the names of the file have no fault, each type is there.
@@ -19,7 +19,7 @@ pub(crate) fn type_in(context: &Context, ty: &TypeRef) -> (u32, Cap)
 {
     match context.type_of(ty) {
         Some(written) => written,
-        None => (0, Cap::Val),
+        None => (NONE_ENTITY, Cap::Val),
     }
 }
 
@@ -123,7 +123,7 @@ fn written_result(context: &Context, ty: &Option<TypeRef>) -> (u32, Form)
             let (entity, cap) = type_in(context, ty);
             (entity, result_form(ty.hat, cap))
         }
-        None => (0, Form::Val),
+        None => (NONE_ENTITY, Form::Val),
     }
 }
 
@@ -152,7 +152,7 @@ fn method_result(
 {
     match method.word {
         MethodWord::Fun => written_result(context, &method.result),
-        MethodWord::Be => (0, Form::Val),
+        MethodWord::Be => (NONE_ENTITY, Form::Val),
         MethodWord::New => object_of(entity, number, cap_or(method.cap, Cap::Ref)),
     }
 }

@@ -6,6 +6,7 @@ use Rattle.pc_core.specs.declared.nodes.NodeKind.{NodeKind}
 use Rattle.pc_core.specs.declared.nodes.NodeKind.TheVariants as node
 use Rattle.pc_tree.specs.declared.names.Name.{Name}
 use Rattle.pc_tree.specs.Tree as t
+use Rattle.pc_tree.specs.BuiltIn.{none_entity}
 use Rattle.pc_body_spec.specs.Roses.{Rose, rose, leaf, one, two, and_last, Numbered, and_then, push}
 use Rattle.pc_body_spec.specs.Scopes.{Context, Scope, Meaning, local, field, method, nothing, resolve, text_of}
 use Rattle.pc_body_spec.specs.Expressions.{join, gap, value_then, write_name, expr_of, exprs_of, chain_of, Start, with_value, Use, read, write}
@@ -42,7 +43,7 @@ this_closes m d s n place args ns = and_then (push m node.This place d [] ns) (�
 
 -- A sequence without items gets the value None.
 unfoldable pub none_closes : (method depth : ℕ) → Span → List ℕ → List Node → Numbered (List ℕ)
-none_closes m d s [] ns = and_then (push m (node.Prim 0) s d [] ns) (λ n. λ ns. Some (n ∷ [], ns))
+none_closes m d s [] ns = and_then (push m (node.Prim none_entity) s d [] ns) (λ n. λ ns. Some (n ∷ [], ns))
 none_closes m d s (x ∷ xs) ns = Some (x ∷ xs, ns)
 
 unfoldable pub seq_closes : (method depth : ℕ) → Span → List ℕ → List Node → Numbered ℕ
@@ -194,7 +195,7 @@ LeadsOn (Err stop.Memory) ns rest want = Unit {0}
 
 -- The value None behind the items, where one is added.
 unfoldable pub ends_with : Bool → (method depth : ℕ) → Span → List ℕ → List Node → Numbered (List ℕ)
-ends_with true m d s tops ns = and_then (push m (node.Prim 0) s d [] ns) (λ n. λ ns. Some (tops ++ n ∷ [], ns))
+ends_with true m d s tops ns = and_then (push m (node.Prim none_entity) s d [] ns) (λ n. λ ns. Some (tops ++ n ∷ [], ns))
 ends_with false m d s tops ns = Some (tops, ns)
 
 -- A body around its sequence.

@@ -17,7 +17,7 @@ use crate::walk::{expr, items};
 use pc_caps::{List, Span};
 use pc_core::{Node, NodeKind};
 use pc_resolve::{Context, params_scope};
-use pc_tree::{Expr, FieldDef, MethodDef, MethodWord, Name, Seq, TypeRef};
+use pc_tree::{Expr, FieldDef, MethodDef, MethodWord, NONE_ENTITY, Name, Seq, TypeRef};
 use std::alloc::{AllocError, Global};
 
 /// Puts the nodes of the body of a method behind the others, and answers its number, which is that of the last of them; or
@@ -61,7 +61,7 @@ pub fn emit_added(
         depth: 0,
     };
     let mut items = initials(alloc, context, number, nodes, fields)?;
-    let none = leaf(&setting, nodes, NodeKind::Prim(0), name)?;
+    let none = leaf(&setting, nodes, NodeKind::Prim(NONE_ENTITY), name)?;
     items.push(none)?;
     close_body(&setting, nodes, name, name, items)
 }
@@ -148,7 +148,7 @@ fn none_last(
     if !adds {
         return Ok(items);
     }
-    let none = leaf(setting, nodes, NodeKind::Prim(0), span)?;
+    let none = leaf(setting, nodes, NodeKind::Prim(NONE_ENTITY), span)?;
     let mut items = items;
     items.push(none)?;
     Ok(items)

@@ -6,13 +6,10 @@ ghost use Rattle.pc_emit.specs.Giving.{Gives};
 
 use crate::setting::Setting;
 use crate::stop::EmitStop;
-use pc_caps::{List, SharedList, Span};
+use pc_caps::{List, NODE_LIMIT, SharedList, Span};
 use pc_core::{Node, NodeKind};
 use pc_tree::Op;
 use std::alloc::{AllocError, Global};
-
-/// How many nodes a program may have.
-const NODE_LIMIT: usize = 200_000;
 
 /// Puts a node of this method behind the others. Its number is its place.
 #[tactic(auto, unfolding(pc_body_spec::specs::Roses::push))]
@@ -26,7 +23,7 @@ pub(crate) fn push(
     ensures { Gives result nodes.new (roses.push setting.now.number kind span setting.now.depth children nodes.old) }
 {
     let place = nodes.len();
-    if place >= NODE_LIMIT {
+    if place >= NODE_LIMIT as usize {
         return Err(EmitStop::Full);
     }
     let children = SharedList::from_list(setting.alloc, children)?;

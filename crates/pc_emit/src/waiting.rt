@@ -9,6 +9,7 @@ use crate::setting::Setting;
 use crate::stop::EmitStop;
 use pc_caps::{List, Span};
 use pc_core::{Node, NodeKind};
+use pc_tree::NONE_ENTITY;
 
 /// The arm of an `if` whose condition and body have nodes. It waits for what is done else.
 #[derive(Drop)]
@@ -152,7 +153,7 @@ fn or_none(
     if !items.is_empty() {
         return Ok(items);
     }
-    let none = leaf(setting, nodes, NodeKind::Prim(0), span)?;
+    let none = leaf(setting, nodes, NodeKind::Prim(NONE_ENTITY), span)?;
     Ok(one(setting.alloc, none)?)
 }
 

@@ -18,7 +18,7 @@ use crate::waiting::{
 use pc_caps::{List, Span};
 use pc_core::{Node, NodeKind};
 use pc_resolve::Visible;
-use pc_tree::{Arm, Expr, Item, Op, Seq, Suffix, join, span_of};
+use pc_tree::{Arm, Expr, Item, NONE_ENTITY, Op, Seq, Suffix, join, span_of};
 
 /// An expression.
 #[cycle(walk)]
@@ -26,12 +26,12 @@ pub(crate) fn expr(
     setting: &Setting,
     scope: &mut List<Visible>,
     nodes: &mut List<Node>,
-    e: &Expr,
+    expression: &Expr,
 ) -> Result<u32, EmitStop>
-    ensures gives { Gives result nodes.new (put setting.now.number (spec.expr_of setting.now.context.now scope.old setting.now.depth (expr_view e.now)) nodes.old) }
+    ensures gives { Gives result nodes.new (put setting.now.number (spec.expr_of setting.now.context.now scope.old setting.now.depth (expr_view expression.now)) nodes.old) }
     ensures scope { OnOk result (scope.new ≡ scope.old) }
 {
-    match e {
+    match expression {
         Expr::Number { value, span } => leaf(setting, nodes, NodeKind::Number(*value), *span),
         Expr::Truth { value, span } => leaf(setting, nodes, NodeKind::Truth(*value), *span),
         Expr::Text { bytes, span } => read_text(setting, nodes, bytes, *span),
@@ -46,9 +46,9 @@ pub(crate) fn expr(
         Expr::Infix { op, terms, span } => {
             infix(setting, scope, nodes, *op, *span, terms.as_slice())
         }
-        Expr::Chain { .. } => chain(setting, scope, nodes, e),
+        Expr::Chain { .. } => chain(setting, scope, nodes, expression),
         Expr::Group { .. } | Expr::If { .. } | Expr::While { .. } | Expr::Recover { .. } => {
-            block(setting, scope, nodes, e)
+            block(setting, scope, nodes, expression)
         }
         Expr::Assign { left, right, span } => {
             if is_missing(setting.context, scope.as_slice(), left) {
@@ -66,12 +66,12 @@ fn block(
     setting: &Setting,
     scope: &mut List<Visible>,
     nodes: &mut List<Node>,
-    e: &Expr,
+    expression: &Expr,
 ) -> Result<u32, EmitStop>
-    ensures gives { Gives result nodes.new (put setting.now.number (only is_block setting.now.context.now scope.old setting.now.depth (expr_view e.now)) nodes.old) }
+    ensures gives { Gives result nodes.new (put setting.now.number (only is_block setting.now.context.now scope.old setting.now.depth (expr_view expression.now)) nodes.old) }
     ensures scope { OnOk result (scope.new ≡ scope.old) }
 {
-    match e {
+    match expression {
         Expr::Group { body, span } => sequence(setting, scope, nodes, *span, body),
         Expr::If { arms, other, span } => {
             let waiting = open_arms(setting, scope, nodes, *span, arms.as_slice())?;
@@ -97,7 +97,7 @@ fn block(
         | Expr::Not { .. }
         | Expr::Infix { .. }
         | Expr::Chain { .. }
-        | Expr::Assign { .. } => gap(setting, nodes, span_of(e)),
+        | Expr::Assign { .. } => gap(setting, nodes, span_of(expression)),
     }
 }
 
@@ -107,18 +107,18 @@ fn chain(
     setting: &Setting,
     scope: &mut List<Visible>,
     nodes: &mut List<Node>,
-    e: &Expr,
+    expression: &Expr,
 ) -> Result<u32, EmitStop>
-    ensures gives { Gives result nodes.new (put setting.now.number (only is_chain setting.now.context.now scope.old setting.now.depth (expr_view e.now)) nodes.old) }
+    ensures gives { Gives result nodes.new (put setting.now.number (only is_chain setting.now.context.now scope.old setting.now.depth (expr_view expression.now)) nodes.old) }
     ensures scope { OnOk result (scope.new ≡ scope.old) }
 {
     let Expr::Chain {
         head,
         suffixes,
         span,
-    } = e
+    } = expression
     else {
-        return gap(setting, nodes, span_of(e));
+        return gap(setting, nodes, span_of(expression));
     };
     let head: &Expr = head;
     let suffixes = suffixes.as_slice();
@@ -291,7 +291,7 @@ fn infix(
     ensures scope { OnOk result (scope.new ≡ scope.old) }
 {
     let Some(first) = terms.first() else {
-        return leaf(setting, nodes, NodeKind::Prim(0), span);
+        return leaf(setting, nodes, NodeKind::Prim(NONE_ENTITY), span);
     };
     let mut left = expr(setting, scope, nodes, first)?;
     for i in 1..terms.len() {
@@ -356,7 +356,7 @@ fn otherwise(
         Some(body) => whole(setting, scope, nodes, body),
         None => {
             let end = end_word(span);
-            let none = leaf(setting, nodes, NodeKind::Prim(0), end)?;
+            let none = leaf(setting, nodes, NodeKind::Prim(NONE_ENTITY), end)?;
             single(setting, nodes, NodeKind::Seq, end, none)
         }
     }
@@ -498,12 +498,12 @@ fn item(
     setting: &Setting,
     scope: &mut List<Visible>,
     nodes: &mut List<Node>,
-    x: &Item,
+    part: &Item,
 ) -> Result<u32, EmitStop>
-    ensures gives { Gives result nodes.new (put setting.now.number (spec.item_of setting.now.context.now scope.old setting.now.depth (item_view x.now)) nodes.old) }
-    ensures scope { OnOk result (scope.new ≡ scope_after setting.now.context.now scope.old (item_view x.now)) }
+    ensures gives { Gives result nodes.new (put setting.now.number (spec.item_of setting.now.context.now scope.old setting.now.depth (item_view part.now)) nodes.old) }
+    ensures scope { OnOk result (scope.new ≡ scope_after setting.now.context.now scope.old (item_view part.now)) }
 {
-    match x {
+    match part {
         Item::Local {
             name,
             value,

@@ -36,19 +36,31 @@ fn ends_in_dot(suffixes: &[Suffix]) -> bool
 }
 
 /// Whether it may stand before an `=`.
-fn is_place(e: &Expr) -> bool
-    ensures { result ≡ spells.is_place (expr_view e.now) }
+fn is_place(expression: &Expr) -> bool
+    ensures { result ≡ spells.is_place (expr_view expression.now) }
 {
-    match e {
+    match expression {
         Expr::Name(_) => true,
         Expr::Chain { suffixes, .. } => ends_in_dot(suffixes.as_slice()),
-        _ => false,
+        Expr::Number { .. }
+        | Expr::Truth { .. }
+        | Expr::Text { .. }
+        | Expr::TypeName(_)
+        | Expr::This(_)
+        | Expr::Consume { .. }
+        | Expr::Not { .. }
+        | Expr::Infix { .. }
+        | Expr::Group { .. }
+        | Expr::If { .. }
+        | Expr::While { .. }
+        | Expr::Recover { .. }
+        | Expr::Assign { .. } => false,
     }
 }
 
 /// Whether the token is an `=` that follows a place.
-pub fn assigns(token: &Token, e: &Expr) -> bool
-    ensures { result ≡ reading.assigns token.now (expr_view e.now) }
+pub fn assigns(token: &Token, expression: &Expr) -> bool
+    ensures { result ≡ reading.assigns token.now (expr_view expression.now) }
 {
-    is_sign(token, Sign::Assign) && is_place(e)
+    is_sign(token, Sign::Assign) && is_place(expression)
 }

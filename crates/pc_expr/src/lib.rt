@@ -17,4 +17,4 @@ mod stop;
 mod tokens;
 
 pub use fault::ParseFault;
-pub use parsing::{expr, infix, seq};
+pub use parsing::{LEVELS, expr, infix, seq};

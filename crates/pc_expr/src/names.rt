@@ -27,7 +27,13 @@ pub fn name(alloc: Global, tokens: &[Token], at: usize) -> Result<(Name, usize),
             let span = token.span;
             Ok((Name { text, span }, at + 1))
         }
-        _ => Err(ParseStop::Unexpected(at)),
+        TokenKind::TypeName(_)
+        | TokenKind::Word(_)
+        | TokenKind::Number(_)
+        | TokenKind::Text(_)
+        | TokenKind::Doc
+        | TokenKind::Sign(_)
+        | TokenKind::End => Err(ParseStop::Unexpected(at)),
     }
 }
 
@@ -45,7 +51,13 @@ pub fn type_name(alloc: Global, tokens: &[Token], at: usize) -> Result<(Name, us
             let span = token.span;
             Ok((Name { text, span }, at + 1))
         }
-        _ => Err(ParseStop::Unexpected(at)),
+        TokenKind::Name(_)
+        | TokenKind::Word(_)
+        | TokenKind::Number(_)
+        | TokenKind::Text(_)
+        | TokenKind::Doc
+        | TokenKind::Sign(_)
+        | TokenKind::End => Err(ParseStop::Unexpected(at)),
     }
 }
 
@@ -147,6 +159,12 @@ pub fn text(alloc: Global, tokens: &[Token], at: usize) -> Result<(Expr, usize),
             let span = token.span;
             Ok((Expr::Text { bytes, span }, at + 1))
         }
-        _ => Err(ParseStop::Unexpected(at)),
+        TokenKind::Name(_)
+        | TokenKind::TypeName(_)
+        | TokenKind::Word(_)
+        | TokenKind::Number(_)
+        | TokenKind::Doc
+        | TokenKind::Sign(_)
+        | TokenKind::End => Err(ParseStop::Unexpected(at)),
     }
 }

@@ -3,6 +3,7 @@ ghost use Rattle.std.specs.Prelude.{◌<◌, ◌≤◌, ◌-◌, IfOk, IfErr, le
 ghost use Rattle.pc_tree.specs.View.{expr_view, seq_view};
 ghost use Rattle.pc_tree.specs.Measures as levels;
 ghost use Rattle.pc_grammar.specs.Spells.{Spells, SpellsInfix, SpellsSeq};
+ghost use Rattle.pc_grammar.specs.FileAnswers.{level_limit};
 ghost use Rattle.pc_expr.specs.Gives.{EndsWithEnd};
 ghost use Rattle.pc_expr.specs.Answers.{Places, ReadsTo, Refuses, IsOnly, StopsAtToken, Names};
 
@@ -14,7 +15,7 @@ use pc_tree::{Expr, Seq};
 use std::alloc::Global;
 
 /// How many levels may be opened, one in another.
-const LEVELS: u16 = 200;
+pub const LEVELS: u16 = 200;
 
 fn begin(tokens: &[Token], at: usize) -> u32
     requires { at < length tokens.now }
@@ -48,13 +49,13 @@ pub fn seq(
 ) -> Result<(Seq, usize), ParseFault>
     requires ends { EndsWithEnd tokens.now }
     requires within { at < length tokens.now }
-    requires level { level ≤ 200 }
+    requires level { level ≤ level_limit }
     // The tree that the tokens spell up to the place, where nothing goes on with it.
-    ensures read { IfOk result (λ r. ReadsTo SpellsSeq levels.seq_depth (200 - level) tokens.now at (seq_view r.0) r.1) }
+    ensures read { IfOk result (λ r. ReadsTo SpellsSeq levels.seq_depth (level_limit - level) tokens.now at (seq_view r.0) r.1) }
     // Why there is none, or memory ran out.
-    ensures refused { IfErr result (Refuses SpellsSeq levels.seq_depth (200 - level) tokens.now at) }
+    ensures refused { IfErr result (Refuses SpellsSeq levels.seq_depth (level_limit - level) tokens.now at) }
     // Whatever answer holds of the tokens is the result, unless memory ran out.
-    ensures exact { IsOnly SpellsSeq levels.seq_depth (200 - level) seq_view tokens.now at result }
+    ensures exact { IsOnly SpellsSeq levels.seq_depth (level_limit - level) seq_view tokens.now at result }
 {
     match rules::seq(alloc, tokens, at, LEVELS - level) {
         Ok(read) => Ok(read),
@@ -71,13 +72,13 @@ pub fn expr(
 ) -> Result<(Expr, usize), ParseFault>
     requires ends { EndsWithEnd tokens.now }
     requires within { at < length tokens.now }
-    requires level { level ≤ 200 }
+    requires level { level ≤ level_limit }
     // The tree that the tokens spell up to the place, where nothing goes on with it.
-    ensures read { IfOk result (λ r. ReadsTo Spells levels.depth (200 - level) tokens.now at (expr_view r.0) r.1) }
+    ensures read { IfOk result (λ r. ReadsTo Spells levels.depth (level_limit - level) tokens.now at (expr_view r.0) r.1) }
     // Why there is none, or memory ran out.
-    ensures refused { IfErr result (Refuses Spells levels.depth (200 - level) tokens.now at) }
+    ensures refused { IfErr result (Refuses Spells levels.depth (level_limit - level) tokens.now at) }
     // Whatever answer holds of the tokens is the result, unless memory ran out.
-    ensures exact { IsOnly Spells levels.depth (200 - level) expr_view tokens.now at result }
+    ensures exact { IsOnly Spells levels.depth (level_limit - level) expr_view tokens.now at result }
 {
     match rules::expr(alloc, tokens, at, LEVELS - level) {
         Ok(read) => Ok(read),
@@ -94,13 +95,13 @@ pub fn infix(
 ) -> Result<(Expr, usize), ParseFault>
     requires ends { EndsWithEnd tokens.now }
     requires within { at < length tokens.now }
-    requires level { level ≤ 200 }
+    requires level { level ≤ level_limit }
     // The tree that the tokens spell up to the place, where nothing goes on with it.
-    ensures read { IfOk result (λ r. ReadsTo SpellsInfix levels.depth (200 - level) tokens.now at (expr_view r.0) r.1) }
+    ensures read { IfOk result (λ r. ReadsTo SpellsInfix levels.depth (level_limit - level) tokens.now at (expr_view r.0) r.1) }
     // Why there is none, or memory ran out.
-    ensures refused { IfErr result (Refuses SpellsInfix levels.depth (200 - level) tokens.now at) }
+    ensures refused { IfErr result (Refuses SpellsInfix levels.depth (level_limit - level) tokens.now at) }
     // Whatever answer holds of the tokens is the result, unless memory ran out.
-    ensures exact { IsOnly SpellsInfix levels.depth (200 - level) expr_view tokens.now at result }
+    ensures exact { IsOnly SpellsInfix levels.depth (level_limit - level) expr_view tokens.now at result }
 {
     match rules::infix(alloc, tokens, at, LEVELS - level) {
         Ok(read) => Ok(read),

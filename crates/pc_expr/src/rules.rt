@@ -474,7 +474,9 @@ fn atom(alloc: Global, tokens: &[Token], at: usize, left: u16) -> Result<(Expr, 
         TokenKind::Word(Word::IfWord) => choice(alloc, tokens, at, left),
         TokenKind::Word(Word::WhileWord) => repetition(alloc, tokens, at, left),
         TokenKind::Word(Word::RecoverWord) => recovery(alloc, tokens, at, left),
-        _ => Err(ParseStop::Unexpected(at)),
+        TokenKind::Word(_) | TokenKind::Doc | TokenKind::Sign(_) | TokenKind::End => Err(
+            ParseStop::Unexpected(at),
+        ),
     }
 }
 

@@ -84,10 +84,10 @@ pub fn after_comma(tokens: &[Token], at: usize) -> Option<usize>
 }
 
 #[tactic(auto, unfolding(pc_grammar::specs::Asking::same_op))]
-fn same_op(a: Op, b: Op) -> bool
-    ensures { result ≡ grammar.same_op a b }
+fn same_op(one: Op, other: Op) -> bool
+    ensures { result ≡ grammar.same_op one other }
 {
-    a == b
+    one == other
 }
 
 #[tactic(auto, unfolding(pc_grammar::specs::Reading::is_op))]

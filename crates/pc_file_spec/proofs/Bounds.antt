@@ -15,7 +15,8 @@ use Rattle.pc_members.proofs.Differences.{same_text, among_has}
 use Rattle.pc_members.proofs.Named.{named_is, one_entity}
 use Rattle.pc_lists.proofs.Bools.{true_false}
 use Rattle.std.specs.Str.{bytes_eq}
-use Rattle.pc_members.specs.Chains.{first_own, Closes}
+use Rattle.pc_members.specs.Chains.{Closes}
+use Rattle.pc_tree.specs.BuiltIn.{first_own}
 use Rattle.pc_members.specs.Chains as chain
 use Rattle.pc_names.proofs.CycleFirsts.{no_cycle}
 use Rattle.pc_members.specs.Members.{firsts, entity_named, of_entity, of_each, trait_methods}

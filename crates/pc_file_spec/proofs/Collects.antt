@@ -14,9 +14,10 @@ use Rattle.pc_names.specs.declared.fault.Which.TheVariants as which
 use Rattle.pc_lists.specs.Texts.{Text}
 use Rattle.pc_members.specs.Words.{is_among, built_in_names, entity_names, has_added}
 use Rattle.pc_members.specs.Tables.{trait_names}
-use Rattle.pc_names.specs.Faults.{where_, either, type_faults, result_faults, provided_faults, field_faults, param_faults, signature_faults, method_faults, is_taken, added_faults, entity_faults, entities_faults, entity_name_faults, declaration_faults, entity_limit, field_limit}
+use Rattle.pc_names.specs.Faults.{where_, either, type_faults, result_faults, provided_faults, field_faults, param_faults, signature_faults, method_faults, is_taken, added_faults, entity_faults, entities_faults, entity_name_faults, declaration_faults, known_limit}
+use Rattle.pc_caps.specs.Limits.{field_limit}
 use Rattle.pc_members.specs.Words.{field_texts, method_texts}
-use Rattle.pc_members.specs.Chains.{first_own}
+use Rattle.pc_tree.specs.BuiltIn.{first_own}
 use Rattle.pc_names.specs.Cycles.{cycle_faults}
 use Rattle.pc_names.specs.Counts.{count_faults}
 use Rattle.pc_names.specs.Mains.{main_faults}
@@ -133,7 +134,7 @@ sounds file (x ∷ es) h e g = first (sound file x (nil_left (entity_faults (ent
 
 pub record Collects (file : t.File) (above : List (List ℕ)) : Type 0 where
   pub names : Differ (entity_names file)
-  pub few : first_own + length file.entities ≤ entity_limit
+  pub few : first_own + length file.entities ≤ known_limit
   pub sound : (e : t.Entity) → Has file.entities e → Sound file e
   pub cycles : cycle_faults first_own file.entities (drop first_own above) ≡ []
   pub counts : count_faults file.entities 0 file.entities ≡ []

@@ -8,8 +8,9 @@ use Rattle.pc_lists.proofs.Cuts.{nil_left, nil_right}
 use Rattle.pc_names.specs.declared.fault.NameFault.TheVariants as fault
 use Rattle.pc_names.specs.declared.fault.Which.TheVariants as which
 use Rattle.pc_names.specs.Faults.{where_}
-use Rattle.pc_names.specs.Counts.{method_count, method_limit, count_faults}
-use Rattle.pc_members.specs.Chains.{first_own}
+use Rattle.pc_names.specs.Counts.{method_count, count_faults}
+use Rattle.pc_caps.specs.Limits.{method_limit}
+use Rattle.pc_tree.specs.BuiltIn.{first_own}
 use Rattle.pc_members.specs.Members.{members}
 use Rattle.pc_file_spec.specs.Members.{owned, members_from}
 use Rattle.pc_names.proofs.Founded.{where_none}

@@ -21,7 +21,7 @@ use Rattle.pc_lists.specs.Places.{Each, Has, Ascends}
 use Rattle.pc_lists.proofs.Elements.{ascends_none}
 use Rattle.pc_lists.proofs.Gets.{map_get}
 use Rattle.pc_members.specs.Words.{entity_names}
-use Rattle.pc_members.specs.Chains.{first_own}
+use Rattle.pc_tree.specs.BuiltIn.{first_own}
 use Rattle.pc_lists.proofs.Bools.{true_false, false_true, first_true, second_true}
 use Rattle.pc_body_spec.specs.Scopes.{Context, Known}
 use Rattle.pc_body_spec.specs.Bodies.{maybe_body, initial_fields}

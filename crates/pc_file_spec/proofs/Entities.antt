@@ -21,7 +21,8 @@ use Rattle.pc_lists.specs.Texts.{Text}
 use Rattle.pc_members.specs.Words.{built_in_names, texts_of, entity_names}
 use Rattle.pc_members.specs.Words.{field_texts, method_texts}
 use Rattle.pc_members.specs.Reach.{or_nil}
-use Rattle.pc_members.specs.Chains.{first_own, IsAbove, numbers_of}
+use Rattle.pc_members.specs.Chains.{IsAbove, numbers_of}
+use Rattle.pc_tree.specs.BuiltIn.{first_own}
 use Rattle.pc_members.specs.Chains as chain
 use Rattle.pc_members.proofs.Differences.{equal_texts}
 use Rattle.pc_members.proofs.Named.{is_trait_named}

@@ -10,7 +10,7 @@ use Rattle.pc_lists.specs.Places.{Differ}
 use Rattle.pc_core.specs.Formed.{Formed}
 use Rattle.pc_names.specs.declared.fault.NameFault.{NameFault}
 use Rattle.pc_members.specs.Words.{built_in_names, texts_of}
-use Rattle.pc_members.specs.Chains.{first_own}
+use Rattle.pc_tree.specs.BuiltIn.{first_own}
 use Rattle.pc_file_spec.specs.Parts.{Parts, if_ok, parts_of, built_in_parts}
 use Rattle.pc_file_spec.specs.Cores.{core_with, core_of, entities_from}
 use Rattle.pc_file_spec.specs.Laws.{StandsIsFormed, CoresAreSmall, MembersDiffer}

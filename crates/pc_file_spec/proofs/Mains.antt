@@ -18,7 +18,7 @@ use Rattle.pc_core.specs.Entities.{HasMain}
 use Rattle.pc_core.specs.Methods.{word_kind}
 use Rattle.pc_names.specs.declared.fault.NameFault.TheVariants as fault
 use Rattle.pc_members.specs.Words.{is_new}
-use Rattle.pc_members.specs.Chains.{first_own}
+use Rattle.pc_tree.specs.BuiltIn.{first_own}
 use Rattle.pc_members.proofs.Differences.{equal_texts}
 use Rattle.pc_names.specs.Mains.{is_actor, is_val, is_env, takes_env, begins, is_main, main_faults}
 use Rattle.pc_lists.proofs.Bools.{true_false}

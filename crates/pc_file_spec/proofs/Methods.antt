@@ -16,7 +16,7 @@ use Rattle.pc_core.specs.Entities.{print_method}
 use Rattle.pc_core.specs.Lookup.{own_slots}
 use Rattle.pc_core.specs.Methods.{MethodFits, SlotsFit, LocalFits, BodyFits}
 use Rattle.pc_lists.specs.Places.{Each, Has}
-use Rattle.pc_members.specs.Chains.{first_own}
+use Rattle.pc_tree.specs.BuiltIn.{first_own}
 use Rattle.pc_body_spec.specs.Slots.{local_slot}
 use Rattle.pc_members.specs.Members.{members}
 use Rattle.pc_file_spec.specs.Members.{Owned}

@@ -19,7 +19,7 @@ use Rattle.pc_core.specs.Methods.{constructor_kind, word_kind, Uses, is_local, p
 use Rattle.pc_core.specs.Nodes.{NodeFits, NamesFit, NamesPrimitive, NamesMethod, NamesSlot, NamesLocal}
 use Rattle.pc_lists.specs.Places.{Each, Has}
 use Rattle.pc_members.specs.Words.{is_new}
-use Rattle.pc_members.specs.Chains.{first_own}
+use Rattle.pc_tree.specs.BuiltIn.{first_own}
 use Rattle.pc_lists.proofs.Bools.{true_false}
 use Rattle.pc_body_spec.specs.Scopes.{Context, Known, Constructor}
 use Rattle.pc_body_spec.specs.Slots.{Local, local_slot, local_kind}

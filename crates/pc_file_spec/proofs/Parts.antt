@@ -14,7 +14,7 @@ use Rattle.pc_lists.specs.Places.{Each}
 use Rattle.pc_core.specs.Lookup.{node_end}
 use Rattle.pc_lists.proofs.Ranges.{follow_append}
 use Rattle.pc_names.specs.declared.fault.NameFault.{NameFault}
-use Rattle.pc_body_spec.specs.Roses.{node_limit}
+use Rattle.pc_caps.specs.Limits.{node_limit}
 use Rattle.pc_body_spec.specs.Scopes.{Context}
 use Rattle.pc_body_spec.specs.Methods.{Outcome}
 use Rattle.pc_file_spec.specs.Members.{Owned}

@@ -7,7 +7,8 @@ use Rattle.pc_tree.specs.Tree as t
 use Rattle.pc_core.specs.declared.declarations.EntityDef.{EntityDef}
 use Rattle.pc_core.specs.declared.declarations.Method.{Method}
 use Rattle.pc_core.specs.Entities.{print_method}
-use Rattle.pc_members.specs.Chains.{first_own, Closes}
+use Rattle.pc_members.specs.Chains.{Closes}
+use Rattle.pc_tree.specs.BuiltIn.{first_own}
 use Rattle.pc_file_spec.specs.Members.{Owned, members_from}
 use Rattle.pc_file_spec.specs.Signatures.{context_of, slots_from, declared}
 use Rattle.pc_file_spec.specs.Parts.{Parts, built_in_parts}

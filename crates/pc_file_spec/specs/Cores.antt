@@ -11,6 +11,7 @@ use Rattle.pc_names.specs.declared.fault.NameFault.{NameFault}
 use Rattle.pc_lists.specs.Texts.{Text}
 use Rattle.pc_members.specs.Words.{entity_names}
 use Rattle.pc_members.specs.Chains.{first_own, numbers_of}
+use Rattle.pc_tree.specs.BuiltIn.{first_own}
 use Rattle.pc_members.specs.Reach.{or_nil}
 use Rattle.pc_names.specs.Names.{NamesData, Collected}
 use Rattle.pc_body_spec.specs.Scopes.{Known, text_from}

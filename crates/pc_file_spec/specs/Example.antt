@@ -11,6 +11,7 @@ use Rattle.pc_tree.specs.declared.kinds.MethodWord.TheVariants as word
 use Rattle.pc_tree.specs.declared.names.Name.{Name}
 use Rattle.pc_tree.specs.declared.names.TypeRef.{TypeRef}
 use Rattle.pc_tree.specs.Tree as t
+use Rattle.pc_tree.specs.BuiltIn.{none_entity, u64_entity, bool_entity, string_entity, env_entity, out_stream_entity}
 use Rattle.pc_core.specs.declared.declarations.EntityDef.{EntityDef}
 use Rattle.pc_core.specs.declared.declarations.FieldInfo.{FieldInfo}
 use Rattle.pc_core.specs.declared.declarations.Method.{Method}
@@ -46,11 +47,11 @@ value text = record { kind = kind.Primitive; cap = cap.Val; name = text; span = 
 abbrev language : List EntityDef
 language =
     value (codes "None") ∷ value (codes "U64") ∷ value (codes "Bool") ∷ value (codes "String")
-    ∷ record { kind = kind.Class; cap = cap.Val; name = codes "Env"; span = at 0 0; provides = []; above = []; fields = record { name = 0; fixed = true; entity = 5; cap = cap.Tag } ∷ []; first_method = 0; methods = 0 }
+    ∷ record { kind = kind.Class; cap = cap.Val; name = codes "Env"; span = at 0 0; provides = []; above = []; fields = record { name = 0; fixed = true; entity = out_stream_entity; cap = cap.Tag } ∷ []; first_method = 0; methods = 0 }
     ∷ record { kind = kind.Actor; cap = cap.Tag; name = codes "OutStream"; span = at 0 0; provides = []; above = []; fields = []; first_method = 0; methods = 1 } ∷ []
 
 abbrev print : Method
-print = record { entity = 5; name = 1; kind = method.Be; receiver = cap.Ref; params = record { entity = 3; cap = cap.Val; span = at 0 0 } ∷ []; result = (0, form.Val); first_slot = 0; slots = 0; first_node = 0; body = None; span = at 0 0 }
+print = record { entity = out_stream_entity; name = 1; kind = method.Be; receiver = cap.Ref; params = record { entity = string_entity; cap = cap.Val; span = at 0 0 } ∷ []; result = (none_entity, form.Val); first_slot = 0; slots = 0; first_node = 0; body = None; span = at 0 0 }
 
 abbrev entity : EntityKind → Cap → List ℕ → Span → List ℕ → List ℕ → List FieldInfo → (first count : ℕ) → EntityDef
 entity k c text s provides above fields first count = record { kind = k; cap = c; name = text; span = s; provides = provides; above = above; fields = fields; first_method = first; methods = count }
@@ -117,24 +118,24 @@ first_core = record {
       ∷ entity kind.Trait cap.Ref (codes "B") (at 46 47) [] [] [] 3 2
       ∷ entity kind.Trait cap.Ref (codes "T") (at 93 94) (6 ∷ 7 ∷ []) (6 ∷ 7 ∷ []) [] 5 4
       ∷ entity kind.Trait cap.Box (codes "U") (at 125 126) (8 ∷ []) (6 ∷ 7 ∷ 8 ∷ []) [] 9 4
-      ∷ entity kind.Class cap.Ref (codes "C") (at 138 139) [] [] (record { name = 8; fixed = true; entity = 1; cap = cap.Val } ∷ record { name = 9; fixed = false; entity = 2; cap = cap.Val } ∷ []) 13 1
+      ∷ entity kind.Class cap.Ref (codes "C") (at 138 139) [] [] (record { name = 8; fixed = true; entity = u64_entity; cap = cap.Val } ∷ record { name = 9; fixed = false; entity = bool_entity; cap = cap.Val } ∷ []) 13 1
       ∷ entity kind.Actor cap.Tag (codes "Main") (at 195 199) [] [] [] 14 1 ∷ []);
   methods =
       print
-      ∷ method_of 6 4 method.Fun cap.Box [] (1, form.Val) 0 1 0 None (at 14 15)
-      ∷ method_of 6 5 method.Fun cap.Box (param 2 cap.Val (at 31 32) ∷ []) (0, form.Val) 1 2 0 None (at 29 30)
-      ∷ method_of 7 5 method.Be cap.Ref [] (0, form.Val) 3 1 0 None (at 53 54)
+      ∷ method_of 6 4 method.Fun cap.Box [] (u64_entity, form.Val) 0 1 0 None (at 14 15)
+      ∷ method_of 6 5 method.Fun cap.Box (param bool_entity cap.Val (at 31 32) ∷ []) (none_entity, form.Val) 1 2 0 None (at 29 30)
+      ∷ method_of 7 5 method.Be cap.Ref [] (none_entity, form.Val) 3 1 0 None (at 53 54)
       ∷ method_of 7 6 method.Fun cap.Ref (param 10 cap.Iso (at 69 70) ∷ []) (10, form.IsoE) 4 2 0 None (at 67 68)
-      ∷ method_of 8 7 method.Be cap.Ref [] (0, form.Val) 6 1 0 None (at 111 112)
-      ∷ method_of 8 4 method.Fun cap.Box [] (1, form.Val) 7 1 0 None (at 14 15)
-      ∷ method_of 8 5 method.Fun cap.Box (param 2 cap.Val (at 31 32) ∷ []) (0, form.Val) 8 2 0 None (at 29 30)
+      ∷ method_of 8 7 method.Be cap.Ref [] (none_entity, form.Val) 6 1 0 None (at 111 112)
+      ∷ method_of 8 4 method.Fun cap.Box [] (u64_entity, form.Val) 7 1 0 None (at 14 15)
+      ∷ method_of 8 5 method.Fun cap.Box (param bool_entity cap.Val (at 31 32) ∷ []) (none_entity, form.Val) 8 2 0 None (at 29 30)
       ∷ method_of 8 6 method.Fun cap.Ref (param 10 cap.Iso (at 69 70) ∷ []) (10, form.IsoE) 10 2 0 None (at 67 68)
-      ∷ method_of 9 7 method.Be cap.Ref [] (0, form.Val) 12 1 0 None (at 111 112)
-      ∷ method_of 9 4 method.Fun cap.Box [] (1, form.Val) 13 1 0 None (at 14 15)
-      ∷ method_of 9 5 method.Fun cap.Box (param 2 cap.Val (at 31 32) ∷ []) (0, form.Val) 14 2 0 None (at 29 30)
+      ∷ method_of 9 7 method.Be cap.Ref [] (none_entity, form.Val) 12 1 0 None (at 111 112)
+      ∷ method_of 9 4 method.Fun cap.Box [] (u64_entity, form.Val) 13 1 0 None (at 14 15)
+      ∷ method_of 9 5 method.Fun cap.Box (param bool_entity cap.Val (at 31 32) ∷ []) (none_entity, form.Val) 14 2 0 None (at 29 30)
       ∷ method_of 9 6 method.Fun cap.Ref (param 10 cap.Iso (at 69 70) ∷ []) (10, form.IsoE) 16 2 0 None (at 67 68)
       ∷ method_of 10 2 method.New cap.Ref [] (10, form.IsoE) 18 2 0 (Some 8) (at 138 139)
-      ∷ method_of 11 2 method.Spawn cap.Ref (param 4 cap.Val (at 213 216) ∷ []) (11, form.Tag) 20 3 9 (Some 14) (at 206 212) ∷ [];
+      ∷ method_of 11 2 method.Spawn cap.Ref (param env_entity cap.Val (at 213 216) ∷ []) (11, form.Tag) 20 3 9 (Some 14) (at 206 212) ∷ [];
   slots =
       slot_of 1 slot.This 6 cap.Box
       ∷ slot_of 2 slot.This 6 cap.Box ∷ slot_of 2 slot.Param 2 cap.Val
@@ -157,7 +158,7 @@ first_core = record {
       ∷ node_of 13 node.Seq (1 ∷ 2 ∷ []) (at 155 174)
       ∷ node_of 13 node.This [] (at 146 147)
       ∷ node_of 13 (node.SetField 8) (3 ∷ 4 ∷ []) (at 146 147)
-      ∷ node_of 13 (node.Prim 0) [] (at 138 139)
+      ∷ node_of 13 (node.Prim none_entity) [] (at 138 139)
       ∷ node_of 13 node.Seq (5 ∷ 6 ∷ []) (at 138 139)
       ∷ node_of 13 node.Body (7 ∷ []) (at 138 139)
       ∷ node_of 14 (node.New 13) [] (at 241 242)
@@ -199,15 +200,15 @@ second_file = record { entities = class_d ∷ primitive_p ∷ second_main ∷ []
 abbrev pub second_core : CoreData
 second_core = record {
   entities = language ++
-      (entity kind.Class cap.Trn (codes "D") (at 10 11) [] [] (record { name = 4; fixed = false; entity = 1; cap = cap.Val } ∷ []) 1 3
+      (entity kind.Class cap.Trn (codes "D") (at 10 11) [] [] (record { name = 4; fixed = false; entity = u64_entity; cap = cap.Val } ∷ []) 1 3
       ∷ entity kind.Primitive cap.Val (codes "P") (at 148 149) [] [] [] 4 0
       ∷ entity kind.Actor cap.Tag (codes "Main") (at 156 160) [] [] [] 4 1 ∷ []);
   methods =
       print
-      ∷ method_of 6 2 method.New cap.Ref (param 2 cap.Val (at 60 61) ∷ []) (6, form.Ref) 0 4 0 (Some 10) (at 53 59)
+      ∷ method_of 6 2 method.New cap.Ref (param bool_entity cap.Val (at 60 61) ∷ []) (6, form.Ref) 0 4 0 (Some 10) (at 53 59)
       ∷ method_of 6 5 method.New cap.Ref [] (6, form.Val) 4 2 11 (Some 19) (at 96 100)
       ∷ method_of 6 6 method.Fun cap.Box [] (6, form.Trn) 6 1 20 (Some 22) (at 117 120)
-      ∷ method_of 8 2 method.Spawn cap.Ref (param 4 cap.Val (at 174 177) ∷ []) (8, form.Tag) 7 2 23 (Some 25) (at 167 173) ∷ [];
+      ∷ method_of 8 2 method.Spawn cap.Ref (param env_entity cap.Val (at 174 177) ∷ []) (8, form.Tag) 7 2 23 (Some 25) (at 167 173) ∷ [];
   slots =
       slot_of 1 slot.This 6 cap.Ref ∷ slot_of 1 slot.Param 2 cap.Val ∷ slot_of 1 slot.Let 1 cap.Val ∷ record { method = 1; kind = slot.Let; depth = 0; written = None }
       ∷ slot_of 2 slot.This 6 cap.Ref ∷ slot_of 2 slot.Let 1 cap.Val
@@ -231,7 +232,7 @@ second_core = record {
       ∷ node_of 2 node.Seq (12 ∷ 13 ∷ []) (at 27 46)
       ∷ node_of 2 node.This [] (at 18 19)
       ∷ node_of 2 (node.SetField 4) (14 ∷ 15 ∷ []) (at 18 19)
-      ∷ node_of 2 (node.Prim 0) [] (at 106 110)
+      ∷ node_of 2 (node.Prim none_entity) [] (at 106 110)
       ∷ node_of 2 node.Seq (16 ∷ 17 ∷ []) (at 106 110)
       ∷ node_of 2 node.Body (18 ∷ []) (at 96 100)
       ∷ node_of 3 (node.New 2) [] (at 129 137)
@@ -289,22 +290,22 @@ fourth_core = record {
   entities = language ++
       (entity kind.Trait cap.Ref (codes "T") (at 6 7) [] [] [] 1 2
       ∷ entity kind.Trait cap.Ref (codes "U") (at 60 61) (6 ∷ []) (6 ∷ []) [] 3 3
-      ∷ entity kind.Class cap.Ref (codes "C") (at 110 111) (6 ∷ []) (6 ∷ []) (record { name = 7; fixed = true; entity = 1; cap = cap.Val } ∷ []) 6 3
+      ∷ entity kind.Class cap.Ref (codes "C") (at 110 111) (6 ∷ []) (6 ∷ []) (record { name = 7; fixed = true; entity = u64_entity; cap = cap.Val } ∷ []) 6 3
       ∷ entity kind.Actor cap.Tag (codes "Main") (at 160 164) (7 ∷ []) (6 ∷ 7 ∷ []) [] 9 4 ∷ []);
   methods =
       print
-      ∷ method_of 6 4 method.Fun cap.Box [] (1, form.Val) 0 1 0 None (at 14 15)
-      ∷ method_of 6 5 method.Fun cap.Box (param 1 cap.Val (at 31 32) ∷ []) (1, form.Val) 1 2 0 None (at 29 30)
-      ∷ method_of 7 6 method.Be cap.Ref [] (0, form.Val) 3 1 0 None (at 72 73)
-      ∷ method_of 7 4 method.Fun cap.Box [] (1, form.Val) 4 1 0 None (at 90 91)
-      ∷ method_of 7 5 method.Fun cap.Box (param 1 cap.Val (at 31 32) ∷ []) (1, form.Val) 5 2 0 None (at 29 30)
-      ∷ method_of 8 4 method.Fun cap.Box [] (1, form.Val) 7 1 0 (Some 3) (at 140 141)
+      ∷ method_of 6 4 method.Fun cap.Box [] (u64_entity, form.Val) 0 1 0 None (at 14 15)
+      ∷ method_of 6 5 method.Fun cap.Box (param u64_entity cap.Val (at 31 32) ∷ []) (u64_entity, form.Val) 1 2 0 None (at 29 30)
+      ∷ method_of 7 6 method.Be cap.Ref [] (none_entity, form.Val) 3 1 0 None (at 72 73)
+      ∷ method_of 7 4 method.Fun cap.Box [] (u64_entity, form.Val) 4 1 0 None (at 90 91)
+      ∷ method_of 7 5 method.Fun cap.Box (param u64_entity cap.Val (at 31 32) ∷ []) (u64_entity, form.Val) 5 2 0 None (at 29 30)
+      ∷ method_of 8 4 method.Fun cap.Box [] (u64_entity, form.Val) 7 1 0 (Some 3) (at 140 141)
       ∷ method_of 8 2 method.New cap.Ref [] (8, form.IsoE) 8 1 4 (Some 9) (at 110 111)
-      ∷ method_of 8 5 method.Fun cap.Box (param 1 cap.Val (at 31 32) ∷ []) (1, form.Val) 9 2 10 (Some 14) (at 29 30)
-      ∷ method_of 9 2 method.Spawn cap.Ref (param 4 cap.Val (at 183 186) ∷ []) (9, form.Tag) 11 2 15 (Some 17) (at 176 182)
-      ∷ method_of 9 6 method.Be cap.Ref [] (0, form.Val) 13 1 18 (Some 20) (at 72 73)
-      ∷ method_of 9 4 method.Fun cap.Box [] (1, form.Val) 14 1 21 (Some 23) (at 90 91)
-      ∷ method_of 9 5 method.Fun cap.Box (param 1 cap.Val (at 31 32) ∷ []) (1, form.Val) 15 2 24 (Some 28) (at 29 30) ∷ [];
+      ∷ method_of 8 5 method.Fun cap.Box (param u64_entity cap.Val (at 31 32) ∷ []) (u64_entity, form.Val) 9 2 10 (Some 14) (at 29 30)
+      ∷ method_of 9 2 method.Spawn cap.Ref (param env_entity cap.Val (at 183 186) ∷ []) (9, form.Tag) 11 2 15 (Some 17) (at 176 182)
+      ∷ method_of 9 6 method.Be cap.Ref [] (none_entity, form.Val) 13 1 18 (Some 20) (at 72 73)
+      ∷ method_of 9 4 method.Fun cap.Box [] (u64_entity, form.Val) 14 1 21 (Some 23) (at 90 91)
+      ∷ method_of 9 5 method.Fun cap.Box (param u64_entity cap.Val (at 31 32) ∷ []) (u64_entity, form.Val) 15 2 24 (Some 28) (at 29 30) ∷ [];
   slots =
       slot_of 1 slot.This 6 cap.Box
       ∷ slot_of 2 slot.This 6 cap.Box ∷ slot_of 2 slot.Param 1 cap.Val
@@ -326,7 +327,7 @@ fourth_core = record {
       ∷ node_of 7 (node.Number 1) [] (at 132 133)
       ∷ node_of 7 node.This [] (at 123 124)
       ∷ node_of 7 (node.SetField 7) (4 ∷ 5 ∷ []) (at 123 124)
-      ∷ node_of 7 (node.Prim 0) [] (at 110 111)
+      ∷ node_of 7 (node.Prim none_entity) [] (at 110 111)
       ∷ node_of 7 node.Seq (6 ∷ 7 ∷ []) (at 110 111)
       ∷ node_of 7 node.Body (8 ∷ []) (at 110 111)
       ∷ node_of 8 node.This [] (at 47 48)
@@ -334,10 +335,10 @@ fourth_core = record {
       ∷ node_of 8 (node.Local 1) [] (at 52 53)
       ∷ node_of 8 node.Seq (11 ∷ 12 ∷ []) (at 47 53)
       ∷ node_of 8 node.Body (13 ∷ []) (at 29 30)
-      ∷ node_of 9 (node.Prim 0) [] (at 196 200)
+      ∷ node_of 9 (node.Prim none_entity) [] (at 196 200)
       ∷ node_of 9 node.Seq (15 ∷ []) (at 196 200)
       ∷ node_of 9 node.Body (16 ∷ []) (at 176 182)
-      ∷ node_of 10 (node.Prim 0) [] (at 79 83)
+      ∷ node_of 10 (node.Prim none_entity) [] (at 79 83)
       ∷ node_of 10 node.Seq (18 ∷ []) (at 79 83)
       ∷ node_of 10 node.Body (19 ∷ []) (at 72 73)
       ∷ node_of 11 (node.Number 3) [] (at 102 103)

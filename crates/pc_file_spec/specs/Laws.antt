@@ -1,5 +1,6 @@
 -- What is true of the cores of files.
 use Rattle.std.specs.Prelude.{◌≡◌, ◌⊎◌, ◌↔◌, ℕ, ◌+◌, ◌<◌, ◌≤◌, ◌^◌, true, false, [], ◌∷◌, ◌++◌, map, length, Some, slice_get, codes}
+use Rattle.pc_caps.specs.Limits.{node_limit, program_slot_limit}
 use Rattle.pc_core.specs.CoreData.{CoreData}
 use Rattle.pc_core.specs.Formed.{Formed}
 use Rattle.pc_lists.specs.Places.{Has, Differ}
@@ -8,6 +9,7 @@ use Rattle.pc_tree.specs.Tree as t
 use Rattle.pc_names.specs.declared.fault.NameFault.{NameFault}
 use Rattle.pc_lists.specs.Texts.{Text}
 use Rattle.pc_members.specs.Chains.{Leads, first_own}
+use Rattle.pc_tree.specs.BuiltIn.{first_own}
 use Rattle.pc_names.specs.Names.{NamesData, Collected}
 use Rattle.pc_members.specs.Words.{field_texts, method_texts}
 use Rattle.pc_body_spec.specs.Texts.{entities_texts}
@@ -50,7 +52,7 @@ StandsIsFormed = (file : t.File) (core : CoreData) → InOrder file → InPlace 
 -- A core that stands for a file is small: its members are at most 10,000, each with at most 64 slots, and the nodes of all their
 -- bodies are at most 200,000.
 abbrev pub CoresAreSmall : Type 0
-CoresAreSmall = (file : t.File) (core : CoreData) → Stands file core → (length core.slots ≤ 640000) × (length core.nodes ≤ 200000)
+CoresAreSmall = (file : t.File) (core : CoreData) → Stands file core → (length core.slots ≤ program_slot_limit) × (length core.nodes ≤ node_limit)
 
 -- How long a chain of `is` may be makes no difference from the count of the file's entities on.
 abbrev pub BoundIsEnough : Type 0

@@ -8,7 +8,7 @@ use Rattle.pc_core.specs.Entities.{print_method}
 use Rattle.pc_names.specs.declared.fault.NameFault.{NameFault}
 use Rattle.pc_names.specs.declared.fault.NameFault.TheVariants as fault
 use Rattle.pc_names.specs.declared.fault.Which.TheVariants as which
-use Rattle.pc_members.specs.Chains.{first_own}
+use Rattle.pc_tree.specs.BuiltIn.{first_own}
 use Rattle.pc_body_spec.specs.Scopes.{Context}
 use Rattle.pc_body_spec.specs.Faults.{Fault, unknown, double, long_text}
 use Rattle.pc_body_spec.specs.Methods.{MethodFault, in_body, slots_full, nodes_full, Outcome, method_of, added_of}

@@ -12,6 +12,7 @@ use Rattle.pc_tree.specs.declared.kinds.MethodWord.TheVariants as word
 use Rattle.pc_tree.specs.declared.names.TypeRef.{TypeRef}
 use Rattle.pc_tree.specs.declared.file.ParamDef.{ParamDef}
 use Rattle.pc_tree.specs.Tree as t
+use Rattle.pc_tree.specs.BuiltIn.{none_entity}
 use Rattle.pc_core.specs.declared.declarations.Method.{Method}
 use Rattle.pc_core.specs.declared.declarations.MethodKind.{MethodKind}
 use Rattle.pc_core.specs.declared.declarations.ParamInfo.{ParamInfo}
@@ -27,7 +28,7 @@ use Rattle.pc_file_spec.specs.Known.{texts_of, known_of}
 
 -- A type among these entities. In a file whose names have no fault each type is there.
 abbrev pub or_value : Option (ℕ × Cap) → ℕ × Cap
-or_value None = (0, cap.Val)
+or_value None = (none_entity, cap.Val)
 or_value (Some ty) = ty
 
 abbrev pub type_in : List Known → TypeRef → ℕ × Cap
@@ -62,7 +63,7 @@ result_form true k = unalias k
 result_form false k = plain k
 
 abbrev pub written_result : List Known → Option TypeRef → ℕ × Form
-written_result entities None = (0, form.Val)
+written_result entities None = (none_entity, form.Val)
 written_result entities (Some ty) = ((type_in entities ty).0, result_form ty.hat (type_in entities ty).1)
 
 -- A new object of entity e: an actor is a `tag`, and one of a class has the capability that its constructor gives it.
@@ -75,7 +76,7 @@ object_of kind.Interface e k = (e, unalias k)
 
 abbrev pub word_result : List Known → EntityKind → ℕ → t.Method → MethodWord → ℕ × Form
 word_result entities k e m word.Fun = written_result entities m.result
-word_result entities k e m word.Be = (0, form.Val)
+word_result entities k e m word.Be = (none_entity, form.Val)
 word_result entities k e m word.New = object_of k e (cap_or m.cap cap.Ref)
 
 -- An object that an added `create` gives is isolated.

@@ -62,45 +62,45 @@ pub fn tell(alloc: Global, name: &[u8]) -> Result<Expr, AllocError>
 }
 
 // `c.value() > k`
-fn holds_more(alloc: Global, k: u64) -> Result<Seq, AllocError>
-    ensures { IfOk result (λ seq. seq_view seq ≡ part.alone (part.operation op.Gt (spec.value (codes "c")) (part.number k))) }
+fn holds_more(alloc: Global, addend: u64) -> Result<Seq, AllocError>
+    ensures { IfOk result (λ seq. seq_view seq ≡ part.alone (part.operation op.Gt (spec.value (codes "c")) (part.number addend))) }
 {
     let held = value(alloc, b"c")?;
-    let more = operation(alloc, Op::Gt, held, number(k))?;
+    let more = operation(alloc, Op::Gt, held, number(addend))?;
     alone(alloc, more)
 }
 
 // `c.add(n)`, alone
-fn adding(alloc: Global, n: u64) -> Result<Seq, AllocError>
-    ensures { IfOk result (λ seq. seq_view seq ≡ part.alone (spec.add (codes "c") (part.number n))) }
+fn adding(alloc: Global, addend: u64) -> Result<Seq, AllocError>
+    ensures { IfOk result (λ seq. seq_view seq ≡ part.alone (spec.add (codes "c") (part.number addend))) }
 {
-    let adds = add(alloc, b"c", number(n))?;
+    let adds = add(alloc, b"c", number(addend))?;
     alone(alloc, adds)
 }
 
 // `if c.value() > k then c.add(1) else c.add(k) end`
-fn compare(alloc: Global, k: u64) -> Result<Expr, AllocError>
-    ensures { IfOk result (λ e. expr_view e ≡ spec.compare k) }
+fn compare(alloc: Global, addend: u64) -> Result<Expr, AllocError>
+    ensures { IfOk result (λ e. expr_view e ≡ spec.compare addend) }
 {
-    let cond = holds_more(alloc, k)?;
+    let cond = holds_more(alloc, addend)?;
     let body = adding(alloc, 1)?;
-    let other = adding(alloc, k)?;
+    let other = adding(alloc, addend)?;
     choice(alloc, cond, body, other)
 }
 
 // `t + n`
-fn turn_and(alloc: Global, n: u64) -> Result<Expr, AllocError>
-    ensures { IfOk result (λ e. expr_view e ≡ spec.turn_and n) }
+fn turn_and(alloc: Global, addend: u64) -> Result<Expr, AllocError>
+    ensures { IfOk result (λ e. expr_view e ≡ spec.turn_and addend) }
 {
     let turn = variable(alloc, b"t")?;
-    operation(alloc, Op::Add, turn, number(n))
+    operation(alloc, Op::Add, turn, number(addend))
 }
 
 // `c.add(t + k); t = t + 1`
-fn one_turn(alloc: Global, k: u64) -> Result<List<Item>, AllocError>
-    ensures { IfOk result (λ items. map item_view items ≡ t.plain (spec.add (codes "c") (spec.turn_and k)) ∷ t.plain (part.assigned (codes "t") (spec.turn_and 1)) ∷ []) }
+fn one_turn(alloc: Global, addend: u64) -> Result<List<Item>, AllocError>
+    ensures { IfOk result (λ items. map item_view items ≡ t.plain (spec.add (codes "c") (spec.turn_and addend)) ∷ t.plain (part.assigned (codes "t") (spec.turn_and 1)) ∷ []) }
 {
-    let amount = turn_and(alloc, k)?;
+    let amount = turn_and(alloc, addend)?;
     let adds = add(alloc, b"c", amount)?;
     let mut items = one(alloc, Item::Plain(adds))?;
     let next = turn_and(alloc, 1)?;
@@ -110,21 +110,21 @@ fn one_turn(alloc: Global, k: u64) -> Result<List<Item>, AllocError>
 }
 
 // `while t < 3 do c.add(t + k); t = t + 1 end`
-fn repeat(alloc: Global, k: u64) -> Result<Expr, AllocError>
-    ensures { IfOk result (λ e. expr_view e ≡ spec.repeat k) }
+fn repeat(alloc: Global, addend: u64) -> Result<Expr, AllocError>
+    ensures { IfOk result (λ e. expr_view e ≡ spec.repeat addend) }
 {
     let turn = variable(alloc, b"t")?;
     let below = operation(alloc, Op::Lt, turn, number(3))?;
     let cond = alone(alloc, below)?;
-    let items = one_turn(alloc, k)?;
+    let items = one_turn(alloc, addend)?;
     turns(alloc, cond, sequence(items))
 }
 
 /// An expression behind other items.
-pub fn push_plain(items: &mut List<Item>, e: Expr) -> Result<(), AllocError>
-    ensures { OnOk result (map item_view items.new ≡ map item_view items.old ++ t.plain (expr_view e) ∷ []) }
+pub fn push_plain(items: &mut List<Item>, expression: Expr) -> Result<(), AllocError>
+    ensures { OnOk result (map item_view items.new ≡ map item_view items.old ++ t.plain (expr_view expression) ∷ []) }
 {
-    items.push(Item::Plain(e))
+    items.push(Item::Plain(expression))
 }
 
 // `let x: T = e` behind other items, or `var` in place of `let`
@@ -170,12 +170,12 @@ fn freeze(alloc: Global) -> Result<Expr, AllocError>
 }
 
 // `var t: U64 = 0` and the loop
-fn push_repeat(alloc: Global, items: &mut List<Item>, k: u64) -> Result<(), AllocError>
-    ensures { OnOk result (map item_view items.new ≡ map item_view items.old ++ spec.repeat_items k) }
+fn push_repeat(alloc: Global, items: &mut List<Item>, addend: u64) -> Result<(), AllocError>
+    ensures { OnOk result (map item_view items.new ≡ map item_view items.old ++ spec.repeat_items addend) }
 {
     let typed = param(alloc, b"t", b"U64", None)?;
     push_local(items, false, typed, number(0))?;
-    let turns = repeat(alloc, k)?;
+    let turns = repeat(alloc, addend)?;
     push_plain(items, turns)
 }
 
@@ -191,10 +191,10 @@ fn push_frozen(alloc: Global, items: &mut List<Item>) -> Result<(), AllocError>
 }
 
 // `c.add(k)`, `let v: U64 = c.value()`, and a copy of what is held, frozen
-fn push_freeze(alloc: Global, items: &mut List<Item>, k: u64) -> Result<(), AllocError>
-    ensures { OnOk result (map item_view items.new ≡ map item_view items.old ++ spec.freeze_items k) }
+fn push_freeze(alloc: Global, items: &mut List<Item>, addend: u64) -> Result<(), AllocError>
+    ensures { OnOk result (map item_view items.new ≡ map item_view items.old ++ spec.freeze_items addend) }
 {
-    let adds = add(alloc, b"c", number(k))?;
+    let adds = add(alloc, b"c", number(addend))?;
     push_plain(items, adds)?;
     let typed = param(alloc, b"v", b"U64", None)?;
     let held = value(alloc, b"c")?;
@@ -207,20 +207,20 @@ pub fn push_task(
     alloc: Global,
     items: &mut List<Item>,
     task: Task,
-    k: u64,
+    addend: u64,
 ) -> Result<(), AllocError>
-    ensures { OnOk result (map item_view items.new ≡ map item_view items.old ++ spec.task_items task k) }
+    ensures { OnOk result (map item_view items.new ≡ map item_view items.old ++ spec.task_items task addend) }
 {
     match task {
         Task::Add => {
-            let adds = add(alloc, b"c", number(k))?;
+            let adds = add(alloc, b"c", number(addend))?;
             push_plain(items, adds)
         }
         Task::Compare => {
-            let compares = compare(alloc, k)?;
+            let compares = compare(alloc, addend)?;
             push_plain(items, compares)
         }
-        Task::Repeat => push_repeat(alloc, items, k),
-        Task::Freeze => push_freeze(alloc, items, k),
+        Task::Repeat => push_repeat(alloc, items, addend),
+        Task::Freeze => push_freeze(alloc, items, addend),
     }
 }

@@ -187,10 +187,10 @@ pub fn sequence(items: List<Item>) -> Seq
 
 /// A sequence of one expression.
 #[tactic(auto, using(pc_tree::proofs::Views::view_plain))]
-pub fn alone(alloc: Global, e: Expr) -> Result<Seq, AllocError>
-    ensures { IfOk result (λ seq. seq_view seq ≡ spec.alone (expr_view e)) }
+pub fn alone(alloc: Global, expression: Expr) -> Result<Seq, AllocError>
+    ensures { IfOk result (λ seq. seq_view seq ≡ spec.alone (expr_view expression)) }
 {
-    let items = one(alloc, Item::Plain(e))?;
+    let items = one(alloc, Item::Plain(expression))?;
     Ok(sequence(items))
 }
 

@@ -98,10 +98,10 @@ fn cell(alloc: Global) -> Result<Entity, AllocError>
 }
 
 // `Work5`
-fn worker_name(alloc: Global, i: u32) -> Result<List<u8>, AllocError>
-    ensures { IfOk result (λ name. name ≡ spec.worker_name i) }
+fn worker_name(alloc: Global, index: u32) -> Result<List<u8>, AllocError>
+    ensures { IfOk result (λ name. name ≡ spec.worker_name index) }
 {
-    let digits = format!(in alloc; "{i}")?;
+    let digits = format!(in alloc; "{index}")?;
     let mut name = Vec::from_slice(alloc, b"Work")?;
     name.extend_from_slice(digits.as_bytes())?;
     Ok(List::from_vec(name))
@@ -138,14 +138,14 @@ fn handed(alloc: Global) -> Result<List<Expr>, AllocError>
 }
 
 // What a worker does last: the last one of all prints what the cell holds, each other hands the cell on.
-fn hand_on(alloc: Global, size: u32, i: u32) -> Result<Expr, AllocError>
-    requires { i < size }
-    ensures { IfOk result (λ e. expr_view e ≡ spec.hand_on size i) }
+fn hand_on(alloc: Global, size: u32, index: u32) -> Result<Expr, AllocError>
+    requires { index < size }
+    ensures { IfOk result (λ e. expr_view e ≡ spec.hand_on size index) }
 {
-    if i + 1 == size {
+    if index + 1 == size {
         return tell(alloc, b"c");
     }
-    let name = worker_name(alloc, i + 1)?;
+    let name = worker_name(alloc, index + 1)?;
     let args = handed(alloc)?;
     construct(alloc, name.as_slice(), args)
 }
@@ -154,17 +154,17 @@ fn hand_on(alloc: Global, size: u32, i: u32) -> Result<Expr, AllocError>
 fn work_items(
     alloc: Global,
     size: u32,
-    i: u32,
+    index: u32,
     task: Task,
-    k: u64,
+    addend: u64,
 ) -> Result<List<Item>, AllocError>
-    requires { i < size }
-    ensures { IfOk result (λ items. map item_view items ≡ spec.work_items size i task k) }
+    requires { index < size }
+    ensures { IfOk result (λ items. map item_view items ≡ spec.work_items size index task addend) }
 {
     let first = take_cell(alloc)?;
     let mut items = one(alloc, first)?;
-    push_task(alloc, &mut items, task, k)?;
-    let last = hand_on(alloc, size, i)?;
+    push_task(alloc, &mut items, task, addend)?;
+    let last = hand_on(alloc, size, index)?;
     push_plain(&mut items, last)?;
     Ok(items)
 }
@@ -173,37 +173,42 @@ fn work_items(
 fn work_create(
     alloc: Global,
     size: u32,
-    i: u32,
+    index: u32,
     task: Task,
-    k: u64,
+    addend: u64,
 ) -> Result<MethodDef, AllocError>
-    requires { i < size }
-    ensures { IfOk result (λ m. method_view m ≡ part.create spec.worker_params (part.sequence (spec.work_items size i task k))) }
+    requires { index < size }
+    ensures { IfOk result (λ m. method_view m ≡ part.create spec.worker_params (part.sequence (spec.work_items size index task addend))) }
 {
-    let items = work_items(alloc, size, i, task, k)?;
+    let items = work_items(alloc, size, index, task, addend)?;
     let params = worker_params(alloc)?;
     create(alloc, params, sequence(items))
 }
 
 // The worker of this number.
-fn work(alloc: Global, size: u32, i: u32, task: Task, k: u64) -> Result<Entity, AllocError>
-    requires { i < size }
-    ensures { IfOk result (λ e. entity_view e ≡ spec.work size i task k) }
+fn work(alloc: Global, size: u32, index: u32, task: Task, addend: u64) -> Result<Entity, AllocError>
+    requires { index < size }
+    ensures { IfOk result (λ e. entity_view e ≡ spec.work size index task addend) }
 {
-    let name = worker_name(alloc, i)?;
-    let creates = work_create(alloc, size, i, task, k)?;
+    let name = worker_name(alloc, index)?;
+    let creates = work_create(alloc, size, index, task, addend)?;
     actor(alloc, name.as_slice(), creates)
 }
 
 // The worker of this number, by the next two draws.
-fn next_worker(alloc: Global, draws: &mut Draws, size: u32, i: u32) -> Result<Entity, AllocError>
-    requires { i < size }
+fn next_worker(
+    alloc: Global,
+    draws: &mut Draws,
+    size: u32,
+    index: u32,
+) -> Result<Entity, AllocError>
+    requires { index < size }
     ensures state { draws.new.state ≡ next (next draws.old.state) }
-    ensures worker { IfOk result (λ e. entity_view e ≡ spec.work size i (spec.task_of (high (next draws.old.state) 4)) (high (next (next draws.old.state)) 1000)) }
+    ensures worker { IfOk result (λ e. entity_view e ≡ spec.work size index (spec.task_of (high (next draws.old.state) 4)) (high (next (next draws.old.state)) 1000)) }
 {
     let task = task_of(draws.draw(4));
     let k = u64::from(draws.draw(1000));
-    work(alloc, size, i, task, k)
+    work(alloc, size, index, task, k)
 }
 
 // The workers, in order.

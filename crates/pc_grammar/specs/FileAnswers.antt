@@ -1,6 +1,6 @@
 -- What may be said of a whole list of tokens: the file that they spell, or the first token with which no file begins any
 -- more, or which opens a level too many.
-use Rattle.std.specs.Prelude.{◌≡◌, ℕ, ◌≤◌, List, [], ◌∷◌, ◌++◌}
+use Rattle.std.specs.Prelude.{◌≡◌, ℕ, ◌-◌, ◌≤◌, List, [], ◌∷◌, ◌++◌}
 use Rattle.pc_tree.specs.Measures.{file_depth}
 use Rattle.pc_tree.specs.Tree as t
 use Rattle.pc_token.specs.declared.kinds.Token.{Token}
@@ -16,6 +16,10 @@ pub data FileAnswer : Type 0 where
 -- How many levels may be opened, one in another. A body and a field's value stand at level 1.
 abbrev pub level_limit : ℕ
 level_limit = 200
+
+-- How many are left inside of these.
+abbrev pub inner_levels : ℕ
+inner_levels = level_limit - 1
 
 -- The tokens up to `rest` begin a file within the levels, and with the next one none begins, of any depth.
 abbrev pub IsUnexpected : List Token → List Token → Type 0

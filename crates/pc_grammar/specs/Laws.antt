@@ -8,7 +8,7 @@ use Rattle.pc_grammar.specs.SpellsFile.{SpellsFile}
 use Rattle.pc_grammar.specs.ReadingFile.{file}
 use Rattle.pc_grammar.specs.Begins.{IsOne, IsOneAnswer, IsRead, IsRefused, IsTooDeep}
 use Rattle.pc_grammar.specs.FileAnswers as answer
-use Rattle.pc_grammar.specs.FileAnswers.{IsFileAnswer}
+use Rattle.pc_grammar.specs.FileAnswers.{IsFileAnswer, inner_levels}
 use Rattle.pc_grammar.specs.Reading.{Outcome, Parser, unexpected, too_deep, seq, expr, infix_}
 
 module _ {A : Type 0} (spells : A → List Token → Type 0) (depth_of : A → ℕ) (reading : ℕ → Parser A) where
@@ -87,6 +87,6 @@ AnswersFor ts (Err (unexpected, [])) = Unit {0}
 AnswersFor ts (Err (unexpected, x ∷ rest)) = IsFileAnswer ts (answer.unexpected (x ∷ rest))
 AnswersFor ts (Err (too_deep, rest)) = IsFileAnswer ts (answer.too_deep rest)
 
--- A body and a value stand at level 1 of 200, so 199 are left inside.
+-- A body and a value stand at level 1.
 abbrev pub FileIsAnswered : Type 0
-FileIsAnswered = (ts : List Token) → AnswersFor ts (file 199 ts)
+FileIsAnswered = (ts : List Token) → AnswersFor ts (file inner_levels ts)

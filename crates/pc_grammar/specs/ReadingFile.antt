@@ -100,7 +100,8 @@ method_cap e m = cap_if (may_have_method_cap e m)
 
 abbrev pub method_result : MethodWord → Parser (Option TypeRef)
 method_result method.Fun = returns
-method_result m = pure None
+method_result method.Be = pure None
+method_result method.New = pure None
 
 unfoldable pub method_of : ℕ → EntityKind → MethodWord → Parser t.Method
 method_of n e m =

@@ -29,7 +29,14 @@ pub fn op_of(token: &Token) -> Option<Op>
         TokenKind::Word(Word::XorWord) => Some(Op::Xor),
         TokenKind::Word(Word::IsWord) => Some(Op::Is),
         TokenKind::Word(Word::IsntWord) => Some(Op::Isnt),
-        _ => None,
+        TokenKind::Name(_)
+        | TokenKind::TypeName(_)
+        | TokenKind::Word(_)
+        | TokenKind::Number(_)
+        | TokenKind::Text(_)
+        | TokenKind::Doc
+        | TokenKind::Sign(_)
+        | TokenKind::End => None,
     }
 }
 
@@ -45,7 +52,14 @@ pub fn cap_of(token: &Token) -> Option<Cap>
         TokenKind::Word(Word::ValWord) => Some(Cap::Val),
         TokenKind::Word(Word::BoxWord) => Some(Cap::Box),
         TokenKind::Word(Word::TagWord) => Some(Cap::Tag),
-        _ => None,
+        TokenKind::Name(_)
+        | TokenKind::TypeName(_)
+        | TokenKind::Word(_)
+        | TokenKind::Number(_)
+        | TokenKind::Text(_)
+        | TokenKind::Doc
+        | TokenKind::Sign(_)
+        | TokenKind::End => None,
     }
 }
 
@@ -70,6 +84,6 @@ pub fn begins_item(token: &Token) -> bool
         | TokenKind::Word(Word::ConsumeWord)
         | TokenKind::Word(Word::LetWord)
         | TokenKind::Word(Word::VarWord) => true,
-        _ => false,
+        TokenKind::Word(_) | TokenKind::Doc | TokenKind::Sign(_) | TokenKind::End => false,
     }
 }

@@ -1,9 +1,7 @@
 //! All names that a file defines or that stand behind a `.` in it: those that its tables hold.
 
 use crate::key::KeyedBy;
-use pc_tree::{
-    Arm, Entity, Expr, FieldDef, File, Item, MethodDef, Name, ParamDef, Seq, Suffix,
-};
+use pc_tree::{Arm, Entity, Expr, FieldDef, File, Item, MethodDef, Name, ParamDef, Seq, Suffix};
 
 /// The key that is made of the names that a file gives to entities, fields, methods, parameters and locals, and of those behind
 /// a `.`, in the order of the text. Takes no memory.

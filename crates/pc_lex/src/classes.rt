@@ -17,27 +17,27 @@ pub enum Class {
 }
 
 /// Whether a byte separates tokens.
-pub fn is_blank(b: u8) -> bool
-    ensures { result ≡ bytes.is_blank b }
+pub fn is_blank(byte: u8) -> bool
+    ensures { result ≡ bytes.is_blank byte }
 {
-    b == b' ' || b == b'\t' || b == b'\r' || b == b'\n'
+    byte == b' ' || byte == b'\t' || byte == b'\r' || byte == b'\n'
 }
 
 /// Whether a byte is a letter of either case.
-pub fn is_letter(b: u8) -> bool
-    ensures { result ≡ bytes.is_letter b }
+pub fn is_letter(byte: u8) -> bool
+    ensures { result ≡ bytes.is_letter byte }
 {
-    b.is_ascii_lowercase() || b.is_ascii_uppercase()
+    byte.is_ascii_lowercase() || byte.is_ascii_uppercase()
 }
 
 /// Whether a byte is in a class.
-pub fn is_in(class: Class, b: u8) -> bool
-    ensures { result ≡ reading.class_test class b }
+pub fn is_in(class: Class, byte: u8) -> bool
+    ensures { result ≡ reading.class_test class byte }
 {
     match class {
-        Class::Tail => is_letter(b) || b.is_ascii_digit() || b == b'_',
-        Class::Prime => b == b'\'',
-        Class::Line => b != b'\n',
+        Class::Tail => is_letter(byte) || byte.is_ascii_digit() || byte == b'_',
+        Class::Prime => byte == b'\'',
+        Class::Line => byte != b'\n',
     }
 }
 

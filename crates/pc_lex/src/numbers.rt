@@ -10,23 +10,23 @@ use crate::pieces::{Found, LexStop};
 use pc_token::TokenKind;
 
 /// The digit that a byte is, letters of either case being 10 to 35, or 36.
-pub fn digit_value(b: u8) -> u8
-    ensures value { result ≡ digit_value b }
+pub fn digit_value(byte: u8) -> u8
+    ensures value { result ≡ digit_value byte }
     ensures within { result ≤ 36 }
 {
-    match b {
-        b'0'..=b'9' => b - b'0',
-        b'A'..=b'Z' => b - b'A' + 10,
-        b'a'..=b'z' => b - b'a' + 10,
+    match byte {
+        b'0'..=b'9' => byte - b'0',
+        b'A'..=b'Z' => byte - b'A' + 10,
+        b'a'..=b'z' => byte - b'a' + 10,
         _ => 36,
     }
 }
 
 /// Whether a byte is a digit of a base.
-pub fn is_digit(b: u8, base: u8) -> bool
-    ensures { result ≡ is_digit b base }
+pub fn is_digit(byte: u8, base: u8) -> bool
+    ensures { result ≡ is_digit byte base }
 {
-    digit_value(b) < base
+    digit_value(byte) < base
 }
 
 /// Whether a digit of a base stands at the front.
@@ -72,12 +72,12 @@ fn digits_len(text: &[u8], base: u8) -> usize
 }
 
 /// A number with one digit more, if it is below 2^64.
-fn with_digit(value: u64, base: u8, b: u8) -> Option<u64>
-    ensures { BelowOrNone result (value * base + digit_value b) }
+fn with_digit(value: u64, base: u8, byte: u8) -> Option<u64>
+    ensures { BelowOrNone result (value * base + digit_value byte) }
 {
     value
         .checked_mul(base as u64)?
-        .checked_add(digit_value(b) as u64)
+        .checked_add(digit_value(byte) as u64)
 }
 
 /// The number of digits and `_`, if it is below 2^64.

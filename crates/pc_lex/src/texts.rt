@@ -30,12 +30,12 @@ impl From<AllocError> for EscapeFault {
 }
 
 /// How many bytes a byte takes with what it covers.
-fn width(b: u8) -> usize
-    ensures value { result ≡ reading.width b }
+fn width(byte: u8) -> usize
+    ensures value { result ≡ reading.width byte }
     ensures some { 1 ≤ result }
     ensures most { result ≤ 2 }
 {
-    if b == b'\\' { 2 } else { 1 }
+    if byte == b'\\' { 2 } else { 1 }
 }
 
 /// How many bytes stand before the next `"` that no `\` covers.
@@ -55,17 +55,17 @@ pub fn quote_len(text: &[u8]) -> Option<usize>
 }
 
 /// Whether a byte of a text stands for itself.
-fn is_plain(b: u8) -> bool
-    ensures { result ≡ spec.is_plain b }
+fn is_plain(byte: u8) -> bool
+    ensures { result ≡ spec.is_plain byte }
 {
-    b != b'"' && b != b'\\'
+    byte != b'"' && byte != b'\\'
 }
 
 /// What a letter behind `\` stands for.
-fn escape_of(b: u8) -> Option<u8>
-    ensures { result ≡ spec.escape_of b }
+fn escape_of(byte: u8) -> Option<u8>
+    ensures { result ≡ spec.escape_of byte }
 {
-    match b {
+    match byte {
         b'n' => Some(b'\n'),
         b'r' => Some(b'\r'),
         b't' => Some(b'\t'),

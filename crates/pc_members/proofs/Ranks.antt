@@ -18,7 +18,8 @@ use Rattle.pc_lists.specs.Texts.{Text}
 use Rattle.pc_members.specs.Words.{is_among, built_in_names, texts_of, entity_names}
 use Rattle.pc_members.specs.Reach.{or_nil}
 use Rattle.pc_members.specs.Tables.{find_name}
-use Rattle.pc_members.specs.Chains.{first_own, entity_at, Names, Leads, one, more, IsAbove, Closes, IsFounded}
+use Rattle.pc_members.specs.Chains.{entity_at, Names, Leads, one, more, IsAbove, Closes, IsFounded}
+use Rattle.pc_tree.specs.BuiltIn.{first_own}
 use Rattle.pc_members.proofs.Differences.{same_text, equal_texts}
 use Rattle.pc_lists.proofs.Bools.{true_false}
 use Rattle.pc_members.proofs.Closings.{nobody, no_entity}

@@ -9,10 +9,7 @@ use Rattle.pc_members.specs.Words.{entity_names, entity_of}
 use Rattle.pc_members.specs.Reach.{Edges}
 use Rattle.pc_members.specs.Tables.{trait_names}
 use Rattle.std.specs.Str.{bytes_eq}
-
--- The number of the first entity of the file.
-abbrev pub first_own : ℕ
-first_own = 6
+use Rattle.pc_tree.specs.BuiltIn.{first_own}
 
 -- The entity of this number.
 abbrev pub entity_at : t.File → ℕ → t.Entity → Type 0

@@ -8,7 +8,8 @@ use Rattle.pc_tree.specs.Tree as t
 use Rattle.pc_lists.specs.Texts.{Text}
 use Rattle.pc_members.specs.Words.{is_among, has_added}
 use Rattle.pc_members.specs.Tables.{find_name, with_names}
-use Rattle.pc_members.specs.Chains.{first_own, Closes}
+use Rattle.pc_members.specs.Chains.{Closes}
+use Rattle.pc_tree.specs.BuiltIn.{first_own}
 use Rattle.pc_members.specs.Reach.{or_nil}
 use Rattle.pc_members.specs.Members.{Member, member_text, written, added, without_body, is_takable, abstract_methods, own_texts, added_if}
 

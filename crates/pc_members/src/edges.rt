@@ -6,11 +6,8 @@ ghost use Rattle.pc_members.specs.Words.{entity_names};
 
 use crate::table::NameTable;
 use pc_caps::List;
-use pc_tree::{Entity, File, Name};
+use pc_tree::{Entity, FIRST_OWN, File, Name};
 use std::alloc::{AllocError, Global};
-
-/// How many entities are built in.
-const FIRST_OWN: usize = 6;
 
 /// The numbers of those names that are entities.
 pub fn number_names(
@@ -35,7 +32,7 @@ fn add_built_in(alloc: Global, edges: &mut List<List<u32>>) -> Result<(), AllocE
     requires { edges.old ≡ [] }
     ensures { OnOk result (edges.new ≡ replicate spec.first_own []) }
 {
-    while edges.len() < FIRST_OWN {
+    while edges.len() < FIRST_OWN as usize {
         edges.push(List::new(alloc))?;
     }
     Ok(())

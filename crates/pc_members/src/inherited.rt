@@ -1,7 +1,8 @@
 //! The members of each entity of a file, with what it takes over.
 ghost use Rattle.std.specs.Prelude.{◌≡◌, ◌≤◌, ◌++◌, map, drop, length, slice_get, IfOk, OnOk};
 ghost use Rattle.pc_tree.specs.View.{entity_view, file_view};
-ghost use Rattle.pc_members.specs.Chains.{Closes, IsFounded, first_own};
+ghost use Rattle.pc_members.specs.Chains.{Closes, IsFounded};
+ghost use Rattle.pc_tree.specs.BuiltIn.{first_own};
 ghost use Rattle.pc_members.specs.Members.{members};
 ghost use Rattle.pc_members.specs.Tables.{find_name};
 ghost use Rattle.pc_members.specs.Words.{entity_names};
@@ -13,11 +14,8 @@ use crate::table::NameTable;
 use crate::texts::own_names;
 use crate::traits::{list_methods, named_at};
 use pc_caps::List;
-use pc_tree::{Entity, EntityKind, File, Name};
+use pc_tree::{Entity, EntityKind, FIRST_OWN, File, Name};
 use std::alloc::{AllocError, Global};
-
-/// How many entities are built in.
-const FIRST_OWN: usize = 6;
 
 // Those of these members that an entity of this kind takes over go behind the others, of each name the first.
 fn take<'a>(
@@ -173,7 +171,7 @@ pub fn own_part(lists: &[List<u32>]) -> &[List<u32>]
     requires { first_own ≤ length lists.now }
     ensures { result.now ≡ drop first_own lists.now }
 {
-    &lists[FIRST_OWN..]
+    &lists[FIRST_OWN as usize..]
 }
 
 /// The members of each entity of a file, in order, where these are the names of all entities, those that are built in

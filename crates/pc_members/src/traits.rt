@@ -12,11 +12,8 @@ ghost use Rattle.pc_members.specs.Views.{maybe_members, members_view, table_view
 use crate::member::{Member, add_written};
 use crate::table::NameTable;
 use pc_caps::List;
-use pc_tree::{Entity, File, Name};
+use pc_tree::{Entity, FIRST_OWN, File, Name};
 use std::alloc::{AllocError, Global};
-
-/// How many entities are built in.
-const FIRST_OWN: usize = 6;
 
 // Those of these members whose names are not known go behind the others, of each name the first.
 fn add_firsts<'a>(
@@ -45,7 +42,7 @@ pub(crate) fn named_at<'t, 'a>(
     ensures { spec.or_none (maybe_members (option_copied result)) ≡ spec.named_at (table_view table.now) (find_name entities.now name.now.text) }
 {
     let number = entities.find(name.text.as_slice())?;
-    table.get((number as usize).saturating_sub(FIRST_OWN))
+    table.get((number as usize).saturating_sub(FIRST_OWN as usize))
 }
 
 // The same of what the table has for the entity of this name.

@@ -4,6 +4,7 @@ use Rattle.std.specs.Prelude.{◌⊎◌, slice_get, nat_lt, codes}
 use Rattle.std.proofs.lemmas.Bool.{ltb-true, cases_lt}
 use Rattle.std.proofs.lemmas.List.{length-append}
 use Rattle.std.proofs.lemmas.Option.{same_Some, none-some}
+use Rattle.pc_caps.specs.Limits.{field_limit}
 use Rattle.pc_lists.specs.Places.{Has}
 use Rattle.pc_lists.proofs.Bools.{true_false, false_true}
 use Rattle.pc_lists.proofs.Elements.{has_front, has_behind, has_either}
@@ -53,7 +54,7 @@ abbrev entity_text : t.Entity → Text
 entity_text e = e.name.text
 
 abbrev name_part : List Text → t.Entity → List NameFault
-name_part known e = either (is_among e.name.text known) (fault.Double e.name.span) (not (nat_lt (length known) spec.entity_limit)) (fault.TooMany which.Entities e.name.span)
+name_part known e = either (is_among e.name.text known) (fault.Double e.name.span) (not (nat_lt (length known) spec.known_limit)) (fault.TooMany which.Entities e.name.span)
 
 -- Behind known names: the list is one that is gone through.
 names_walk : (known : List Text) (es : List t.Entity) → spec.entity_name_faults known es ≡ walk entity_text name_part known es
@@ -83,9 +84,9 @@ name_lists : (file : t.File) (i : ℕ) (e : t.Entity) → slice_get file.entitie
 name_lists file i e at =
     let known = built_in_names ++ take i (texts_of file.entities) in
     let count : length known ≡ 6 + i = length-append built_in_names (take i (texts_of file.entities)) ∙ ap (λ n. 6 + n) (first_count entity_text file.entities i e at) in
-    lists_either (is_among e.name.text known) (not (nat_lt (length known) spec.entity_limit)) (fault.Double e.name.span) (fault.TooMany which.Entities e.name.span) (IsRepeated file i e.name.text) (1000 ≤ i)
+    lists_either (is_among e.name.text known) (not (nat_lt (length known) spec.known_limit)) (fault.Double e.name.span) (fault.TooMany which.Entities e.name.span) (IsRepeated file i e.name.text) (1000 ≤ i)
     (tests_repeated e.name.text file.entities i)
-    (tests_turned (not (nat_lt (length known) spec.entity_limit)) (spec.entity_limit ≤ 6 + i) (1000 ≤ i) (λ l. omega (arith, l)) (λ l. omega (arith, l)) (tests_limit 6 (length known) i count spec.entity_limit))
+    (tests_turned (not (nat_lt (length known) spec.known_limit)) (spec.known_limit ≤ 6 + i) (1000 ≤ i) (λ l. omega (arith, l)) (λ l. omega (arith, l)) (tests_limit 6 (length known) i count spec.known_limit))
 
 pub entities_list : (file : t.File) → Lists (spec.entity_name_faults built_in_names file.entities) (IsEntityFault file)
 entities_list file = subst (λ l. Lists l (IsEntityFault file)) (sym (names_walk built_in_names file.entities)) whole
@@ -186,12 +187,12 @@ field_text f = f.name.text
 
 abbrev field_part : List Text → List Text → t.Field → List NameFault
 field_part entities known f =
-    either (is_among f.name.text known) (fault.Double f.name.span) (not (nat_lt (length known) spec.field_limit)) (fault.TooMany which.Fields f.name.span) ++ spec.type_faults entities f.ty
+    either (is_among f.name.text known) (fault.Double f.name.span) (not (nat_lt (length known) field_limit)) (fault.TooMany which.Fields f.name.span) ++ spec.type_faults entities f.ty
 
 fields_walk : (entities known : List Text) (fs : List t.Field) → spec.field_faults entities known fs ≡ walk field_text (field_part entities) known fs
 fields_walk entities known [] = refl
 fields_walk entities known (f ∷ fs) =
-    let first = either (is_among f.name.text known) (fault.Double f.name.span) (not (nat_lt (length known) spec.field_limit)) (fault.TooMany which.Fields f.name.span) in
+    let first = either (is_among f.name.text known) (fault.Double f.name.span) (not (nat_lt (length known) field_limit)) (fault.TooMany which.Fields f.name.span) in
     let rest = spec.field_faults entities (known ++ f.name.text ∷ []) fs in
     sym (append_assoc first (spec.type_faults entities f.ty) rest) ∙ ap (λ l. field_part entities known f ++ l) (fields_walk entities (known ++ f.name.text ∷ []) fs)
 
@@ -209,11 +210,11 @@ module _ (file : t.File) (e : t.Entity) where
       each i x at =
           let known = take i (field_texts e.fields) in
           let count : length known ≡ 0 + i = first_count field_text e.fields i x at ∙ (let z : i ≡ 0 + i = omega arith in z) in
-          lists_both (either (is_among x.name.text known) (fault.Double x.name.span) (not (nat_lt (length known) spec.field_limit)) (fault.TooMany which.Fields x.name.span)) (spec.type_faults (entity_names file) x.ty)
+          lists_both (either (is_among x.name.text known) (fault.Double x.name.span) (not (nat_lt (length known) field_limit)) (fault.TooMany which.Fields x.name.span)) (spec.type_faults (entity_names file) x.ty)
           (λ f. ((f ≡ fault.Double x.name.span) × HasBefore (field_texts e.fields) i x.name.text) ⊎ ((f ≡ fault.TooMany which.Fields x.name.span) × (HasBefore (field_texts e.fields) i x.name.text → ⊥) × (64 ≤ i))) (Missing file x.ty)
-          (lists_either (is_among x.name.text known) (not (nat_lt (length known) spec.field_limit)) (fault.Double x.name.span) (fault.TooMany which.Fields x.name.span) (HasBefore (field_texts e.fields) i x.name.text) (64 ≤ i)
+          (lists_either (is_among x.name.text known) (not (nat_lt (length known) field_limit)) (fault.Double x.name.span) (fault.TooMany which.Fields x.name.span) (HasBefore (field_texts e.fields) i x.name.text) (64 ≤ i)
           (tests_before x.name.text (field_texts e.fields) i)
-          (tests_turned (not (nat_lt (length known) spec.field_limit)) (spec.field_limit ≤ 0 + i) (64 ≤ i) (λ l. omega (arith, l)) (λ l. omega (arith, l)) (tests_limit 0 (length known) i count spec.field_limit)))
+          (tests_turned (not (nat_lt (length known) field_limit)) (field_limit ≤ 0 + i) (64 ≤ i) (λ l. omega (arith, l)) (λ l. omega (arith, l)) (tests_limit 0 (length known) i count field_limit)))
           (type_lists file x.ty)
 
 -- ---- methods

@@ -17,7 +17,8 @@ use Rattle.pc_names.specs.declared.fault.Which.TheVariants as which
 use Rattle.pc_members.specs.Words.{built_in_names, entity_names}
 use Rattle.pc_names.specs.Faults.{where_, entity_name_faults, declaration_faults}
 use Rattle.pc_members.specs.Reach.{above_all, has}
-use Rattle.pc_members.specs.Chains.{Closes, first_own, edges_of}
+use Rattle.pc_members.specs.Chains.{Closes, edges_of}
+use Rattle.pc_tree.specs.BuiltIn.{first_own}
 use Rattle.pc_names.specs.Cycles.{cycle_faults}
 use Rattle.pc_names.specs.Counts.{count_faults}
 use Rattle.pc_names.specs.Mains.{main_faults}
@@ -27,7 +28,7 @@ use Rattle.pc_names.specs.Laws.{OfFile, fault_start}
 use Rattle.pc_names.proofs.Ones.{first_is}
 use Rattle.pc_members.proofs.Closings.{closes}
 use Rattle.pc_names.proofs.OtherTexts.{other_texts_differ}
-use Rattle.pc_body_spec.specs.Roses.{node_limit}
+use Rattle.pc_caps.specs.Limits.{node_limit}
 use Rattle.pc_body_spec.specs.Faults.{Fault, unknown, double, long_text}
 use Rattle.pc_body_spec.specs.Places as body_places
 use Rattle.pc_members.specs.Members.{Member, written, added, member_span}

@@ -1,8 +1,8 @@
 -- What the tables of a body say of a name is what it means.
 use Rattle.std.proofs.Common.{◌≡◌, ℕ, zero, suc, ◌+◌, ◌<◌, List, [], ◌∷◌, map, Option, Some, None, Bool, true, false, refl, sym, ap, ◌∙◌, subst, inl, inr, ⊎_elim, arith, if◌then◌else◌}
-use Rattle.std.specs.Prelude.{◌⊎◌, slice_get, nat_eq, nat_lt}
+use Rattle.std.specs.Prelude.{◌⊎◌, slice_get, nat_eq, nat_le}
 use Rattle.std.specs.Str.{bytes_eq}
-use Rattle.std.proofs.lemmas.Bool.{ltb-true, eqb-true}
+use Rattle.std.proofs.lemmas.Bool.{leb-true, le-leb, eqb-true}
 use Rattle.std.proofs.lemmas.Option.{same_Some, none-some}
 use Rattle.pc_lists.specs.Places.{Has}
 use Rattle.pc_lists.proofs.Bools.{true_false}
@@ -10,6 +10,7 @@ use Rattle.pc_lists.proofs.Elements.{has_on}
 use Rattle.pc_tree.specs.declared.kinds.EntityKind.{EntityKind}
 use Rattle.pc_tree.specs.declared.kinds.EntityKind.TheVariants as kind
 use Rattle.pc_lists.specs.Texts.{Text}
+use Rattle.pc_tree.specs.BuiltIn.{first_own}
 use Rattle.pc_members.proofs.Differences.{same_text, equal_texts}
 use Rattle.pc_body_spec.specs.Scopes.{Context, Known, Constructor, Scope, Visible, is_among, slot_of, TypeMeaning, primitive, created, no_value, is_own, by_kind, type_from, type_meaning, constructor_named}
 use Rattle.pc_body_spec.specs.Faults.{is_entity}
@@ -150,18 +151,18 @@ Says c n no_value = (IsPrimitive c n → ⊥) × ((x : Known) → IsCreated c n 
 own_number : (e : ℕ) → is_own e ≡ true → HasValue e
 own_number e h = by (nat_eq e 0) refl h
   where
-    by : (b : Bool) → nat_eq e 0 ≡ b → (if b then true else nat_lt 5 e) ≡ true → HasValue e
+    by : (b : Bool) → nat_eq e 0 ≡ b → (if b then true else nat_le first_own e) ≡ true → HasValue e
     by true z k = inl (eqb-true e 0 z)
-    by false z k = let l : 5 < e = ltb-true 5 e k in inr (omega (arith, l))
+    by false z k = inr (leb-true first_own e k)
 
 own_true : (e : ℕ) → HasValue e → is_own e ≡ true
 own_true e (inl z) = ap is_own z
 own_true e (inr l) = by (nat_eq e 0)
   where
-    large : nat_lt 5 e ≡ true
-    large = search (arith, l)
+    large : nat_le first_own e ≡ true
+    large = le-leb first_own e l
 
-    by : (b : Bool) → (if b then true else nat_lt 5 e) ≡ true
+    by : (b : Bool) → (if b then true else nat_le first_own e) ≡ true
     by true = refl
     by false = large
 

@@ -9,7 +9,8 @@ use Rattle.pc_core.specs.declared.nodes.Node.{Node}
 use Rattle.pc_names.specs.declared.fault.NameFault.{NameFault}
 use Rattle.pc_names.specs.declared.fault.NameFault.TheVariants as fault
 use Rattle.pc_names.specs.declared.fault.Which.TheVariants as which
-use Rattle.pc_body_spec.specs.Roses.{Rose, Numbered, node_limit, put}
+use Rattle.pc_body_spec.specs.Roses.{Rose, Numbered, put}
+use Rattle.pc_caps.specs.Limits.{node_limit}
 use Rattle.pc_body_spec.specs.Scopes.{Context}
 use Rattle.pc_body_spec.specs.Faults.{Fault}
 use Rattle.pc_body_spec.specs.Methods.{Outcome, unless_fault, unless_name, unless_full, numbered, put_body}

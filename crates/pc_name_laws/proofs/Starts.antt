@@ -1,6 +1,7 @@
 -- The faults of names and declarations stand at the places of the tree, in their order.
 use Rattle.std.proofs.Common.{◌≡◌, ℕ, Bool, true, false, not, ◌||◌, ◌&&◌, List, [], ◌∷◌, ◌++◌, map, length, Option, Some, None, refl, subst}
 use Rattle.std.specs.Prelude.{nat_lt, codes}
+use Rattle.pc_caps.specs.Limits.{field_limit}
 use Rattle.pc_tree.specs.declared.file.ParamDef.{ParamDef}
 use Rattle.pc_tree.specs.declared.names.Name.{Name}
 use Rattle.pc_tree.specs.declared.names.TypeRef.{TypeRef}
@@ -37,7 +38,7 @@ either_at false c f g e = subst (λ n. Stand (where_ c g) (n ∷ [])) e (where_a
 name_at : (known : List Text) (es : List t.Entity) → Stand (spec.entity_name_faults known es) (map entity_start es)
 name_at known [] = nowhere
 name_at known (e ∷ es) =
-    join (either_at (is_among e.name.text known) (not (nat_lt (length known) spec.entity_limit)) (fault.Double e.name.span) (fault.TooMany which.Entities e.name.span) refl) (name_at (known ++ e.name.text ∷ []) es)
+    join (either_at (is_among e.name.text known) (not (nat_lt (length known) spec.known_limit)) (fault.Double e.name.span) (fault.TooMany which.Entities e.name.span) refl) (name_at (known ++ e.name.text ∷ []) es)
 
 pub names_at : (known : List Text) (es : List t.Entity) → Sub fault_start (spec.entity_name_faults known es) (map entity_start es)
 names_at known es = (name_at known es).sub
@@ -56,7 +57,7 @@ provided_at traits known (n ∷ ns) = join (either_at (not (is_among n.text trai
 field_at : (entities known : List Text) (fs : List t.Field) → Stand (spec.field_faults entities known fs) (field_places fs)
 field_at entities known [] = nowhere
 field_at entities known (f ∷ fs) =
-    join (either_at (is_among f.name.text known) (not (nat_lt (length known) spec.field_limit)) (fault.Double f.name.span) (fault.TooMany which.Fields f.name.span) refl)
+    join (either_at (is_among f.name.text known) (not (nat_lt (length known) field_limit)) (fault.Double f.name.span) (fault.TooMany which.Fields f.name.span) refl)
     (join (type_at entities f.ty) (field_at entities (known ++ f.name.text ∷ []) fs))
 
 param_at : (entities fields known : List Text) (ps : List ParamDef) → Stand (spec.param_faults entities fields known ps) (param_places ps)

@@ -1,5 +1,6 @@
 -- What may be wrong with the names and declarations of the entities of a file.
 use Rattle.std.specs.Prelude.{◌≡◌, ◌⊎◌, ℕ, ◌<◌, ◌≤◌, true, List, map, Some, slice_get, codes}
+use Rattle.pc_caps.specs.Limits.{entity_limit, field_limit}
 use Rattle.pc_lists.specs.Places.{Has}
 use Rattle.pc_tree.specs.declared.file.ParamDef.{ParamDef}
 use Rattle.pc_tree.specs.declared.names.Name.{Name}
@@ -26,8 +27,8 @@ IsRepeated file i name = Has built_in_names name ⊎ HasBefore (texts_of file.en
 
 pub data IsEntityFault (file : t.File) : NameFault → Type 0 where
   twice : (i : ℕ) (e : t.Entity) → slice_get file.entities i ≡ Some e → IsRepeated file i e.name.text → IsEntityFault file (fault.Double e.name.span)
-  -- the 1,001st entity, and each behind it
-  too_many : (i : ℕ) (e : t.Entity) → slice_get file.entities i ≡ Some e → (IsRepeated file i e.name.text → ⊥) → 1000 ≤ i → IsEntityFault file (fault.TooMany which.Entities e.name.span)
+  -- the first entity past the limit, and each behind it
+  too_many : (i : ℕ) (e : t.Entity) → slice_get file.entities i ≡ Some e → (IsRepeated file i e.name.text → ⊥) → entity_limit ≤ i → IsEntityFault file (fault.TooMany which.Entities e.name.span)
 
 -- ---- declarations
 
@@ -63,4 +64,4 @@ pub data IsDeclarationFault (file : t.File) (e : t.Entity) : NameFault → Type 
   unknown : (n : Name) → IsMissingName file e n → IsDeclarationFault file e (fault.Unknown n.span)
   twice : (n : Name) → IsTwice file e n → IsDeclarationFault file e (fault.Double n.span)
   -- the 65th field, and each behind it
-  too_many : (i : ℕ) (f : t.Field) → slice_get e.fields i ≡ Some f → (HasBefore (field_texts e.fields) i f.name.text → ⊥) → 64 ≤ i → IsDeclarationFault file e (fault.TooMany which.Fields f.name.span)
+  too_many : (i : ℕ) (f : t.Field) → slice_get e.fields i ≡ Some f → (HasBefore (field_texts e.fields) i f.name.text → ⊥) → field_limit ≤ i → IsDeclarationFault file e (fault.TooMany which.Fields f.name.span)

@@ -3,9 +3,11 @@
 use Rattle.std.specs.Prelude.{◌≡◌, ◌⊎◌, ℕ, ◌<◌, ◌≤◌, List, length, Some, slice_get, codes}
 use Rattle.pc_lists.specs.Places.{Has}
 use Rattle.pc_caps.specs.declared.span.Span.{Span}
+use Rattle.pc_caps.specs.Limits.{text_limit}
 use Rattle.pc_tree.specs.declared.kinds.EntityKind.TheVariants as kind
 use Rattle.pc_tree.specs.Tree as t
 use Rattle.pc_lists.specs.Texts.{Text}
+use Rattle.pc_tree.specs.BuiltIn.{none_entity, first_own}
 use Rattle.pc_body_spec.specs.Scopes.{Context, Known, Constructor}
 use Rattle.pc_body_spec.specs.Faults.{Fault, unknown, double, long_text, arguments, name}
 use Rattle.pc_members.specs.Members.{Member}
@@ -17,9 +19,9 @@ use Rattle.pc_name_laws.specs.Uses.{Use, bare, consumed, type_value, member_of, 
 abbrev pub IsNamed : Context → Text → ℕ → Known → Type 0
 IsNamed c n i x = (slice_get c.entities i ≡ Some x) × (x.name ≡ n) × ((j : ℕ) (y : Known) → j < i → slice_get c.entities j ≡ Some y → y.name ≡ n → ⊥)
 
--- Of the entities of the language, which are the first six, None alone is a value or makes one.
+-- Of the entities of the language, None alone is a value or makes one.
 abbrev pub HasValue : ℕ → Type 0
-HasValue i = (i ≡ 0) ⊎ (6 ≤ i)
+HasValue i = (i ≡ none_entity) ⊎ (first_own ≤ i)
 
 abbrev pub IsPrimitive : Context → Text → Type 0
 IsPrimitive c n = (i : ℕ) × (x : Known) × IsNamed c n i x × HasValue i × (x.kind ≡ kind.Primitive)
@@ -76,7 +78,7 @@ IsLong (type_value n next) = ⊥
 IsLong (member_of of m next) = ⊥
 IsLong (local n) = ⊥
 IsLong (local_type n) = ⊥
-IsLong (literal b s) = 4096 < length b
+IsLong (literal b s) = text_limit < length b
 
 -- The use is at fault, with this fault.
 abbrev pub IsAtFault : Context → Spot → Fault → Type 0

@@ -1,6 +1,7 @@
 -- In which turn each fault of a file is looked for. There are five passes over its names, and then its members have their turns: the
 -- body of a member, its slots, and its nodes.
-use Rattle.std.specs.Prelude.{◌≡◌, ◌⊎◌, ℕ, suc, ◌+◌, ◌*◌, ◌<◌, ◌≤◌, false, List, [], ◌∷◌, take, Option, Some, None, slice_get, codes}
+use Rattle.std.specs.Prelude.{◌≡◌, ◌⊎◌, ℕ, suc, ◌+◌, ◌*◌, ◌<◌, ◌≤◌, false, List, [], ◌∷◌, take, Option, Some, None, slice_get, codes, ◌-◌}
+use Rattle.pc_caps.specs.Limits.{method_limit, node_limit, slot_limit}
 use Rattle.pc_lists.specs.Places.{Has}
 use Rattle.pc_tree.specs.declared.names.Name.{Name}
 use Rattle.pc_tree.specs.Tree as t
@@ -8,7 +9,8 @@ use Rattle.pc_names.specs.declared.fault.NameFault.{NameFault}
 use Rattle.pc_names.specs.declared.fault.NameFault.TheVariants as fault
 use Rattle.pc_names.specs.declared.fault.Which.TheVariants as which
 use Rattle.pc_members.specs.Words.{texts_of}
-use Rattle.pc_members.specs.Chains.{InCycle, entity_at, first_own}
+use Rattle.pc_members.specs.Chains.{InCycle, entity_at}
+use Rattle.pc_tree.specs.BuiltIn.{first_own}
 use Rattle.pc_names.specs.Counts.{method_count}
 use Rattle.pc_names.specs.Mains.{is_main}
 use Rattle.pc_names.specs.Laws.{fault_start}
@@ -75,7 +77,7 @@ methods_to all es k = 0
 
 -- An entity up to which the file has more than 10,000 methods.
 abbrev pub IsCountFault : t.File → NameFault → Type 0
-IsCountFault file f = (i : ℕ) × (e : t.Entity) × (slice_get file.entities i ≡ Some e) × (10000 < methods_to file.entities file.entities (suc i)) × (f ≡ fault.TooMany which.Methods e.name.span)
+IsCountFault file f = (i : ℕ) × (e : t.Entity) × (slice_get file.entities i ≡ Some e) × (method_limit < methods_to file.entities file.entities (suc i)) × (f ≡ fault.TooMany which.Methods e.name.span)
 
 -- No entity is called `Main`; or the first that is so called is no actor, or has no constructor `create` with exactly one parameter, of
 -- `Env val`.
@@ -129,8 +131,8 @@ At file cycles f = IsCycleFault file f
 At file method_counts f = IsCountFault file f
 At file main f = IsMainFault file f
 At file (body k) f = (o : Owned) × (g : Fault) × (slice_get (all_members file) k ≡ Some o) × IsBodyFault (context_of file o) o.owner o.member g × (f ≡ body_fault g)
-At file (slots k) f = (o : Owned) × (n : Name) × (slice_get (all_members file) k ≡ Some o) × (slice_get (slots_named o.owner o.member) 63 ≡ Some n) × (f ≡ fault.TooMany which.Slots n.span)
-At file (nodes k) f = (o : Owned) × (slice_get (all_members file) k ≡ Some o) × (200000 < nodes_of file (take (suc k) (all_members file))) × (f ≡ fault.TooMany which.Nodes (member_span o.owner.name.span o.member))
+At file (slots k) f = (o : Owned) × (n : Name) × (slice_get (all_members file) k ≡ Some o) × (slice_get (slots_named o.owner o.member) (slot_limit - 1) ≡ Some n) × (f ≡ fault.TooMany which.Slots n.span)
+At file (nodes k) f = (o : Owned) × (slice_get (all_members file) k ≡ Some o) × (node_limit < nodes_of file (take (suc k) (all_members file))) × (f ≡ fault.TooMany which.Nodes (member_span o.owner.name.span o.member))
 
 -- A fault in a turn comes before another in a turn, or is it: its turn is not later, and in one turn it has the smaller start.
 abbrev pub IsBefore : Turn → NameFault → Turn → NameFault → Type 0

@@ -9,7 +9,8 @@ use Rattle.pc_names.specs.declared.fault.NameFault.TheVariants as fault
 use Rattle.pc_tree.specs.Kinds.{is_abstract}
 use Rattle.pc_names.specs.Faults.{where_}
 use Rattle.pc_members.specs.Reach.{has}
-use Rattle.pc_members.specs.Chains.{Closes, InCycle, Leads, entity_at, first_own}
+use Rattle.pc_members.specs.Chains.{Closes, InCycle, Leads, entity_at}
+use Rattle.pc_tree.specs.BuiltIn.{first_own}
 use Rattle.pc_names.specs.Cycles.{cycle_faults}
 use Rattle.pc_names.specs.Laws.{CycleIsFirst, NoCycle}
 use Rattle.pc_members.proofs.Reaches.{has_in, in_get, get_in}

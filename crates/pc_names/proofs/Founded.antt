@@ -15,9 +15,10 @@ use Rattle.pc_names.specs.declared.fault.Which.TheVariants as which
 use Rattle.pc_lists.specs.Texts.{Text}
 use Rattle.pc_members.specs.Words.{is_among, built_in_names, texts_of, entity_names}
 use Rattle.pc_members.specs.Tables.{trait_names}
-use Rattle.pc_members.specs.Chains.{first_own, Closes, IsFounded}
+use Rattle.pc_members.specs.Chains.{Closes, IsFounded}
+use Rattle.pc_tree.specs.BuiltIn.{first_own}
 use Rattle.pc_members.proofs.Differences.{differ_push, among_has}
-use Rattle.pc_names.specs.Faults.{where_, either, provided_faults, added_faults, entity_faults, entities_faults, entity_name_faults, declaration_faults, entity_limit}
+use Rattle.pc_names.specs.Faults.{where_, either, provided_faults, added_faults, entity_faults, entities_faults, entity_name_faults, declaration_faults, known_limit}
 use Rattle.pc_names.specs.Cycles.{cycle_faults}
 use Rattle.pc_names.specs.Names.{NamesData, Collected}
 use Rattle.pc_names.proofs.CycleFirsts.{no_cycle}
@@ -49,21 +50,21 @@ adds_differ base (x ∷ xs) d a = subst Differ (append_assoc base (x ∷ []) xs)
 
 -- ---- the names of entities
 
-pub names_add : (known : List Text) (es : List t.Entity) → length known ≤ entity_limit → entity_name_faults known es ≡ [] → Adds known (texts_of es) × (length known + length es ≤ entity_limit)
+pub names_add : (known : List Text) (es : List t.Entity) → length known ≤ known_limit → entity_name_faults known es ≡ [] → Adds known (texts_of es) × (length known + length es ≤ known_limit)
 names_add known [] few h = (tt, omega (arith, few))
 names_add known (e ∷ es) few h =
-    let e0 = either_none (is_among e.name.text known) (fault.Double e.name.span) (not (nat_lt (length known) entity_limit)) (fault.TooMany which.Entities e.name.span) (nil_left _ _ h) in
-    let low : length known < entity_limit = ltb-true (length known) entity_limit (not-false (nat_lt (length known) entity_limit) e0.1) in
+    let e0 = either_none (is_among e.name.text known) (fault.Double e.name.span) (not (nat_lt (length known) known_limit)) (fault.TooMany which.Entities e.name.span) (nil_left _ _ h) in
+    let low : length known < known_limit = ltb-true (length known) known_limit (not-false (nat_lt (length known) known_limit) e0.1) in
     let count : length (known ++ e.name.text ∷ []) ≡ length known + 1 = length_push known e.name.text in
-    let more : length (known ++ e.name.text ∷ []) ≤ entity_limit = omega (arith, low, count) in
-    let rest = names_add (known ++ e.name.text ∷ []) es more (nil_right (either (is_among e.name.text known) (fault.Double e.name.span) (not (nat_lt (length known) entity_limit)) (fault.TooMany which.Entities e.name.span)) _ h) in
-    let total : length (known ++ e.name.text ∷ []) + length es ≤ entity_limit = rest.1 in
+    let more : length (known ++ e.name.text ∷ []) ≤ known_limit = omega (arith, low, count) in
+    let rest = names_add (known ++ e.name.text ∷ []) es more (nil_right (either (is_among e.name.text known) (fault.Double e.name.span) (not (nat_lt (length known) known_limit)) (fault.TooMany which.Entities e.name.span)) _ h) in
+    let total : length (known ++ e.name.text ∷ []) + length es ≤ known_limit = rest.1 in
     ((e0.0, rest.0), omega (arith, total, count))
 
 built_in_adds : Adds [] built_in_names
 built_in_adds = (refl, (refl, (refl, (refl, (refl, (refl, tt))))))
 
-pub all_differ : (file : t.File) → entity_name_faults built_in_names file.entities ≡ [] → Differ (entity_names file) × (first_own + length file.entities ≤ entity_limit)
+pub all_differ : (file : t.File) → entity_name_faults built_in_names file.entities ≡ [] → Differ (entity_names file) × (first_own + length file.entities ≤ known_limit)
 all_differ file h =
     let r = names_add built_in_names file.entities (omega arith) h in
     let few = r.1 in

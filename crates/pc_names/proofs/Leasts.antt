@@ -2,6 +2,7 @@
 use Rattle.std.proofs.Common.{◌≡◌, ℕ, zero, suc, ◌≤◌, ◌<◌, Bool, true, false, not, ◌||◌, List, [], ◌∷◌, ◌++◌, map, length, Option, Some, None, refl, sym, ap, ◌∙◌, subst, arith}
 use Rattle.std.specs.Prelude.{slice_get, nat_lt, codes, ◌&&◌}
 use Rattle.std.proofs.lemmas.Option.{same_Some, none-some}
+use Rattle.pc_caps.specs.Limits.{field_limit}
 use Rattle.pc_lists.specs.Places.{Has, Ascends}
 use Rattle.pc_tree.specs.declared.file.ParamDef.{ParamDef}
 use Rattle.pc_tree.specs.declared.names.Name.{Name}
@@ -55,7 +56,7 @@ provided_at traits known (n ∷ ns) =
 field_at : (entities known : List Text) (fs : List t.Field) → At (spec.field_faults entities known fs) (field_places fs)
 field_at entities known [] = done
 field_at entities known (f ∷ fs) =
-    join (either_at (is_among f.name.text known) (not (nat_lt (length known) spec.field_limit)) (fault.Double f.name.span) (fault.TooMany which.Fields f.name.span) refl)
+    join (either_at (is_among f.name.text known) (not (nat_lt (length known) field_limit)) (fault.Double f.name.span) (fault.TooMany which.Fields f.name.span) refl)
     (join (type_at entities f.ty) (field_at entities (known ++ f.name.text ∷ []) fs))
 
 param_at : (entities fields known : List Text) (ps : List ParamDef) → At (spec.param_faults entities fields known ps) (param_places ps)

@@ -1,5 +1,6 @@
 -- How many methods a file has.
 use Rattle.std.specs.Prelude.{ℕ, ◌+◌, List, [], ◌∷◌, ◌++◌, length, nat_lt}
+use Rattle.pc_caps.specs.Limits.{method_limit}
 use Rattle.pc_tree.specs.Tree as t
 use Rattle.pc_members.specs.Members.{members}
 use Rattle.pc_names.specs.declared.fault.NameFault.{NameFault}
@@ -11,10 +12,6 @@ use Rattle.pc_names.specs.Faults.{where_}
 -- the file.
 abbrev pub method_count : List t.Entity → t.Entity → ℕ
 method_count all e = length (members all e)
-
--- how many methods a file may have
-abbrev pub method_limit : ℕ
-method_limit = 10000
 
 -- Entities at which the count of the file's methods is past the limit. The number is the count before the first of them.
 abbrev pub count_faults : List t.Entity → ℕ → List t.Entity → List NameFault

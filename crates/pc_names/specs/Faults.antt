@@ -1,10 +1,12 @@
 -- The faults of a file's names, pass by pass. Each pass has the list of its faults in the order of the text, of which the
 -- first is told.
-use Rattle.std.specs.Prelude.{◌≡◌, ℕ, Bool, true, false, ◌&&◌, ◌||◌, not, List, [], ◌∷◌, ◌++◌, length, Option, Some, None, Result, Ok, Err, slice_get, nat_lt, codes}
+use Rattle.std.specs.Prelude.{◌≡◌, ℕ, Bool, true, false, ◌&&◌, ◌||◌, not, List, [], ◌∷◌, ◌++◌, length, Option, Some, None, Result, Ok, Err, slice_get, nat_lt, codes, ◌+◌}
+use Rattle.pc_caps.specs.Limits.{entity_limit, field_limit}
 use Rattle.pc_tree.specs.declared.file.ParamDef.{ParamDef}
 use Rattle.pc_tree.specs.declared.names.Name.{Name}
 use Rattle.pc_tree.specs.declared.names.TypeRef.{TypeRef}
 use Rattle.pc_tree.specs.Tree as t
+use Rattle.pc_tree.specs.BuiltIn.{first_own}
 use Rattle.pc_names.specs.declared.fault.NameFault.{NameFault}
 use Rattle.pc_names.specs.declared.fault.NameFault.TheVariants as fault
 use Rattle.pc_names.specs.declared.fault.Which.TheVariants as which
@@ -34,15 +36,15 @@ Tells (Err f) fs = IsFirst f fs
 
 -- ---- the names of entities
 
--- how many entities there may be, with the six that are built in
-abbrev pub entity_limit : ℕ
-entity_limit = 1006
+-- how many entities there may be, with those that are built in
+abbrev pub known_limit : ℕ
+known_limit = first_own + entity_limit
 
 -- An entity whose name is known already, or one too many.
 abbrev pub entity_name_faults : List Text → List t.Entity → List NameFault
 entity_name_faults known [] = []
 entity_name_faults known (e ∷ es) =
-    either (is_among e.name.text known) (fault.Double e.name.span) (not (nat_lt (length known) entity_limit)) (fault.TooMany which.Entities e.name.span)
+    either (is_among e.name.text known) (fault.Double e.name.span) (not (nat_lt (length known) known_limit)) (fault.TooMany which.Entities e.name.span)
     ++ entity_name_faults (known ++ e.name.text ∷ []) es
 
 -- ---- declarations, entity by entity
@@ -61,10 +63,6 @@ provided_faults traits known [] = []
 provided_faults traits known (n ∷ ns) =
     either (not (is_among n.text traits)) (fault.Unknown n.span) (is_among n.text known) (fault.Double n.span)
     ++ provided_faults traits (known ++ n.text ∷ []) ns
-
--- how many fields an entity may have
-abbrev pub field_limit : ℕ
-field_limit = 64
 
 -- A field whose name a field before it has, the 65th field, and the field's type.
 abbrev pub field_faults : List Text → List Text → List t.Field → List NameFault

@@ -9,7 +9,8 @@ use Rattle.pc_names.specs.declared.fault.NameFault.{NameFault}
 use Rattle.pc_names.specs.declared.fault.NameFault.TheVariants as fault
 use Rattle.pc_lists.specs.Texts.{Text}
 use Rattle.pc_names.specs.Faults.{IsFirst, entity_faults}
-use Rattle.pc_members.specs.Chains.{Closes, InCycle, entity_at, first_own}
+use Rattle.pc_members.specs.Chains.{Closes, InCycle, entity_at}
+use Rattle.pc_tree.specs.BuiltIn.{first_own}
 use Rattle.pc_names.specs.Cycles.{cycle_faults}
 use Rattle.pc_names.specs.Names.{NamesData, Collected, IsNameFault}
 

@@ -1,7 +1,8 @@
 //! The names of a file, or the first thing that is wrong with them.
 ghost use Rattle.std.specs.Prelude.{◌≡◌, ◌+◌, ◌<◌, ◌^◌, [], drop, length, IfOk, IfErr};
 ghost use Rattle.pc_tree.specs.View.{file_view};
-ghost use Rattle.pc_members.specs.Chains.{first_own, edges_of, Closes, IsFounded};
+ghost use Rattle.pc_members.specs.Chains.{edges_of, Closes, IsFounded};
+ghost use Rattle.pc_tree.specs.BuiltIn.{first_own};
 ghost use Rattle.pc_names.specs.Cycles.{cycle_faults};
 ghost use Rattle.pc_names.specs.Faults.{Tells, declaration_faults, entity_name_faults};
 ghost use Rattle.pc_names.specs.Names.{Collected, IsNameFault, above_faults, member_faults};
@@ -19,11 +20,8 @@ use crate::texts::table_texts;
 use pc_caps::List;
 use pc_counts::count_members;
 use pc_members::{NameTable, close, list_edges, own_part};
-use pc_tree::File;
+use pc_tree::{FIRST_OWN, File};
 use std::alloc::{AllocError, Global};
-
-/// How many entities are built in.
-const FIRST_OWN: u32 = 6;
 
 // The declarations of a file whose entities have these names.
 fn check_declarations(alloc: Global, entities: &NameTable, file: &File) -> Result<(), NameFault>

@@ -5,10 +5,8 @@ ghost use Rattle.pc_names.specs.Counts as spec;
 ghost use Rattle.pc_names.specs.Faults.{Tells};
 
 use crate::fault::{NameFault, Which};
+use pc_caps::METHOD_LIMIT;
 use pc_tree::Entity;
-
-/// How many methods a file may have.
-const METHOD_LIMIT: usize = 10_000;
 
 // These entities, of which each has so many members, have no more members than a file may have.
 fn add_counts(all: &[Entity], counts: &[usize]) -> Result<(), NameFault>
@@ -19,7 +17,7 @@ fn add_counts(all: &[Entity], counts: &[usize]) -> Result<(), NameFault>
     for at in 0..all.len() {
         let entity = &all[at];
         let count = counts[at];
-        if count > METHOD_LIMIT - total {
+        if count > METHOD_LIMIT as usize - total {
             return Err(NameFault::TooMany(Which::Methods, entity.name.span));
         }
         total += count;

@@ -1,5 +1,6 @@
 //! What is wrong with the declarations of an entity.
 ghost use Rattle.std.specs.Prelude.{◌≡◌, ◌||◌, ◌++◌, [], not, length, map, nat_lt, OnOk};
+ghost use Rattle.pc_caps.specs.Limits.{field_limit};
 ghost use Rattle.pc_tree.specs.View.{entity_view, field_view, method_view};
 ghost use Rattle.pc_names.specs.Faults as spec;
 ghost use Rattle.pc_names.specs.declared.fault.NameFault.TheVariants.{Double, TooMany};
@@ -7,12 +8,10 @@ ghost use Rattle.pc_names.specs.declared.fault.Which.TheVariants.{Fields};
 ghost use Rattle.pc_members.specs.Words.{is_among, field_texts, method_texts};
 
 use crate::fault::{NameFault, Which};
+use pc_caps::FIELD_LIMIT;
 use pc_members::{NameTable, has_added};
 use pc_tree::{Entity, FieldDef, MethodDef, Name, ParamDef, TypeRef};
 use std::alloc::Global;
-
-/// How many fields an entity may have.
-const FIELD_LIMIT: u32 = 64;
 
 // The type is an entity.
 fn check_type(entities: &NameTable, ty: &TypeRef) -> Result<(), NameFault>
@@ -83,7 +82,7 @@ fn add_fields(
 
 // The name of a field is none of those that are known, and these are not too many.
 fn check_field_name(known: &NameTable, name: &Name) -> Result<(), NameFault>
-    ensures { spec.Tells result (spec.either (is_among name.now.text known.now) (Double name.now.span) (not (nat_lt (length known.now) spec.field_limit)) (TooMany Fields name.now.span)) }
+    ensures { spec.Tells result (spec.either (is_among name.now.text known.now) (Double name.now.span) (not (nat_lt (length known.now) field_limit)) (TooMany Fields name.now.span)) }
 {
     if known.has(name.text.as_slice()) {
         return Err(NameFault::Double(name.span));

@@ -1,18 +1,19 @@
 //! The numbers of the entities.
 ghost use Rattle.std.specs.Prelude.{◌≡◌, ◌++◌, ◌≤◌, [], map, length, take, IfOk, OnOk};
 ghost use Rattle.pc_tree.specs.View.{entity_view, file_view};
-ghost use Rattle.pc_names.specs.Faults.{Tells, entity_name_faults, entity_limit};
+ghost use Rattle.pc_names.specs.Faults.{Tells, entity_name_faults, known_limit};
 ghost use Rattle.pc_members.specs.Tables.{trait_names, with_traits};
 ghost use Rattle.pc_members.specs.Words.{built_in_names, entity_names, texts_of};
 
 use crate::fault::{NameFault, Which};
+use pc_caps::ENTITY_LIMIT;
 use pc_keyed::keyed_by_names;
 use pc_members::NameTable;
-use pc_tree::{Entity, File};
+use pc_tree::{Entity, FIRST_OWN, File};
 use std::alloc::{AllocError, Global};
 
-/// How many entities there may be, with the six that are built in.
-const ENTITY_LIMIT: u32 = 1_006;
+/// How many entities there may be, with those that are built in.
+const KNOWN_LIMIT: u32 = FIRST_OWN + ENTITY_LIMIT;
 
 // The names of the entities that each program has go into a table without names.
 fn add_built_in(table: &mut NameTable) -> Result<(), AllocError>
@@ -45,7 +46,7 @@ fn add_last_built_in(table: &mut NameTable) -> Result<(), AllocError>
 
 // Puts the names of these entities behind the others.
 fn add_entities(table: &mut NameTable, entities: &[Entity]) -> Result<(), NameFault>
-    requires { length table.old ≤ entity_limit }
+    requires { length table.old ≤ known_limit }
     ensures tells { Tells result (entity_name_faults table.old (map entity_view entities.now)) }
     ensures names { OnOk result (table.new ≡ table.old ++ texts_of (map entity_view entities.now)) }
 {
@@ -54,7 +55,7 @@ fn add_entities(table: &mut NameTable, entities: &[Entity]) -> Result<(), NameFa
         if table.has(name.text.as_slice()) {
             return Err(NameFault::Double(name.span));
         }
-        if table.len() >= ENTITY_LIMIT {
+        if table.len() >= KNOWN_LIMIT {
             return Err(NameFault::TooMany(Which::Entities, name.span));
         }
         table.add(name.text.as_slice())?;

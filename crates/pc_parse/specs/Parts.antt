@@ -8,6 +8,7 @@ use Rattle.pc_token.specs.declared.signs.Sign.TheVariants as s
 use Rattle.pc_token.specs.Asking.{is_sign}
 use Rattle.pc_grammar.specs.Reading.{Parser, ◌>>=◌, ◌>>◌, pure, peek, take_if, all, after, at, type_name}
 use Rattle.pc_grammar.specs.ReadingFile.{is_end, maybe_doc, param, begins_field, some_field, begins_method, some_method, begins_entity, entity}
+use Rattle.pc_grammar.specs.FileAnswers.{inner_levels}
 use Rattle.pc_expr.specs.Onto.{onto}
 
 -- {"," Name ":" Type}
@@ -36,19 +37,19 @@ one_type_name = type_name >>= λ m. pure (m ∷ [])
 
 -- {Field}
 abbrev pub all_fields : Parser (List t.Field)
-all_fields = all (at begins_field) (some_field 199)
+all_fields = all (at begins_field) (some_field inner_levels)
 
 -- {Method}
 abbrev pub all_methods : EntityKind → Parser (List t.Method)
-all_methods e = all (at (begins_method e)) (some_method 199 e)
+all_methods e = all (at (begins_method e)) (some_method inner_levels e)
 
 -- {Entity}
 abbrev pub more_entities : List t.Entity → Parser (List t.Entity)
-more_entities = onto (at begins_entity) (entity 199)
+more_entities = onto (at begins_entity) (entity inner_levels)
 
 -- Entity {Entity}
 unfoldable pub some_entities : Parser (List t.Entity)
-some_entities = entity 199 >>= λ e. more_entities (e ∷ [])
+some_entities = entity inner_levels >>= λ e. more_entities (e ∷ [])
 
 -- [doc] Entity {Entity} End
 unfoldable pub file_parts : Parser t.File

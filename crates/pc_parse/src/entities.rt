@@ -2,6 +2,7 @@
 ghost use Rattle.std.specs.Prelude.{◌≡◌, ◌≤◌, drop, map, IfOk, Ok};
 ghost use Rattle.pc_tree.specs.View.{entity_view};
 ghost use Rattle.pc_grammar.specs.ReadingFile as rules;
+ghost use Rattle.pc_grammar.specs.FileAnswers.{inner_levels};
 ghost use Rattle.pc_expr.specs.Gives.{At, Moves, Gives};
 ghost use Rattle.pc_parse.specs.Parts as parts;
 
@@ -37,7 +38,7 @@ fn entity_of(
     kind: EntityKind,
 ) -> Result<(Entity, usize), ParseStop>
     requires { At tokens.now at }
-    ensures gives { Gives entity_view tokens.now result (rules.entity_of 199 kind (drop at tokens.now)) }
+    ensures gives { Gives entity_view tokens.now result (rules.entity_of inner_levels kind (drop at tokens.now)) }
     ensures moves { IfOk result (λ r. Moves tokens.now at r.1) }
 {
     let (_, begin) = take_word(tokens, at, entity_word(kind))?;
@@ -64,7 +65,7 @@ fn entity_of(
 #[tactic(auto, unfolding(pc_grammar::specs::ReadingFile::entity, pc_grammar::specs::Reading::peek))]
 fn entity(alloc: Global, tokens: &[Token], at: usize) -> Result<(Entity, usize), ParseStop>
     requires { At tokens.now at }
-    ensures gives { Gives entity_view tokens.now result (rules.entity 199 (drop at tokens.now)) }
+    ensures gives { Gives entity_view tokens.now result (rules.entity inner_levels (drop at tokens.now)) }
     ensures moves { IfOk result (λ r. Moves tokens.now at r.1) }
 {
     let token = look(tokens, at);

@@ -2,10 +2,11 @@
 ghost use Rattle.std.specs.Prelude.{◌≤◌, drop, map, IfOk};
 ghost use Rattle.pc_tree.specs.View.{maybe_expr, field_view};
 ghost use Rattle.pc_grammar.specs.ReadingFile as rules;
+ghost use Rattle.pc_grammar.specs.FileAnswers.{inner_levels};
 ghost use Rattle.pc_expr.specs.Gives.{At, Moves, Gives};
 ghost use Rattle.pc_parse.specs.Parts as parts;
 
-use crate::levels::LEVELS;
+use crate::levels::INNER_LEVELS;
 use crate::tokens::{after_doc, at_field};
 use pc_caps::List;
 use pc_expr::parsers::{
@@ -19,14 +20,14 @@ use std::alloc::Global;
 #[tactic(auto, unfolding(pc_grammar::specs::ReadingFile::value, pc_grammar::specs::Reading::peek))]
 fn value(alloc: Global, tokens: &[Token], at: usize) -> Result<(Option<Expr>, usize), ParseStop>
     requires { At tokens.now at }
-    ensures gives { Gives maybe_expr tokens.now result (rules.value 199 (drop at tokens.now)) }
+    ensures gives { Gives maybe_expr tokens.now result (rules.value inner_levels (drop at tokens.now)) }
     ensures moves { IfOk result (λ r. (at ≤ r.1) × At tokens.now r.1) }
 {
     if !is_sign(look(tokens, at), Sign::Assign) {
         return Ok((None, at));
     }
     let (_, begin) = take_sign(tokens, at, Sign::Assign)?;
-    let (e, to) = infix(alloc, tokens, begin, LEVELS)?;
+    let (e, to) = infix(alloc, tokens, begin, INNER_LEVELS)?;
     Ok((Some(e), to))
 }
 
@@ -39,7 +40,7 @@ fn field(
     fixed: bool,
 ) -> Result<(FieldDef, usize), ParseStop>
     requires { At tokens.now at }
-    ensures gives { Gives field_view tokens.now result (rules.field 199 fixed (drop at tokens.now)) }
+    ensures gives { Gives field_view tokens.now result (rules.field inner_levels fixed (drop at tokens.now)) }
     ensures moves { IfOk result (λ r. Moves tokens.now at r.1) }
 {
     let (_, begin) = take_word(tokens, at, local_word(fixed))?;
@@ -63,7 +64,7 @@ fn field(
 #[tactic(auto, unfolding(pc_grammar::specs::ReadingFile::some_field, pc_grammar::specs::Reading::peek))]
 fn some_field(alloc: Global, tokens: &[Token], at: usize) -> Result<(FieldDef, usize), ParseStop>
     requires { At tokens.now at }
-    ensures gives { Gives field_view tokens.now result (rules.some_field 199 (drop at tokens.now)) }
+    ensures gives { Gives field_view tokens.now result (rules.some_field inner_levels (drop at tokens.now)) }
     ensures moves { IfOk result (λ r. Moves tokens.now at r.1) }
 {
     let fixed = is_word(look(tokens, at), Word::LetWord);
@@ -98,7 +99,7 @@ pub fn fields(
     kind: EntityKind,
 ) -> Result<(List<FieldDef>, usize), ParseStop>
     requires { At tokens.now at }
-    ensures gives { Gives (map field_view) tokens.now result (rules.fields 199 kind (drop at tokens.now)) }
+    ensures gives { Gives (map field_view) tokens.now result (rules.fields inner_levels kind (drop at tokens.now)) }
     ensures moves { IfOk result (λ r. (at ≤ r.1) × At tokens.now r.1) }
 {
     if kind.may_have_fields() {

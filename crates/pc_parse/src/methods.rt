@@ -2,10 +2,11 @@
 ghost use Rattle.std.specs.Prelude.{◌≡◌, ◌≤◌, drop, map, IfOk, Ok};
 ghost use Rattle.pc_tree.specs.View.{maybe_seq, method_view};
 ghost use Rattle.pc_grammar.specs.ReadingFile as rules;
+ghost use Rattle.pc_grammar.specs.FileAnswers.{inner_levels};
 ghost use Rattle.pc_expr.specs.Gives.{At, Moves, Gives};
 ghost use Rattle.pc_parse.specs.Parts as parts;
 
-use crate::levels::LEVELS;
+use crate::levels::INNER_LEVELS;
 use crate::parameters::params;
 use crate::tokens::{after_doc, at_method, begins, method_word};
 use crate::types::method_result;
@@ -41,12 +42,12 @@ fn written_body(
     at: usize,
 ) -> Result<(Option<Seq>, usize), ParseStop>
     requires { At tokens.now at }
-    ensures gives { Gives maybe_seq tokens.now result (rules.written_body 199 (drop at tokens.now)) }
+    ensures gives { Gives maybe_seq tokens.now result (rules.written_body inner_levels (drop at tokens.now)) }
     ensures moves { IfOk result (λ r. (at ≤ r.1) × At tokens.now r.1) }
 {
     let (_, begin) = take_sign(tokens, at, Sign::Arrow)?;
     let begin = after_doc(tokens, begin);
-    let (body, to) = seq(alloc, tokens, begin, LEVELS)?;
+    let (body, to) = seq(alloc, tokens, begin, INNER_LEVELS)?;
     Ok((Some(body), to))
 }
 
@@ -54,7 +55,7 @@ fn written_body(
 #[tactic(auto, unfolding(pc_grammar::specs::ReadingFile::maybe_body, pc_grammar::specs::Reading::peek))]
 fn maybe_body(alloc: Global, tokens: &[Token], at: usize) -> Result<(Option<Seq>, usize), ParseStop>
     requires { At tokens.now at }
-    ensures gives { Gives maybe_seq tokens.now result (rules.maybe_body 199 (drop at tokens.now)) }
+    ensures gives { Gives maybe_seq tokens.now result (rules.maybe_body inner_levels (drop at tokens.now)) }
     ensures moves { IfOk result (λ r. (at ≤ r.1) × At tokens.now r.1) }
 {
     if is_sign(look(tokens, at), Sign::Arrow) {
@@ -72,7 +73,7 @@ fn body(
     kind: EntityKind,
 ) -> Result<(Option<Seq>, usize), ParseStop>
     requires { At tokens.now at }
-    ensures gives { Gives maybe_seq tokens.now result (rules.body 199 kind (drop at tokens.now)) }
+    ensures gives { Gives maybe_seq tokens.now result (rules.body inner_levels kind (drop at tokens.now)) }
     ensures moves { IfOk result (λ r. (at ≤ r.1) × At tokens.now r.1) }
 {
     if kind.is_abstract() {
@@ -92,7 +93,7 @@ fn method_of(
     word: MethodWord,
 ) -> Result<(MethodDef, usize), ParseStop>
     requires { At tokens.now at }
-    ensures gives { Gives method_view tokens.now result (rules.method_of 199 kind word (drop at tokens.now)) }
+    ensures gives { Gives method_view tokens.now result (rules.method_of inner_levels kind word (drop at tokens.now)) }
     ensures moves { IfOk result (λ r. Moves tokens.now at r.1) }
 {
     let (_, begin) = take_word(tokens, at, method_word(word))?;
@@ -124,7 +125,7 @@ fn some_method(
     kind: EntityKind,
 ) -> Result<(MethodDef, usize), ParseStop>
     requires { At tokens.now at }
-    ensures gives { Gives method_view tokens.now result (rules.some_method 199 kind (drop at tokens.now)) }
+    ensures gives { Gives method_view tokens.now result (rules.some_method inner_levels kind (drop at tokens.now)) }
     ensures moves { IfOk result (λ r. Moves tokens.now at r.1) }
 {
     let token = look(tokens, at);

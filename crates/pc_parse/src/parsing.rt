@@ -2,7 +2,7 @@
 ghost use Rattle.std.specs.Prelude.{◌≤◌, length, IfOk, IfErr};
 ghost use Rattle.pc_tree.specs.View.{file_view};
 ghost use Rattle.pc_grammar.specs.ReadingFile as rules;
-ghost use Rattle.pc_grammar.specs.FileAnswers.{IsFileAnswer, spelled};
+ghost use Rattle.pc_grammar.specs.FileAnswers.{IsFileAnswer, spelled, inner_levels};
 ghost use Rattle.pc_expr.specs.Gives.{EndsWithEnd, At, Gives};
 ghost use Rattle.pc_parse.specs.Answers.{StopsRight, Refuses, IsOnly};
 
@@ -18,7 +18,7 @@ use std::alloc::Global;
 #[tactic(auto, using(crate::proofs::Parts::file_by_parts), unfolding(crate::specs::Parts::file_parts, pc_grammar::specs::Reading::take_if))]
 fn front(alloc: Global, tokens: &[Token]) -> Result<(File, usize), ParseStop>
     requires { At tokens.now 0 }
-    ensures gives { Gives file_view tokens.now result (rules.file 199 tokens.now) }
+    ensures gives { Gives file_view tokens.now result (rules.file inner_levels tokens.now) }
     ensures within { IfOk result (λ r. r.1 ≤ length tokens.now) }
 {
     let begin = after_doc(tokens, 0);

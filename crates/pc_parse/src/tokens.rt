@@ -17,7 +17,13 @@ fn is_doc(token: &Token) -> bool
 {
     match &token.kind {
         TokenKind::Doc => true,
-        _ => false,
+        TokenKind::Name(_)
+        | TokenKind::TypeName(_)
+        | TokenKind::Word(_)
+        | TokenKind::Number(_)
+        | TokenKind::Text(_)
+        | TokenKind::Sign(_)
+        | TokenKind::End => false,
     }
 }
 
@@ -28,7 +34,13 @@ pub fn is_end(token: &Token) -> bool
 {
     match &token.kind {
         TokenKind::End => true,
-        _ => false,
+        TokenKind::Name(_)
+        | TokenKind::TypeName(_)
+        | TokenKind::Word(_)
+        | TokenKind::Number(_)
+        | TokenKind::Text(_)
+        | TokenKind::Doc
+        | TokenKind::Sign(_) => false,
     }
 }
 

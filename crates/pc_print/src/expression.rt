@@ -76,10 +76,10 @@ fn push_head(out: &mut Vec<u8>, first: bool) -> Result<(), AllocError>
 
 /// An expression.
 #[cycle(print)]
-pub fn push_expr(alloc: Global, out: &mut Vec<u8>, e: &Expr) -> Result<(), AllocError>
-    ensures { OnOk result (out.new.items ≡ out.old.items ++ text.expr (expr_view e.now)) }
+pub fn push_expr(alloc: Global, out: &mut Vec<u8>, expression: &Expr) -> Result<(), AllocError>
+    ensures { OnOk result (out.new.items ≡ out.old.items ++ text.expr (expr_view expression.now)) }
 {
-    match e {
+    match expression {
         Expr::Number { value, .. } => push_number(alloc, out, *value),
         Expr::Truth { value, .. } => push_truth(out, *value),
         Expr::Text { bytes, .. } => push_text(out, bytes.as_slice()),

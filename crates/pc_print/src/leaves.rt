@@ -12,50 +12,50 @@ use pc_tree::{Op, TypeRef};
 use std::alloc::{AllocError, Global};
 
 // The digit of a number below 16.
-fn hex_digit(n: u8) -> u8
-    requires { n < 16 }
-    ensures { result ≡ digit_char n }
+fn hex_digit(value: u8) -> u8
+    requires { value < 16 }
+    ensures { result ≡ digit_char value }
 {
-    if n < 10 { 48 + n } else { 87 + n }
+    if value < 10 { 48 + value } else { 87 + value }
 }
 
 // A byte by its two digits.
-fn push_digits(out: &mut Vec<u8>, b: u8) -> Result<(), AllocError>
-    ensures { OnOk result (out.new.items ≡ out.old.items ++ 92 ∷ 120 ∷ digit_char (b / 16) ∷ digit_char (b % 16) ∷ []) }
+fn push_digits(out: &mut Vec<u8>, byte: u8) -> Result<(), AllocError>
+    ensures { OnOk result (out.new.items ≡ out.old.items ++ 92 ∷ 120 ∷ digit_char (byte / 16) ∷ digit_char (byte % 16) ∷ []) }
 {
-    out.extend_from_slice(&[b'\\', b'x', hex_digit(b / 16), hex_digit(b % 16)])
+    out.extend_from_slice(&[b'\\', b'x', hex_digit(byte / 16), hex_digit(byte % 16)])
 }
 
 /// One byte of a text literal's value.
 #[tactic(auto, unfolding(crate::specs::Escapes::escaped))]
-pub fn push_escaped(out: &mut Vec<u8>, b: u8) -> Result<(), AllocError>
-    ensures { OnOk result (out.new.items ≡ out.old.items ++ escaped b) }
+pub fn push_escaped(out: &mut Vec<u8>, byte: u8) -> Result<(), AllocError>
+    ensures { OnOk result (out.new.items ≡ out.old.items ++ escaped byte) }
 {
-    if b == b'"' {
+    if byte == b'"' {
         out.extend_from_slice(b"\\\"")
-    } else if b == b'\\' {
+    } else if byte == b'\\' {
         out.extend_from_slice(b"\\\\")
-    } else if b == b'\n' {
+    } else if byte == b'\n' {
         out.extend_from_slice(b"\\n")
-    } else if b == b'\r' {
+    } else if byte == b'\r' {
         out.extend_from_slice(b"\\r")
-    } else if b == b'\t' {
+    } else if byte == b'\t' {
         out.extend_from_slice(b"\\t")
-    } else if b == 0 {
+    } else if byte == 0 {
         out.extend_from_slice(b"\\0")
-    } else if b < 32 || b == 127 {
-        push_digits(out, b)
+    } else if byte < 32 || byte == 127 {
+        push_digits(out, byte)
     } else {
-        out.push(b)?;
+        out.push(byte)?;
         Ok(())
     }
 }
 
 /// A number, in decimal digits.
-pub fn push_number(alloc: Global, out: &mut Vec<u8>, n: u64) -> Result<(), AllocError>
-    ensures { OnOk result (out.new.items ≡ out.old.items ++ decimal n) }
+pub fn push_number(alloc: Global, out: &mut Vec<u8>, value: u64) -> Result<(), AllocError>
+    ensures { OnOk result (out.new.items ≡ out.old.items ++ decimal value) }
 {
-    let digits = format!(in alloc; "{n}")?;
+    let digits = format!(in alloc; "{value}")?;
     out.extend_from_slice(digits.as_bytes())
 }
 

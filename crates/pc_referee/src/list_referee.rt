@@ -53,16 +53,16 @@ impl Referee for ListReferee {
         slots: &[(u32, Cap)],
         own: &Note,
         children: &[Note],
-        n: u32,
+        number: u32,
     ) -> Result<bool, AllocError>
         requires slots { length slots.now ≡ length core.now.slots }
-        requires node { n < length core.now.nodes }
-        ensures right { IfOk result (λ b. IsTrue b ↔ Holds core.now slots.now own.now children.now n) }
-        ensures list { self.new ≡ pairs_after self.old n own.now result }
+        requires node { number < length core.now.nodes }
+        ensures right { IfOk result (λ b. IsTrue b ↔ Holds core.now slots.now own.now children.now number) }
+        ensures list { self.new ≡ pairs_after self.old number own.now result }
     {
-        let is_right = holds(core, slots, own, children, n);
+        let is_right = holds(core, slots, own, children, number);
         if is_right {
-            self.asked.push((n, *own))?;
+            self.asked.push((number, *own))?;
         }
         Ok(is_right)
     }

@@ -29,10 +29,10 @@ pub trait Referee {
         slots: &[(u32, Cap)],
         own: &Note,
         children: &[Note],
-        n: u32,
+        number: u32,
     ) -> Result<bool, AllocError>
         requires slots { length slots.now ≡ length core.now.slots }
-        requires node { n < length core.now.nodes }
-        ensures right { IfOk result (λ b. IsTrue b ↔ Holds core.now slots.now own.now children.now n) }
-        ensures list { asked self.new ≡ asked_after (asked self.old) n own.now result };
+        requires node { number < length core.now.nodes }
+        ensures right { IfOk result (λ b. IsTrue b ↔ Holds core.now slots.now own.now children.now number) }
+        ensures list { asked self.new ≡ asked_after (asked self.old) number own.now result };
 }

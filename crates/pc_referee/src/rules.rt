@@ -23,13 +23,13 @@ impl Referee for Rules {
         slots: &[(u32, Cap)],
         own: &Note,
         children: &[Note],
-        n: u32,
+        number: u32,
     ) -> Result<bool, AllocError>
         requires slots { length slots.now ≡ length core.now.slots }
-        requires node { n < length core.now.nodes }
-        ensures right { IfOk result (λ b. IsTrue b ↔ Holds core.now slots.now own.now children.now n) }
+        requires node { number < length core.now.nodes }
+        ensures right { IfOk result (λ b. IsTrue b ↔ Holds core.now slots.now own.now children.now number) }
         ensures answers { IsOk result }
     {
-        Ok(holds(core, slots, own, children, n))
+        Ok(holds(core, slots, own, children, number))
     }
 }

@@ -13,7 +13,7 @@ use crate::scope::{Visible, slot_of};
 use pc_caps::{Cap, List};
 use pc_keyed::KeyedBy;
 use pc_members::NameTable;
-use pc_tree::{EntityKind, TypeRef};
+use pc_tree::{EntityKind, FIRST_OWN, NONE_ENTITY, TypeRef};
 use std::alloc::{AllocError, Global};
 use std::marker::Model;
 
@@ -212,8 +212,8 @@ fn cap_or(written: Option<Cap>, own: Cap) -> Cap
 fn meaning_of(number: u32, known: &Known) -> TypeMeaning<'_>
     ensures { type_view result ≡ if spec.is_own number then spec.by_kind known.now.kind number known.now.constructors else spec.no_value }
 {
-    // Of the six entities of the language, None alone has a value that its name stands for.
-    if number != 0 && number <= 5 {
+    // Of the entities of the language, None alone has a value that its name stands for.
+    if number != NONE_ENTITY && number < FIRST_OWN {
         return TypeMeaning::NoValue;
     }
     match known.kind {

@@ -9,7 +9,7 @@ use crate::parts::{
 use crate::said::Said;
 use pc_caps::Form;
 use pc_masks::Mask;
-use pc_tree::{Op, BOOL_ENTITY, STRING_ENTITY, U64_ENTITY};
+use pc_tree::{BOOL_ENTITY, Op, STRING_ENTITY, U64_ENTITY};
 
 fn is_arithmetic(op: Op) -> bool
     ensures { result ≡ spec.is_arithmetic op }

@@ -6,7 +6,7 @@ ghost use Rattle.pc_rules.specs.Parts as spec;
 use crate::children::Children;
 use crate::said::Said;
 use pc_ann::{Ann, Note};
-use pc_caps::{Cap, Form, below, fits, sendable, FIELD_LIMIT};
+use pc_caps::{Cap, FIELD_LIMIT, Form, below, fits, sendable};
 use pc_core::{Core, EntityDef, MethodKind, Node, Slot};
 use pc_masks::Mask;
 use pc_sub::is_sub;

@@ -18,10 +18,10 @@ use std::alloc::Global;
 const TURN_LIMIT: u32 = 1_000_000;
 
 /// Whether a byte separates words.
-fn is_blank(b: u8) -> bool
-    ensures { result ≡ schedules.is_blank b }
+fn is_blank(byte: u8) -> bool
+    ensures { result ≡ schedules.is_blank byte }
 {
-    b == b' ' || b == b'\t' || b == b'\r' || b == b'\n'
+    byte == b' ' || byte == b'\t' || byte == b'\r' || byte == b'\n'
 }
 
 /// How many bytes at the front are no blanks.

@@ -31,11 +31,11 @@ fn digits_len(text: &[u8]) -> usize
 }
 
 /// A number with one digit more, if it is below 2^32.
-fn with_digit(value: u32, b: u8) -> Option<u32>
-    requires { is_ascii_digit b ≡ true }
-    ensures { BelowOrNone result (value * 10 + (b - 48)) }
+fn with_digit(value: u32, byte: u8) -> Option<u32>
+    requires { is_ascii_digit byte ≡ true }
+    ensures { BelowOrNone result (value * 10 + (byte - 48)) }
 {
-    value.checked_mul(10)?.checked_add((b - b'0') as u32)
+    value.checked_mul(10)?.checked_add((byte - b'0') as u32)
 }
 
 /// The number of some digits, if it is below 2^32.

@@ -14,7 +14,8 @@ use Rattle.pc_core.specs.declared.declarations.EntityDef.{EntityDef}
 use Rattle.pc_core.specs.declared.declarations.Method.{Method}
 use Rattle.pc_core.specs.CoreData.{CoreData}
 use Rattle.pc_core.specs.Entities.{HasBuiltIn}
-use Rattle.pc_members.specs.Chains.{first_own, IsAbove, Closes, Leads}
+use Rattle.pc_members.specs.Chains.{IsAbove, Closes, Leads}
+use Rattle.pc_tree.specs.BuiltIn.{first_own}
 use Rattle.pc_members.specs.Chains as chain
 use Rattle.pc_members.specs.Members.{Member, members}
 use Rattle.pc_members.specs.Words as words

@@ -20,7 +20,8 @@ use Rattle.pc_core.specs.CoreData.{CoreData}
 use Rattle.pc_core.specs.Lookup.{own_slots, node_end}
 use Rattle.pc_core.specs.Methods.{param_slot, this_slot}
 use Rattle.pc_members.specs.Members.{Member, written, added, member_text, member_span}
-use Rattle.pc_body_spec.specs.Roses.{Rose, put, node_limit}
+use Rattle.pc_body_spec.specs.Roses.{Rose, put}
+use Rattle.pc_caps.specs.Limits.{node_limit}
 use Rattle.pc_body_spec.specs.Scopes.{Context, Known, text_from}
 use Rattle.pc_body_spec.specs.Slots.{local_slot}
 use Rattle.pc_body_spec.specs.Methods.{unless_fault, unless_name, unless_full, numbered, put_body}

@@ -7,9 +7,10 @@ use Rattle.pc_core.specs.declared.declarations.EntityDef.{EntityDef}
 use Rattle.pc_core.specs.CoreData.{CoreData}
 use Rattle.pc_core.specs.Entities.{HasBuiltIn}
 use Rattle.pc_core.specs.Lookup.{node_end}
-use Rattle.pc_members.specs.Chains.{Closes, first_own}
+use Rattle.pc_members.specs.Chains.{Closes}
+use Rattle.pc_tree.specs.BuiltIn.{first_own}
 use Rattle.pc_names.specs.Names.{name_faults}
-use Rattle.pc_body_spec.specs.Roses.{node_limit}
+use Rattle.pc_caps.specs.Limits.{node_limit}
 use Rattle.pc_stands.specs.Texts.{needed_texts, AreFirsts}
 use Rattle.pc_stands.specs.Entities.{EntityStands}
 

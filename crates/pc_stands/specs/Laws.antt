@@ -3,7 +3,8 @@ use Rattle.std.specs.Prelude.{◌≡◌, ℕ, ◌+◌, ◌≤◌, List, length, 
 use Rattle.pc_tree.specs.Tree as t
 use Rattle.pc_core.specs.declared.nodes.Node.{Node}
 use Rattle.pc_core.specs.CoreData.{CoreData}
-use Rattle.pc_body_spec.specs.Roses.{Rose, put, node_limit}
+use Rattle.pc_body_spec.specs.Roses.{Rose, put}
+use Rattle.pc_caps.specs.Limits.{node_limit}
 use Rattle.pc_file_spec.specs.Cores.{Stands}
 use Rattle.pc_stands.specs.Numbers.{IsNumbered}
 use Rattle.pc_stands.specs.Files.{IsCoreOf}

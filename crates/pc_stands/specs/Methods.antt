@@ -4,11 +4,13 @@ use Rattle.pc_caps.specs.declared.capability.Cap.{Cap}
 use Rattle.pc_caps.specs.declared.capability.Cap.TheVariants as cap
 use Rattle.pc_caps.specs.declared.capability.Form.{Form}
 use Rattle.pc_caps.specs.declared.capability.Form.TheVariants as form
+use Rattle.pc_caps.specs.Limits.{slot_limit}
 use Rattle.pc_tree.specs.declared.kinds.MethodWord.{MethodWord}
 use Rattle.pc_tree.specs.declared.kinds.MethodWord.TheVariants as word
 use Rattle.pc_tree.specs.declared.names.TypeRef.{TypeRef}
 use Rattle.pc_tree.specs.declared.file.ParamDef.{ParamDef}
 use Rattle.pc_tree.specs.Tree as t
+use Rattle.pc_tree.specs.BuiltIn.{none_entity}
 use Rattle.pc_core.specs.declared.declarations.Method.{Method}
 use Rattle.pc_core.specs.declared.declarations.ParamInfo.{ParamInfo}
 use Rattle.pc_core.specs.declared.nodes.Slot.{Slot}
@@ -40,13 +42,13 @@ pub record ParamStands (core : CoreData) (p : ParamDef) (x : ParamInfo) : Type 0
 
 -- A function answers what is written, with `^` as a value that has no place yet, and else None; a behaviour answers None.
 abbrev pub IsAnswer : CoreData → Option TypeRef → ℕ × Form → Type 0
-IsAnswer core None r = r ≡ (0, form.Val)
+IsAnswer core None r = r ≡ (none_entity, form.Val)
 IsAnswer core (Some ty) r = (k : Cap) × IsType core ty (r.0, k) × (r.1 ≡ result_form ty.hat k)
 
 -- A constructor gives a new object of its entity: with the capability that is written for it, or else as `ref`.
 abbrev pub IsWordResult : CoreData → Owned → t.Method → MethodWord → ℕ × Form → Type 0
 IsWordResult core o m word.Fun r = IsAnswer core m.result r
-IsWordResult core o m word.Be r = r ≡ (0, form.Val)
+IsWordResult core o m word.Be r = r ≡ (none_entity, form.Val)
 IsWordResult core o m word.New r = r ≡ object_of o.owner.kind o.number (cap_or m.cap cap.Ref)
 
 -- An added one gives an isolated object.
@@ -96,7 +98,7 @@ pub record MethodStands (file : t.File) (core : CoreData) (m : ℕ) (o : Owned) 
   pub result : IsResult core o o.member x.result
   pub span : x.span ≡ member_span o.owner.name.span o.member
   -- its slots
-  pub few_slots : x.slots ≤ 64
+  pub few_slots : x.slots ≤ slot_limit
   pub slots : SlotsStand core m o x
   -- its body, in which nothing is at fault
   pub no_fault : faults_in (context_in file core o) o.owner o.member ≡ []

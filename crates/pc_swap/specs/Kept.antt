@@ -39,7 +39,9 @@ is_moving ahead.Take = true
 is_moving ahead.Spawn = true
 is_moving (ahead.Send a) = true
 is_moving ahead.Task = true
-is_moving x = false
+is_moving ahead.Skipped = false
+is_moving ahead.Lacks = false
+is_moving ahead.TooLong = false
 
 abbrev pub one_receiver : Ahead → Ahead → Bool
 one_receiver (ahead.Send a) (ahead.Send b) = nat_eq a b

@@ -28,7 +28,16 @@ fn send_to_one(one: Ahead, other: Ahead) -> bool
 {
     match (one, other) {
         (Ahead::Send(receiver), Ahead::Send(receiver_too)) => receiver == receiver_too,
-        (_, _) => false,
+        (
+            Ahead::Skipped
+            | Ahead::Lacks
+            | Ahead::TooLong
+            | Ahead::Take
+            | Ahead::Spawn
+            | Ahead::Send(_)
+            | Ahead::Task,
+            _,
+        ) => false,
     }
 }
 
@@ -38,20 +47,29 @@ fn both_spawn(one: Ahead, other: Ahead) -> bool
 {
     match (one, other) {
         (Ahead::Spawn, Ahead::Spawn) => true,
-        (_, _) => false,
+        (
+            Ahead::Skipped
+            | Ahead::Lacks
+            | Ahead::TooLong
+            | Ahead::Take
+            | Ahead::Spawn
+            | Ahead::Send(_)
+            | Ahead::Task,
+            _,
+        ) => false,
     }
 }
 
 // The first part that fails of two different actors being apart.
 #[tactic(auto, using(crate::proofs::Telling::first_stays, crate::proofs::Telling::second_stays, crate::proofs::Telling::to_one, crate::proofs::Telling::both_make, crate::proofs::Telling::are_apart))]
-fn apart_others(machine: &Machine<'_>, i: u32, j: u32) -> Result<(), Kept>
-    requires { i ≢ j }
+fn apart_others(machine: &Machine<'_>, actor: u32, other_actor: u32) -> Result<(), Kept>
+    requires { actor ≢ other_actor }
     ensures { MatchResult result
-        (λ _. Apart machine.now.core machine.now.configuration i j)
-        (IsKept machine.now.core machine.now.configuration i j) }
+        (λ _. Apart machine.now.core machine.now.configuration actor other_actor)
+        (IsKept machine.now.core machine.now.configuration actor other_actor) }
 {
-    let one = machine.ahead(i);
-    let other = machine.ahead(j);
+    let one = machine.ahead(actor);
+    let other = machine.ahead(other_actor);
     if !moves(one) {
         return Err(Kept::NotMoved);
     }
@@ -72,15 +90,15 @@ fn apart_others(machine: &Machine<'_>, i: u32, j: u32) -> Result<(), Kept>
 /// # Errors
 /// The first part of being apart that fails, in the order of `Kept`.
 #[tactic(auto, using(crate::proofs::Telling::exactly_apart))]
-pub fn apart(machine: &Machine<'_>, i: u32, j: u32) -> Result<(), Kept>
-    ensures exact { IsOk result ↔ Apart machine.now.core machine.now.configuration i j }
+pub fn apart(machine: &Machine<'_>, actor: u32, other_actor: u32) -> Result<(), Kept>
+    ensures exact { IsOk result ↔ Apart machine.now.core machine.now.configuration actor other_actor }
     ensures first { MatchResult result
-        (λ _. Apart machine.now.core machine.now.configuration i j)
-        (IsKept machine.now.core machine.now.configuration i j) }
+        (λ _. Apart machine.now.core machine.now.configuration actor other_actor)
+        (IsKept machine.now.core machine.now.configuration actor other_actor) }
 {
-    if i == j {
+    if actor == other_actor {
         Err(Kept::SameActor)
     } else {
-        apart_others(machine, i, j)
+        apart_others(machine, actor, other_actor)
     }
 }

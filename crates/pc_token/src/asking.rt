@@ -8,21 +8,21 @@ use crate::signs::Sign;
 use crate::words::Word;
 
 #[tactic(auto, unfolding(crate::specs::Asking::same_word))]
-fn same_word(a: Word, b: Word) -> bool
-    ensures value { result ≡ spec.same_word a b }
-    ensures same { result ≡ true → a ≡ b }
-    ensures other { result ≡ false → a ≢ b }
+fn same_word(one: Word, wanted: Word) -> bool
+    ensures value { result ≡ spec.same_word one wanted }
+    ensures same { result ≡ true → one ≡ wanted }
+    ensures other { result ≡ false → one ≢ wanted }
 {
-    a == b
+    one == wanted
 }
 
 #[tactic(auto, unfolding(crate::specs::Asking::same_sign))]
-fn same_sign(a: Sign, b: Sign) -> bool
-    ensures value { result ≡ spec.same_sign a b }
-    ensures same { result ≡ true → a ≡ b }
-    ensures other { result ≡ false → a ≢ b }
+fn same_sign(one: Sign, wanted: Sign) -> bool
+    ensures value { result ≡ spec.same_sign one wanted }
+    ensures same { result ≡ true → one ≡ wanted }
+    ensures other { result ≡ false → one ≢ wanted }
 {
-    a == b
+    one == wanted
 }
 
 /// Whether a token is this word.
@@ -33,7 +33,13 @@ pub fn is_word(token: &Token, word: Word) -> bool
 {
     match &token.kind {
         TokenKind::Word(found) => same_word(*found, word),
-        _ => false,
+        TokenKind::Name(_)
+        | TokenKind::TypeName(_)
+        | TokenKind::Number(_)
+        | TokenKind::Text(_)
+        | TokenKind::Doc
+        | TokenKind::Sign(_)
+        | TokenKind::End => false,
     }
 }
 
@@ -45,6 +51,12 @@ pub fn is_sign(token: &Token, sign: Sign) -> bool
 {
     match &token.kind {
         TokenKind::Sign(found) => same_sign(*found, sign),
-        _ => false,
+        TokenKind::Name(_)
+        | TokenKind::TypeName(_)
+        | TokenKind::Word(_)
+        | TokenKind::Number(_)
+        | TokenKind::Text(_)
+        | TokenKind::Doc
+        | TokenKind::End => false,
     }
 }

@@ -1,5 +1,6 @@
 -- What an event does to the clocks that are kept.
 use Rattle.std.specs.Prelude.{◌≡◌, ◌+◌, ◌<◌, ◌≤◌, ◌^◌, ℕ, Bool, true, false, List, [], ◌∷◌, ◌++◌, length, drop, IfSome, IsSomeAnd, Result, Ok, Err, slice_get}
+use Rattle.pc_trace.specs.Traces.{actor_limit}
 use Rattle.pc_clocks.specs.declared.seat.Seat.{Seat}
 use Rattle.pc_clocks.specs.Seats.{Advanced, ChangedAt, clock_of, number}
 use Rattle.pc_semantics.specs.declared.outcome.Lack.{Lack}
@@ -53,5 +54,5 @@ Says o place (Err fault.Memory) = ⊥
 
 -- A step of this kind makes no actor where there are as many as there may be; or it does, and that is the answer.
 abbrev pub Room : Ahead → (count place : ℕ) → Result (Unit {0}) TraceFault → Type 0
-Room kind count place (Ok u) = kind ≡ ahead.Spawn → count < 64
-Room kind count place (Err f) = (f ≡ fault.TooMany place) × (kind ≡ ahead.Spawn) × (count ≡ 64)
+Room kind count place (Ok u) = kind ≡ ahead.Spawn → count < actor_limit
+Room kind count place (Err f) = (f ≡ fault.TooMany place) × (kind ≡ ahead.Spawn) × (count ≡ actor_limit)

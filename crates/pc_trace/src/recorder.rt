@@ -5,7 +5,7 @@ ghost use Rattle.pc_trace.specs.Keeps.{first_seats as seats_at_start};
 ghost use Rattle.pc_trace.specs.Noted.{Noted};
 ghost use Rattle.pc_trace.specs.Reached.{Reached, noted_with};
 ghost use Rattle.pc_machine.specs.Limits.{list_limit};
-ghost use Rattle.pc_trace.specs.Traces.{RanOn, TraceStops};
+ghost use Rattle.pc_trace.specs.Traces.{RanOn, TraceStops, actor_limit};
 ghost use Rattle.pc_trace.specs.Turns.{Room, Says};
 
 use crate::fault::TraceFault;
@@ -35,7 +35,7 @@ fn first_seats(alloc: Global, actors: u32) -> Result<Seats, AllocError>
 
 // There is room for another actor, where a step makes one.
 fn room(ahead: Ahead, actors: u32, place: u64) -> Result<(), TraceFault>
-    requires { actors ≤ 64 }
+    requires { actors ≤ actor_limit }
     ensures { Room ahead actors place result }
 {
     match ahead {

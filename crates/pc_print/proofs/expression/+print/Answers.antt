@@ -105,55 +105,55 @@ pub push_expr-returns-in_ok-extend_from_slice-in-Not : goal.push_expr-returns-in
 push_expr-returns-in_ok-extend_from_slice-in-Not t c =
     let r = c.push_expr.result in
     let inner = c.deref.result.now in
-    let told = told_not c.args.e.now c.in-Not.inner c.in-Not.span c.in-Not.is ∙ ap (λ x. codes "not " ++ text.expr (expr_view x)) (sym c.deref.ensures) in
-    ok_told r c.args.out.now.items c.push_expr.new.out.items (text.expr (expr_view c.args.e.now)) ((codes "not ") ++ (text.expr (expr_view inner))) told (ok_after r c.args.out.now.items c.extend_from_slice-in-Not.new.self.items c.push_expr.new.out.items (codes "not ") (text.expr (expr_view inner)) c.in_ok-extend_from_slice-in-Not.ensures.items c.push_expr.ensures)
+    let told = told_not c.args.expression.now c.in-Not.inner c.in-Not.span c.in-Not.is ∙ ap (λ x. codes "not " ++ text.expr (expr_view x)) (sym c.deref.ensures) in
+    ok_told r c.args.out.now.items c.push_expr.new.out.items (text.expr (expr_view c.args.expression.now)) ((codes "not ") ++ (text.expr (expr_view inner))) told (ok_after r c.args.out.now.items c.extend_from_slice-in-Not.new.self.items c.push_expr.new.out.items (codes "not ") (text.expr (expr_view inner)) c.in_ok-extend_from_slice-in-Not.ensures.items c.push_expr.ensures)
 
 pub push_expr-returns-in_ok-push_expr-in-Chain : goal.push_expr-returns-in_ok-push_expr-in-Chain
 push_expr-returns-in_ok-push_expr-in-Chain t c =
     let r = c.push_suffixes.result in
     let head = c.deref-in-Chain.result.now in
     let suffixes = c.as_slice-in-Chain.result.now in
-    let told = told_chain c.args.e.now c.in-Chain.head c.in-Chain.suffixes c.in-Chain.span c.in-Chain.is
+    let told = told_chain c.args.expression.now c.in-Chain.head c.in-Chain.suffixes c.in-Chain.span c.in-Chain.is
     ∙ ap (λ x. text.expr (expr_view x) ++ text.suffixes (suffixes_view c.in-Chain.suffixes)) (sym c.deref-in-Chain.ensures)
     ∙ ap (λ ss. text.expr (expr_view head) ++ text.suffixes (suffixes_view ss)) (sym c.as_slice-in-Chain.ensures) in
-    ok_told r c.args.out.now.items c.push_suffixes.new.out.items (text.expr (expr_view c.args.e.now)) ((text.expr (expr_view head)) ++ (text.suffixes (suffixes_view suffixes))) told (ok_after r c.args.out.now.items c.push_expr-in-Chain.new.out.items c.push_suffixes.new.out.items (text.expr (expr_view head)) (text.suffixes (suffixes_view suffixes)) c.in_ok-push_expr-in-Chain.ensures c.push_suffixes.ensures)
+    ok_told r c.args.out.now.items c.push_suffixes.new.out.items (text.expr (expr_view c.args.expression.now)) ((text.expr (expr_view head)) ++ (text.suffixes (suffixes_view suffixes))) told (ok_after r c.args.out.now.items c.push_expr-in-Chain.new.out.items c.push_suffixes.new.out.items (text.expr (expr_view head)) (text.suffixes (suffixes_view suffixes)) c.in_ok-push_expr-in-Chain.ensures c.push_suffixes.ensures)
 
 pub push_expr-returns-in_ok-push_arms-in-If : goal.push_expr-returns-in_ok-push_arms-in-If
 push_expr-returns-in_ok-push_arms-in-If t c =
     let r = c.push_other.result in
     let arms = c.as_slice-in-If.result.now in
     let other = c.in-If.other in
-    let told = told_if c.args.e.now c.in-If.arms other c.in-If.span c.in-If.is ∙ ap (λ xs. text.arms (arms_view xs) ++ (text.other (other_view other) ++ codes " end")) (sym c.as_slice-in-If.ensures) in
-    ok_told r c.args.out.now.items c.push_other.new.out.items (text.expr (expr_view c.args.e.now)) ((text.arms (arms_view arms)) ++ (text.other (other_view other) ++ codes " end")) told (ok_after r c.args.out.now.items c.push_arms.new.out.items c.push_other.new.out.items (text.arms (arms_view arms)) (text.other (other_view other) ++ codes " end") c.in_ok-push_arms-in-If.ensures c.push_other.ensures)
+    let told = told_if c.args.expression.now c.in-If.arms other c.in-If.span c.in-If.is ∙ ap (λ xs. text.arms (arms_view xs) ++ (text.other (other_view other) ++ codes " end")) (sym c.as_slice-in-If.ensures) in
+    ok_told r c.args.out.now.items c.push_other.new.out.items (text.expr (expr_view c.args.expression.now)) ((text.arms (arms_view arms)) ++ (text.other (other_view other) ++ codes " end")) told (ok_after r c.args.out.now.items c.push_arms.new.out.items c.push_other.new.out.items (text.arms (arms_view arms)) (text.other (other_view other) ++ codes " end") c.in_ok-push_arms-in-If.ensures c.push_other.ensures)
 
 pub push_expr-returns-in_ok-push_enclosed-in-While : goal.push_expr-returns-in_ok-push_enclosed-in-While
 push_expr-returns-in_ok-push_enclosed-in-While t c =
     let r = c.push_enclosed-in-While-2.result in
     let cond = c.deref-in-While.result.now in
     let body = c.deref-in-While-2.result.now in
-    let told = told_while c.args.e.now c.in-While.cond c.in-While.body c.in-While.span c.in-While.is
+    let told = told_while c.args.expression.now c.in-While.cond c.in-While.body c.in-While.span c.in-While.is
     ∙ ap (λ s. (codes "while " ++ (text.seq (seq_view s) ++ codes " do ")) ++ (text.seq (seq_view c.in-While.body.value) ++ codes " end")) (sym c.deref-in-While.ensures)
     ∙ ap (λ s. (codes "while " ++ (text.seq (seq_view cond) ++ codes " do ")) ++ (text.seq (seq_view s) ++ codes " end")) (sym c.deref-in-While-2.ensures) in
-    ok_told r c.args.out.now.items c.push_enclosed-in-While-2.new.out.items (text.expr (expr_view c.args.e.now)) ((codes "while " ++ (text.seq (seq_view cond) ++ codes " do ")) ++ (text.seq (seq_view body) ++ codes " end")) told (ok_after r c.args.out.now.items c.push_enclosed-in-While.new.out.items c.push_enclosed-in-While-2.new.out.items (codes "while " ++ (text.seq (seq_view cond) ++ codes " do ")) (text.seq (seq_view body) ++ codes " end") c.in_ok-push_enclosed-in-While.ensures c.push_enclosed-in-While-2.ensures)
+    ok_told r c.args.out.now.items c.push_enclosed-in-While-2.new.out.items (text.expr (expr_view c.args.expression.now)) ((codes "while " ++ (text.seq (seq_view cond) ++ codes " do ")) ++ (text.seq (seq_view body) ++ codes " end")) told (ok_after r c.args.out.now.items c.push_enclosed-in-While.new.out.items c.push_enclosed-in-While-2.new.out.items (codes "while " ++ (text.seq (seq_view cond) ++ codes " do ")) (text.seq (seq_view body) ++ codes " end") c.in_ok-push_enclosed-in-While.ensures c.push_enclosed-in-While-2.ensures)
 
 pub push_expr-returns-in_ok-push_cap-in-Recover : goal.push_expr-returns-in_ok-push_cap-in-Recover
 push_expr-returns-in_ok-push_cap-in-Recover t c =
     let r = c.push_enclosed-in-Recover.result in
     let cap = c.in-Recover.cap in
     let body = c.deref-in-Recover.result.now in
-    let told = told_recover c.args.e.now cap c.in-Recover.body c.in-Recover.span c.in-Recover.is
+    let told = told_recover c.args.expression.now cap c.in-Recover.body c.in-Recover.span c.in-Recover.is
     ∙ ap (λ s. codes "recover" ++ (text.cap cap ++ (codes " " ++ (text.seq (seq_view s) ++ codes " end")))) (sym c.deref-in-Recover.ensures) in
-    ok_told r c.args.out.now.items c.push_enclosed-in-Recover.new.out.items (text.expr (expr_view c.args.e.now)) ((codes "recover") ++ ((text.cap cap) ++ (codes " " ++ (text.seq (seq_view body) ++ codes " end")))) told (ok_after r c.args.out.now.items c.extend_from_slice-in-Recover.new.self.items c.push_enclosed-in-Recover.new.out.items (codes "recover") ((text.cap cap) ++ (codes " " ++ (text.seq (seq_view body) ++ codes " end"))) c.in_ok-extend_from_slice-in-Recover.ensures.items (ok_after r c.extend_from_slice-in-Recover.new.self.items c.push_cap.new.out.items c.push_enclosed-in-Recover.new.out.items (text.cap cap) (codes " " ++ (text.seq (seq_view body) ++ codes " end")) c.in_ok-push_cap-in-Recover.ensures c.push_enclosed-in-Recover.ensures))
+    ok_told r c.args.out.now.items c.push_enclosed-in-Recover.new.out.items (text.expr (expr_view c.args.expression.now)) ((codes "recover") ++ ((text.cap cap) ++ (codes " " ++ (text.seq (seq_view body) ++ codes " end")))) told (ok_after r c.args.out.now.items c.extend_from_slice-in-Recover.new.self.items c.push_enclosed-in-Recover.new.out.items (codes "recover") ((text.cap cap) ++ (codes " " ++ (text.seq (seq_view body) ++ codes " end"))) c.in_ok-extend_from_slice-in-Recover.ensures.items (ok_after r c.extend_from_slice-in-Recover.new.self.items c.push_cap.new.out.items c.push_enclosed-in-Recover.new.out.items (text.cap cap) (codes " " ++ (text.seq (seq_view body) ++ codes " end")) c.in_ok-push_cap-in-Recover.ensures c.push_enclosed-in-Recover.ensures))
 
 pub push_expr-returns-in_ok-extend_from_slice-in-Assign : goal.push_expr-returns-in_ok-extend_from_slice-in-Assign
 push_expr-returns-in_ok-extend_from_slice-in-Assign t c =
     let r = c.push_expr-in-Assign-2.result in
     let left = c.deref-in-Assign.result.now in
     let right = c.deref-in-Assign-2.result.now in
-    let told = told_assign c.args.e.now c.in-Assign.left c.in-Assign.right c.in-Assign.span c.in-Assign.is
+    let told = told_assign c.args.expression.now c.in-Assign.left c.in-Assign.right c.in-Assign.span c.in-Assign.is
     ∙ ap (λ x. text.expr (expr_view x) ++ (codes " = " ++ text.expr (expr_view c.in-Assign.right.value))) (sym c.deref-in-Assign.ensures)
     ∙ ap (λ x. text.expr (expr_view left) ++ (codes " = " ++ text.expr (expr_view x))) (sym c.deref-in-Assign-2.ensures) in
-    ok_told r c.args.out.now.items c.push_expr-in-Assign-2.new.out.items (text.expr (expr_view c.args.e.now)) ((text.expr (expr_view left)) ++ ((codes " = ") ++ (text.expr (expr_view right)))) told (ok_after r c.args.out.now.items c.push_expr-in-Assign.new.out.items c.push_expr-in-Assign-2.new.out.items (text.expr (expr_view left)) ((codes " = ") ++ (text.expr (expr_view right))) c.in_ok-push_expr-in-Assign.ensures (ok_after r c.push_expr-in-Assign.new.out.items c.extend_from_slice-in-Assign.new.self.items c.push_expr-in-Assign-2.new.out.items (codes " = ") (text.expr (expr_view right)) c.in_ok-extend_from_slice-in-Assign.ensures.items c.push_expr-in-Assign-2.ensures))
+    ok_told r c.args.out.now.items c.push_expr-in-Assign-2.new.out.items (text.expr (expr_view c.args.expression.now)) ((text.expr (expr_view left)) ++ ((codes " = ") ++ (text.expr (expr_view right)))) told (ok_after r c.args.out.now.items c.push_expr-in-Assign.new.out.items c.push_expr-in-Assign-2.new.out.items (text.expr (expr_view left)) ((codes " = ") ++ (text.expr (expr_view right))) c.in_ok-push_expr-in-Assign.ensures (ok_after r c.push_expr-in-Assign.new.out.items c.extend_from_slice-in-Assign.new.self.items c.push_expr-in-Assign-2.new.out.items (codes " = ") (text.expr (expr_view right)) c.in_ok-extend_from_slice-in-Assign.ensures.items c.push_expr-in-Assign-2.ensures))
 
 pub push_item-returns-in_ok-extend_from_slice-in-Local-2 : goal.push_item-returns-in_ok-extend_from_slice-in-Local-2
 push_item-returns-in_ok-extend_from_slice-in-Local-2 t c =
