@@ -17,7 +17,7 @@ use Rattle.pc_names.specs.declared.fault.NameFault.{NameFault}
 use Rattle.pc_names.specs.declared.fault.NameFault.TheVariants as fault
 use Rattle.pc_tree.specs.BuiltIn.{first_own}
 use Rattle.pc_names.specs.Names.{NamesData, Collected}
-use Rattle.pc_order.specs.Laws.{BodiesAscend}
+use Rattle.pc_text_order.specs.Laws.{BodiesAscend}
 use Rattle.pc_body_spec.specs.Scopes.{Context}
 use Rattle.pc_members.specs.Members.{Member, members}
 use Rattle.pc_file_spec.specs.Members.{members_from}

@@ -4,7 +4,7 @@ use Rattle.pc_caps.specs.Limits.{node_limit, program_slot_limit}
 use Rattle.pc_tree.specs.Tree as t
 use Rattle.pc_token.specs.declared.kinds.Token.{Token}
 use Rattle.pc_grammar.specs.SpellsFile.{SpellsFile}
-use Rattle.pc_order.specs.Laws.{starts}
+use Rattle.pc_text_order.specs.Laws.{starts}
 use Rattle.pc_core.specs.CoreData.{CoreData}
 use Rattle.pc_core.specs.Formed.{Formed}
 use Rattle.pc_lists.specs.Places.{Ascends}

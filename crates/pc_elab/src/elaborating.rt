@@ -19,8 +19,8 @@ use pc_core::{Core, EntityDef};
 use pc_file_spec::cores_are_formed;
 use pc_members::{Member, list_members};
 use pc_names::{NameFault, Names};
-use pc_order::names_are_in_order;
 use pc_resolve::{Context, LocalSlots};
+use pc_text_order::names_are_in_order;
 use pc_tree::File;
 use std::alloc::{AllocError, Global};
 

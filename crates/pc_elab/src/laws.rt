@@ -1,7 +1,7 @@
 //! What holds of the cores of files. The call does nothing, and its contract is the fact.
 ghost use Rattle.pc_elab.specs.Cores.{CoresAreFormed};
 
-use pc_order::names_are_in_order;
+use pc_text_order::names_are_in_order;
 
 /// The core of a file that tokens spell, in the order of a text, fits together in all its parts. It has at most 640,000
 /// slots and 200,000 nodes.

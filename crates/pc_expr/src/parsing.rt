@@ -1,7 +1,7 @@
 //! The public calls.
 ghost use Rattle.std.specs.Prelude.{◌<◌, ◌≤◌, ◌-◌, IfOk, IfErr, length};
 ghost use Rattle.pc_tree.specs.View.{expr_view, seq_view};
-ghost use Rattle.pc_tree.specs.Measures as levels;
+ghost use Rattle.pc_tree.specs.Depths as levels;
 ghost use Rattle.pc_grammar.specs.Spells.{Spells, SpellsInfix, SpellsSeq};
 ghost use Rattle.pc_grammar.specs.FileAnswers.{level_limit};
 ghost use Rattle.pc_expr.specs.Gives.{EndsWithEnd};

@@ -2,7 +2,7 @@
 use Rattle.std.proofs.Common.{◌≡◌, ℕ, zero, suc, ◌-◌, ◌<◌, ◌≤◌, true, false, List, [], ◌∷◌, ◌++◌, length, Option, Some, Ok, refl, sym, ap, ap₂, ◌∙◌, subst, arith, append_assoc, length-append}
 use Rattle.pc_caps.specs.declared.span.Span.{Span}
 use Rattle.pc_tree.specs.Tree as t
-use Rattle.pc_tree.specs.Measures.{depth, exprs_depth, suffix_depth, suffixes_depth, arm_depth, arms_depth, other_depth, seq_depth, item_depth, items_depth}
+use Rattle.pc_tree.specs.Depths.{depth, exprs_depth, suffix_depth, suffixes_depth, arm_depth, arms_depth, other_depth, seq_depth, item_depth, items_depth}
 use Rattle.pc_tree.specs.declared.kinds.Op.{Op}
 use Rattle.pc_token.specs.declared.kinds.Token.{Token}
 use Rattle.pc_token.specs.declared.kinds.TokenKind.TheVariants as k

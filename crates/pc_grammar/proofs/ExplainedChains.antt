@@ -1,7 +1,7 @@
 -- Arguments, suffixes and chains of them are explained, where the expressions inside are.
 use Rattle.std.proofs.Common.{◌≡◌, ℕ, ◌-◌, ◌<◌, Bool, true, false, not, ◌&&◌, List, [], ◌∷◌, ◌++◌, Option, Some, None, refl, sym, ap, ◌∙◌, subst, cond}
 use Rattle.pc_tree.specs.Tree as t
-use Rattle.pc_tree.specs.Measures.{depth, exprs_depth, suffix_depth, suffixes_depth}
+use Rattle.pc_tree.specs.Depths.{depth, exprs_depth, suffix_depth, suffixes_depth}
 use Rattle.pc_token.specs.declared.kinds.Token.{Token}
 use Rattle.pc_token.specs.declared.kinds.TokenKind.TheVariants as k
 use Rattle.pc_token.specs.declared.signs.Sign.TheVariants as s

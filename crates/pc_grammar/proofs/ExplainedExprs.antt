@@ -5,7 +5,7 @@ use Rattle.pc_tree.specs.contracts.kinds.Op.{the_type as op_type}
 use Rattle.pc_tree.specs.declared.kinds.Op.{Op}
 use Rattle.pc_tree.specs.declared.names.Name.{Name}
 use Rattle.pc_tree.specs.Tree as t
-use Rattle.pc_tree.specs.Measures.{depth, exprs_depth}
+use Rattle.pc_tree.specs.Depths.{depth, exprs_depth}
 use Rattle.pc_token.specs.declared.kinds.Token.{Token}
 use Rattle.pc_token.specs.declared.words.Word.TheVariants as w
 use Rattle.pc_token.specs.declared.signs.Sign.TheVariants as s

@@ -3,7 +3,7 @@ use Rattle.std.proofs.Common.{◌≡◌, ℕ, Bool, true, false, List, [], ◌�
 use denote.Enum.Bare.{same_false, sameb}
 use Rattle.pc_caps.specs.declared.capability.Cap.{Cap}
 use Rattle.pc_tree.specs.Tree as t
-use Rattle.pc_tree.specs.Measures.{depth, exprs_depth, suffix_depth, arm_depth, other_depth, seq_depth, item_depth}
+use Rattle.pc_tree.specs.Depths.{depth, exprs_depth, suffix_depth, arm_depth, other_depth, seq_depth, item_depth}
 use Rattle.pc_tree.specs.declared.names.Name.{Name}
 use Rattle.pc_tree.specs.declared.names.TypeRef.{TypeRef}
 use Rattle.pc_token.specs.contracts.words.Word.{the_type as word_type}

@@ -1,7 +1,7 @@
 -- Of a whole list of tokens at most one answer holds, and reading it says which.
 use Rattle.std.proofs.Common.{◌≡◌, ◌≤◌, List, [], ◌∷◌, ◌++◌, Ok, Err, refl, sym, ap, ◌∙◌, subst, append_assoc, append-nil}
 use Rattle.pc_tree.specs.Tree as t
-use Rattle.pc_tree.specs.Measures.{file_depth}
+use Rattle.pc_tree.specs.Depths.{file_depth}
 use Rattle.pc_token.specs.declared.kinds.Token.{Token}
 use Rattle.pc_grammar.specs.SpellsFile.{SpellsFile}
 use Rattle.pc_grammar.specs.Begins.{Begins, IsStopped, IsTooDeep}

@@ -1,7 +1,7 @@
 -- Of a list of tokens at most one answer holds.
 use Rattle.std.proofs.Common.{◌≡◌, ℕ, List, [], ◌∷◌, ◌++◌, refl, sym, ap, ap₂, ◌∙◌, subst, append_assoc, append-nil}
 use Rattle.std.proofs.lemmas.List.{append_cancel_left}
-use Rattle.pc_tree.specs.Measures.{depth, seq_depth}
+use Rattle.pc_tree.specs.Depths.{depth, seq_depth}
 use Rattle.pc_token.specs.declared.kinds.Token.{Token}
 use Rattle.pc_grammar.specs.Spells.{Spells, SpellsInfix, SpellsSeq}
 use Rattle.pc_grammar.specs.Begins.{Begins, BeginsWithin, IsStopped, IsOne, IsRead, IsRefused, IsTooDeep, read, refused, deep, IsOneAnswer}

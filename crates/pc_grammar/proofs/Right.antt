@@ -2,7 +2,7 @@
 -- levels.
 use Rattle.std.proofs.Common.{◌≡◌, ℕ, ◌≤◌, max, Bool, true, false, List, [], ◌∷◌, ◌++◌, length, Ok, Err, refl, sym, ap, ◌∙◌, subst, arith, inl, inr, append_assoc, length-append}
 use Rattle.pc_tree.specs.Tree as t
-use Rattle.pc_tree.specs.Measures.{depth, seq_depth}
+use Rattle.pc_tree.specs.Depths.{depth, seq_depth}
 use Rattle.pc_token.specs.declared.kinds.Token.{Token}
 use Rattle.pc_grammar.specs.Spells.{Spells, SpellsInfix, SpellsSeq}
 use Rattle.pc_grammar.specs.Begins.{Begins, SpellsNone, IsOne, IsTooDeep}

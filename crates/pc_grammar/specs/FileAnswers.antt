@@ -1,7 +1,7 @@
 -- What may be said of a whole list of tokens: the file that they spell, or the first token with which no file begins any
 -- more, or which opens a level too many.
 use Rattle.std.specs.Prelude.{◌≡◌, ℕ, ◌-◌, ◌≤◌, List, [], ◌∷◌, ◌++◌}
-use Rattle.pc_tree.specs.Measures.{file_depth}
+use Rattle.pc_tree.specs.Depths.{file_depth}
 use Rattle.pc_tree.specs.Tree as t
 use Rattle.pc_token.specs.declared.kinds.Token.{Token}
 use Rattle.pc_grammar.specs.SpellsFile.{SpellsFile}

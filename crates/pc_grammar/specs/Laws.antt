@@ -1,6 +1,6 @@
 -- What the reading says of the tokens, and that nothing is spelled in two ways.
 use Rattle.std.specs.Prelude.{◌≡◌, ℕ, suc, List, [], ◌∷◌, Ok, Err}
-use Rattle.pc_tree.specs.Measures.{depth, seq_depth, file_depth}
+use Rattle.pc_tree.specs.Depths.{depth, seq_depth, file_depth}
 use Rattle.pc_tree.specs.Tree as t
 use Rattle.pc_token.specs.declared.kinds.Token.{Token}
 use Rattle.pc_grammar.specs.Spells.{Spells, SpellsInfix, SpellsSeq}

@@ -42,7 +42,7 @@ use Rattle.pc_file_spec.proofs.Declared.{member_order}
 use Rattle.pc_file_spec.proofs.Owners.{owner_of}
 use Rattle.pc_file_spec.proofs.Steps.{member_faults, member_names}
 use Rattle.pc_file_spec.proofs.Parts.{all_at, first_good}
-use Rattle.pc_order.proofs.Bodies.{bodies_ascend}
+use Rattle.pc_text_order.proofs.Bodies.{bodies_ascend}
 use Rattle.pc_elab.specs.Cores.{Spelled}
 use Rattle.pc_elab.proofs.Wholes.{in_order, in_place}
 use Rattle.pc_name_laws.specs.Missing.{IsBodyFault}

@@ -4,8 +4,8 @@ use Rattle.pc_lists.specs.Places.{Ascends}
 use Rattle.pc_tree.specs.Tree as t
 use Rattle.pc_token.specs.declared.kinds.Token.{Token}
 use Rattle.pc_grammar.specs.SpellsFile.{SpellsEntity, SpellsMoreEntities, SpellsEntities, SpellsFile}
-use Rattle.pc_order.specs.Laws.{starts}
-use Rattle.pc_order.proofs.Among.{Among, nothing, put, after, both, past, before, moved, among_ascends}
+use Rattle.pc_text_order.specs.Laws.{starts}
+use Rattle.pc_text_order.proofs.Among.{Among, nothing, put, after, both, past, before, moved, among_ascends}
 
 abbrev pub entity_start : t.Entity → ℕ
 entity_start e = e.name.span.start

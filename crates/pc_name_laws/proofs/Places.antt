@@ -13,9 +13,9 @@ use Rattle.pc_token.specs.declared.kinds.Token.{Token}
 use Rattle.pc_grammar.specs.SpellsFile.{SpellsMoreEntities, SpellsEntities, SpellsFile}
 use Rattle.pc_names.specs.declared.fault.NameFault.{NameFault}
 use Rattle.pc_names.specs.Laws.{fault_start, start_of, result_places, field_places, param_places, method_places, places}
-use Rattle.pc_order.specs.Laws.{starts}
-use Rattle.pc_order.proofs.Among.{Among, nothing, both, past, before, moved, among_ascends}
-use Rattle.pc_order.proofs.Declarations.{entity_in}
+use Rattle.pc_text_order.specs.Laws.{starts}
+use Rattle.pc_text_order.proofs.Among.{Among, nothing, both, past, before, moved, among_ascends}
+use Rattle.pc_text_order.proofs.Declarations.{entity_in}
 use Rattle.pc_name_laws.specs.Declared.{HasType, of_field, of_param, of_result, IsMissingName, IsTwice, IsDeclarationFault}
 use Rattle.pc_name_laws.specs.Declared as law
 

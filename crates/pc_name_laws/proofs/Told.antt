@@ -22,7 +22,7 @@ use Rattle.pc_names.specs.Mains.{main_faults}
 use Rattle.pc_names.specs.Laws.{OfFile, fault_start, places}
 use Rattle.pc_names.proofs.CycleFirsts.{cycle_is_first, no_cycle}
 use Rattle.pc_members.proofs.Closings.{no_entity}
-use Rattle.pc_order.proofs.Declarations.{declarations_ascend}
+use Rattle.pc_text_order.proofs.Declarations.{declarations_ascend}
 use Rattle.pc_elab.specs.Cores.{Spelled}
 use Rattle.pc_name_laws.specs.Declared.{IsDeclarationFault}
 use Rattle.pc_name_laws.specs.Turns.{Turn, entity_names as all_names, declarations, cycles, method_counts, main, body, slots, nodes, pass, part, Earlier, At}

@@ -7,7 +7,7 @@ use Rattle.pc_tree.specs.Tree as t
 use Rattle.pc_token.specs.declared.kinds.Token.{Token}
 use Rattle.pc_lex.specs.Pieces.{Tokens}
 use Rattle.pc_grammar.specs.SpellsFile.{SpellsFile}
-use Rattle.pc_order.specs.Laws.{starts}
+use Rattle.pc_text_order.specs.Laws.{starts}
 use Rattle.pc_names.specs.declared.fault.NameFault.{NameFault}
 use Rattle.pc_names.specs.declared.fault.NameFault.TheVariants as fault
 use Rattle.pc_members.specs.Words.{built_in_names, entity_names as entity_names_of}

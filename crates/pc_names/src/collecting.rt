@@ -18,7 +18,7 @@ use crate::mains::check_main;
 use crate::names::Names;
 use crate::texts::table_texts;
 use pc_caps::List;
-use pc_counts::count_members;
+use pc_member_counts::count_members;
 use pc_members::{NameTable, close, list_edges, own_part};
 use pc_tree::{FIRST_OWN, File};
 use std::alloc::{AllocError, Global};

@@ -5,10 +5,10 @@ use Rattle.pc_core.specs.CoreData.{CoreData}
 use Rattle.pc_machine.specs.Machines.{MachineData}
 use Rattle.pc_semantics.specs.Configurations.{Configuration}
 use Rattle.pc_semantics.specs.Safety.{Race, Quiet, Safe}
-use Rattle.pc_steps.specs.declared.fault.StepsFault.{StepsFault}
-use Rattle.pc_steps.specs.declared.fault.StepsFault.TheVariants.{TooLong, Memory}
+use Rattle.pc_list_steps.specs.declared.fault.StepsFault.{StepsFault}
+use Rattle.pc_list_steps.specs.declared.fault.StepsFault.TheVariants.{TooLong, Memory}
 use Rattle.pc_safe.specs.Apart.{IsApart, EndsApart}
-use Rattle.pc_steps.specs.Ends.{IsBehind, RunEnds}
+use Rattle.pc_list_steps.specs.Ends.{IsBehind, RunEnds}
 
 behind_apart : (core : CoreData) (list : List ℕ) (machine : MachineData) → Safe core → IsBehind core list machine → IsApart core machine
 behind_apart core list machine safe is =

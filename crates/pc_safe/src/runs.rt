@@ -4,12 +4,12 @@ ghost use Rattle.pc_rules.specs.Valid.{Valid};
 ghost use Rattle.pc_semantics.specs.Runs.{after};
 ghost use Rattle.pc_semantics.specs.Safety.{LacksNothing};
 ghost use Rattle.pc_machine.specs.Limits.{list_limit};
-ghost use Rattle.pc_steps.specs.Ends.{RunEnds};
+ghost use Rattle.pc_list_steps.specs.Ends.{RunEnds};
 
 use pc_ann::Ann;
 use pc_core::Core;
+use pc_list_steps::{StepsFault, take_steps};
 use pc_machine::{Machine, start};
-use pc_steps::{StepsFault, take_steps};
 use pc_types::accepted_never_lacks;
 use std::alloc::Global;
 

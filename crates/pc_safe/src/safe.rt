@@ -4,14 +4,14 @@ ghost use Rattle.pc_rules.specs.Valid.{Valid, Derivable};
 ghost use Rattle.pc_semantics.specs.Safety.{Safe};
 ghost use Rattle.pc_safe.specs.Apart.{EndsApart};
 ghost use Rattle.pc_machine.specs.Limits.{list_limit};
-ghost use Rattle.pc_steps.specs.Ends.{RunEnds};
+ghost use Rattle.pc_list_steps.specs.Ends.{RunEnds};
 
 use crate::runs::accepted_runs;
 use pc_ann::Ann;
 use pc_core::Core;
+use pc_list_steps::StepsFault;
 use pc_machine::Machine;
 use pc_regions::valid_is_safe;
-use pc_steps::StepsFault;
 use std::alloc::Global;
 
 /// Runs an accepted core: the steps of these actors, one after the other, from its start. The list has at most 4,000,000

@@ -4,7 +4,7 @@ ghost use Rattle.pc_rules.specs.Valid.{Valid};
 use pc_ann::Ann;
 use pc_check::check;
 use pc_core::Core;
-use pc_noted::entities;
+use pc_noted_receivers::entities;
 use pc_sends::{Row, Table, sends};
 use pc_test_inputs::core_of;
 use std::alloc::Global;

@@ -7,7 +7,7 @@ use Rattle.pc_semantics.specs.Configurations.{Configuration}
 use Rattle.pc_semantics.specs.Runs.{after, outcomes}
 use Rattle.pc_semantics.specs.Safety.{Safe}
 use Rattle.pc_semantics.specs.Text.{end_of}
-use Rattle.pc_steps.specs.Ends.{IsBehind}
+use Rattle.pc_list_steps.specs.Ends.{IsBehind}
 use Rattle.pc_swap.specs.Apart.{Apart}
 use Rattle.pc_swap.specs.Kept.{IsKept}
 use Rattle.pc_swap.specs.Swapping.{SwapEnds}

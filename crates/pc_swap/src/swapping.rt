@@ -4,15 +4,15 @@ ghost use Rattle.pc_semantics.specs.Runs.{outcomes};
 ghost use Rattle.pc_semantics.specs.Safety.{Safe};
 ghost use Rattle.pc_semantics.specs.Text.{end_of};
 ghost use Rattle.pc_machine.specs.Limits.{list_limit};
-ghost use Rattle.pc_steps.specs.Ends.{IsBehind};
+ghost use Rattle.pc_list_steps.specs.Ends.{IsBehind};
 ghost use Rattle.pc_swap.specs.Swapping.{FrontStops, SwapEnds};
 
 use crate::kept::SwapFault;
 use crate::parts::apart;
 use pc_caps::List;
 use pc_core::Core;
+use pc_list_steps::{StepsFault, take_steps};
 use pc_machine::{Machine, start};
-use pc_steps::{StepsFault, take_steps};
 use std::alloc::{AllocError, Global};
 
 // The machine behind the turns before a place.

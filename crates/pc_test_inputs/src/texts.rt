@@ -3,13 +3,13 @@ ghost use Rattle.std.specs.Prelude.{IfOk};
 ghost use Rattle.pc_lists.specs.Places.{Ascends};
 ghost use Rattle.pc_elab.specs.Cores.{Spelled};
 ghost use Rattle.pc_expr.specs.Gives.{EndsWithEnd};
-ghost use Rattle.pc_order.specs.Laws.{starts};
+ghost use Rattle.pc_text_order.specs.Laws.{starts};
 ghost use Rattle.pc_tree.specs.View.{file_view};
 
 use pc_caps::List;
 use pc_lex::{LexFault, Token, lex};
-use pc_order::tokens_are_in_order;
 use pc_parse::{ParseFault, file};
+use pc_text_order::tokens_are_in_order;
 use pc_tree::File;
 use std::alloc::Global;
 

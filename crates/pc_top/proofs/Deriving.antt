@@ -13,7 +13,7 @@ use Rattle.pc_deriv.specs.declared.version.Version.TheVariants as version
 use Rattle.pc_core.specs.Formed.{Formed}
 use Rattle.pc_run.specs.Ends.{NeverLacks}
 use Rattle.pc_types.specs.Laws.{AcceptedNeverLacks}
-use Rattle.pc_order.specs.Laws.{TokensAscend}
+use Rattle.pc_text_order.specs.Laws.{TokensAscend}
 use Rattle.pc_elab.specs.Cores.{CoresAreFormed as FilesAreFormed}
 use Rattle.pc_top.specs.After.After.{goes}
 use Rattle.pc_top.specs.Accepting.{AcceptedStage, Typing}

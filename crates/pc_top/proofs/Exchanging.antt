@@ -4,8 +4,8 @@ use Rattle.std.specs.Prelude.{Result}
 use Rattle.pc_core.specs.CoreData.{CoreData}
 use Rattle.pc_io.specs.Change.{change}
 use Rattle.pc_regions.specs.Laws.{ValidIsSafe}
-use Rattle.pc_rows.specs.Lines.{IsLine}
-use Rattle.pc_rows.proofs.Spreads.{length-spread}
+use Rattle.pc_sched_lines.specs.Lines.{IsLine}
+use Rattle.pc_sched_lines.proofs.Spreads.{length-spread}
 use Rattle.pc_run.specs.Spreading.{spread}
 use Rattle.pc_sched.specs.Limits.{turn_limit}
 use Rattle.pc_sched.specs.Schedules.{total}

@@ -12,7 +12,7 @@ use Rattle.pc_grammar.specs.FileAnswers.{IsFileAnswer, unexpected, too_deep}
 use Rattle.pc_expr.specs.Gives.{EndsWithEnd}
 use Rattle.pc_expr.specs.declared.fault.ParseFault.TheVariants as syntax
 use Rattle.pc_parse.specs.Answers.{Refuses as RefusesTree}
-use Rattle.pc_order.specs.Laws.{TokensAscend, TokensEnd}
+use Rattle.pc_text_order.specs.Laws.{TokensAscend, TokensEnd}
 use Rattle.pc_names.specs.Laws.{OfFile}
 use Rattle.pc_names.specs.Names.{IsNameFault}
 use Rattle.pc_names.specs.declared.fault.NameFault.{NameFault}

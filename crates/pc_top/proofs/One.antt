@@ -19,7 +19,7 @@ use Rattle.pc_deriv.specs.declared.version.Version.{Version}
 use Rattle.pc_gen.specs.Schedule.{schedule}
 use Rattle.pc_judge.specs.Faults.{OneFirst, NotValid}
 use Rattle.pc_judge.specs.declared.faults.JudgeFault.{JudgeFault}
-use Rattle.pc_rows.specs.Lines.{LinesAreOne}
+use Rattle.pc_sched_lines.specs.Lines.{LinesAreOne}
 use Rattle.pc_run.specs.Spreading.{spread}
 use Rattle.pc_sched.specs.Laws.{OneList, NotBoth, OneFault}
 use Rattle.pc_sched.specs.Limits.{schedule_limit}

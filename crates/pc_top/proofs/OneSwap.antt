@@ -2,7 +2,7 @@
 use Rattle.std.proofs.Common.{◌≡◌, ℕ, List, Option, Some, None, Ok, Err, refl, sym, ap, ◌∙◌, subst, arith}
 use Rattle.std.proofs.lemmas.Option.{none-some, same_Some}
 use Rattle.pc_core.specs.CoreData.{CoreData}
-use Rattle.pc_rows.specs.Lines.{IsLine, LinesAreOne}
+use Rattle.pc_sched_lines.specs.Lines.{IsLine, LinesAreOne}
 use Rattle.pc_semantics.specs.Configurations.{Configuration}
 use Rattle.pc_semantics.specs.Runs.{after, outcomes}
 use Rattle.pc_semantics.specs.Text.{end_of}

@@ -4,7 +4,7 @@ use Rattle.std.specs.Prelude.{slice_get}
 use Rattle.std.proofs.lemmas.Option.{none-some, same_Some}
 use Rattle.pc_core.specs.CoreData.{CoreData}
 use Rattle.pc_lists.specs.Places.{Has}
-use Rattle.pc_noted.specs.Noted.{entities}
+use Rattle.pc_noted_receivers.specs.Noted.{entities}
 use Rattle.pc_sends.specs.Tables.{Before, IsTable}
 use Rattle.pc_sends.specs.declared.table.Row.{Row}
 use Rattle.pc_sends.specs.declared.table.Table.{Table}

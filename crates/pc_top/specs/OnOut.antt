@@ -10,7 +10,7 @@ use Rattle.pc_tree.specs.Tree as t
 use Rattle.pc_ann.specs.declared.annotation.Ann.{Ann}
 use Rattle.pc_args.specs.Numbers.{IsSeed, IsSize}
 use Rattle.pc_gen.specs.Schedule.{schedule}
-use Rattle.pc_noted.specs.Noted.{entities}
+use Rattle.pc_noted_receivers.specs.Noted.{entities}
 use Rattle.pc_rules.specs.Valid.{Valid}
 use Rattle.pc_run.specs.Spreading.{spread}
 use Rattle.pc_sched.specs.Schedules.{TurnList}

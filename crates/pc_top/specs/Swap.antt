@@ -2,7 +2,7 @@
 use Rattle.std.specs.Prelude.{ℕ, ◌≡◌, ◌+◌, ◌≤◌, List, ◌∷◌, ◌++◌, length, Result, Ok, Err, Some, None, codes}
 use Rattle.pc_core.specs.CoreData.{CoreData}
 use Rattle.pc_args.specs.Numbers.{IsNumber}
-use Rattle.pc_rows.specs.Lines.{IsLine}
+use Rattle.pc_sched_lines.specs.Lines.{IsLine}
 use Rattle.pc_run.specs.Spreading.{spread}
 use Rattle.pc_sched.specs.Limits.{schedule_limit}
 use Rattle.pc_semantics.specs.Runs.{after, outcomes}

@@ -18,15 +18,15 @@ use pc_grammar::files_are_read;
 use pc_judge::{faulted_is_not_valid, one_fault_is_first};
 use pc_lex::{faults_are_told, tokens_are_one};
 use pc_names::names_are_one;
-use pc_noted::accepted_held;
-use pc_order::tokens_are_in_order;
+use pc_noted_receivers::accepted_held;
 use pc_regions::valid_is_safe;
-use pc_rows::lines_are_one;
 use pc_rules::one_annotation_is_valid;
 use pc_sched::turns_are_one;
+use pc_sched_lines::lines_are_one;
 use pc_sends::held_covers;
 use pc_sub::no_fault_where_declarations_fit;
 use pc_swap::kept_are_not_apart;
+use pc_text_order::tokens_are_in_order;
 
 /// The core of a source fits together, and is so small that its annotations have a text.
 pub fn cores_of_sources_are_formed()

@@ -14,7 +14,7 @@ use pc_ann::Ann;
 use pc_caps::List;
 use pc_core::Core;
 use pc_io::{Files, Sink};
-use pc_noted::entities;
+use pc_noted_receivers::entities;
 use pc_sends::sends;
 use std::alloc::{AllocError, Global};
 

@@ -14,8 +14,8 @@ use crate::stop::Stop;
 use crate::tree::read_tree;
 use crate::writing::put_text;
 use pc_io::{Files, Sink};
-use pc_order::tokens_are_in_order;
 use pc_print::print;
+use pc_text_order::tokens_are_in_order;
 use pc_tree::File;
 use std::alloc::Global;
 

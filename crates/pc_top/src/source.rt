@@ -19,7 +19,7 @@ use pc_elab::elaborate;
 use pc_io::{Bytes, Files};
 use pc_lex::lex;
 use pc_names::collect;
-use pc_order::tokens_are_in_order;
+use pc_text_order::tokens_are_in_order;
 use pc_token::Token;
 use pc_tree::File;
 use std::alloc::Global;

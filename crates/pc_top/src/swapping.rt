@@ -23,8 +23,8 @@ use pc_caps::List;
 use pc_core::Core;
 use pc_io::{Files, Sink};
 use pc_regions::valid_is_safe;
-use pc_rows::{line_of, steps_of};
 use pc_sched::Turn;
+use pc_sched_lines::{line_of, steps_of};
 use pc_swap::{Kept, SwapFault, swap};
 use std::alloc::{AllocError, Global};
 

@@ -21,8 +21,8 @@ use pc_caps::List;
 use pc_core::Core;
 use pc_io::{Files, Sink};
 use pc_regions::valid_is_safe;
-use pc_rows::steps_of;
 use pc_sched::Turn;
+use pc_sched_lines::steps_of;
 use pc_trace::{AcceptedFault, accepted_trace};
 use std::alloc::Global;
 

@@ -2,4 +2,4 @@ pub mod BuiltIn
 pub mod Tree
 pub mod Kinds
 pub mod View
-pub mod Measures
+pub mod Depths

@@ -1,6 +1,6 @@
 use Rattle.std.proofs.Common.{◌-◌, drop}
 use Rattle.pc_tree.specs.View.{expr_view}
-use Rattle.pc_tree.specs.Measures.{depth}
+use Rattle.pc_tree.specs.Depths.{depth}
 use Rattle.pc_grammar.specs.Spells.{Spells}
 use Rattle.pc_grammar.specs.Reading as reading
 use Rattle.pc_grammar.proofs.Right.{expr_reads, expr_refuses, expr_deep}

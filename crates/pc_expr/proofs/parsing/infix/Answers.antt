@@ -1,6 +1,6 @@
 use Rattle.std.proofs.Common.{◌-◌, drop}
 use Rattle.pc_tree.specs.View.{expr_view}
-use Rattle.pc_tree.specs.Measures.{depth}
+use Rattle.pc_tree.specs.Depths.{depth}
 use Rattle.pc_grammar.specs.Spells.{SpellsInfix}
 use Rattle.pc_grammar.specs.Reading as reading
 use Rattle.pc_grammar.proofs.Right.{infix_reads, infix_refuses, infix_deep}

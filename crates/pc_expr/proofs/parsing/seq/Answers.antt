@@ -1,6 +1,6 @@
 use Rattle.std.proofs.Common.{◌-◌, drop}
 use Rattle.pc_tree.specs.View.{seq_view}
-use Rattle.pc_tree.specs.Measures.{seq_depth}
+use Rattle.pc_tree.specs.Depths.{seq_depth}
 use Rattle.pc_grammar.specs.Spells.{SpellsSeq}
 use Rattle.pc_grammar.specs.Reading as reading
 use Rattle.pc_grammar.proofs.Right.{seq_reads, seq_refuses, seq_deep}

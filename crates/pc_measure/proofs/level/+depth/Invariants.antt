@@ -1,5 +1,5 @@
 use Rattle.std.proofs.Common.{◌≡◌, max, min, ◌-◌, ◌^◌, ◌≤◌, drop}
-use Rattle.pc_tree.specs.Measures.{items_depth, exprs_depth, suffixes_depth, arms_depth}
+use Rattle.pc_tree.specs.Depths.{items_depth, exprs_depth, suffixes_depth, arms_depth}
 use Rattle.pc_tree.specs.View.{items_view, exprs_view, suffixes_view, arms_view}
 use Rattle.pc_measure.proofs.level.+depth.Given as goal
 

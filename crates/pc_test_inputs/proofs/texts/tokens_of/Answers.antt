@@ -2,7 +2,7 @@ use Rattle.std.proofs.lemmas.Result.{IfOk-weaker}
 use Rattle.pc_lists.specs.Places.{Ascends}
 use Rattle.pc_expr.specs.Gives.{EndsWithEnd}
 use Rattle.pc_lex.specs.Answers.{TokenList}
-use Rattle.pc_order.specs.Laws.{starts}
+use Rattle.pc_text_order.specs.Laws.{starts}
 use Rattle.pc_test_inputs.proofs.texts.tokens_of.Goals as goal
 
 pub returns-clause-end : goal.returns-clause-end

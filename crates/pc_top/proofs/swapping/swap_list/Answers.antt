@@ -1,5 +1,5 @@
 use Rattle.std.proofs.Common.{◌<◌, List, ℕ, Err, length, subst, sym, arith}
-use Rattle.pc_rows.specs.Lines.{IsLine}
+use Rattle.pc_sched_lines.specs.Lines.{IsLine}
 use Rattle.pc_lists.specs.Texts.{Text}
 use Rattle.pc_top.specs.Swap.{Swapping}
 use Rattle.pc_top.specs.Swap.Swapping.{no_place}

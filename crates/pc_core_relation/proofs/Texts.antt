@@ -1,0 +1,145 @@
+-- A list of texts, each at its first appearance.
+use Rattle.std.proofs.Common.{◌≡◌, ℕ, zero, suc, ◌<◌, List, [], ◌∷◌, ◌++◌, Some, Bool, true, false, refl, sym, ap, ◌∙◌, subst, arith, if◌then◌else◌, inl, inr, append_assoc, append-nil}
+use Rattle.std.specs.Prelude.{slice_get, codes}
+use Rattle.std.proofs.lemmas.Option.{same_Some, none-some}
+use Rattle.pc_lists.specs.Places.{Has}
+use Rattle.pc_lists.proofs.Bools.{true_false}
+use Rattle.pc_lists.proofs.Elements.{has_front, has_behind, has_either}
+use Rattle.pc_lists.proofs.Gets.{get_below, get_front, get_push, append_get}
+use Rattle.pc_tree.specs.Tree as t
+use Rattle.pc_lists.specs.Texts.{Text}
+use Rattle.pc_members.specs.Words.{is_among, field_texts, method_texts}
+use Rattle.pc_members.specs.Tables.{with_name, with_names}
+use Rattle.pc_members.proofs.Tables.{names_in_parts}
+use Rattle.pc_members.proofs.Differences.{among_has, has_among}
+use Rattle.pc_names.specs.Texts.{with_members}
+use Rattle.pc_body_spec.specs.Texts.{entities_texts}
+use Rattle.pc_file_spec.specs.Known.{texts_of}
+use Rattle.pc_core_relation.specs.Texts.{declared_texts, needed_texts, Before, AreFirsts}
+
+-- ---- a list that grows
+
+only_one : (x y : Text) → Has (x ∷ []) y → x ≡ y
+only_one x y (zero, g) = same_Some x y g
+only_one x y (suc i, g) = absurd (none-some y g)
+
+before_front : (all more : List Text) (x y : Text) → Before all x y → Before (all ++ more) x y
+before_front all more x y b = (
+  b.0,
+  get_front all more b.0 x b.1,
+  λ q h. elim (append_get all more q y h) [
+    | inl old ↦ b.2 q old
+    | inr new ↦ let l = get_below all b.0 x b.1 in let m = new.0 in omega (arith, l, m)
+  ],
+)
+
+-- One that is there already.
+kept : (all names : List Text) (x : Text) → AreFirsts all names → Has names x → AreFirsts (all ++ x ∷ []) names
+kept all names x f there = record {
+  same = λ y. (λ (h : Has names y). has_front all (x ∷ []) y ((f.same y).0 h), λ (h : Has (all ++ x ∷ []) y). elim (has_either all (x ∷ []) y h) [ inl a ↦ (f.same y).1 a | inr b ↦ subst (Has names) (only_one x y b) there ]);
+  order = λ i j y z l h g. before_front all (x ∷ []) y z (f.order i j y z l h g);
+}
+
+-- One that is new.
+pushed : (all names : List Text) (x : Text) → AreFirsts all names → (Has names x → ⊥) → AreFirsts (all ++ x ∷ []) (names ++ x ∷ [])
+pushed all names x f fresh = record {
+  same = λ y. (
+    λ (h : Has (names ++ x ∷ []) y). elim (has_either names (x ∷ []) y h) [ inl a ↦ has_front all (x ∷ []) y ((f.same y).0 a) | inr b ↦ has_behind all (x ∷ []) y b ],
+    λ (h : Has (all ++ x ∷ []) y). elim (has_either all (x ∷ []) y h) [ inl a ↦ has_front names (x ∷ []) y ((f.same y).1 a) | inr b ↦ has_behind names (x ∷ []) y b ],
+  );
+  order = λ i j y z l h g. elim (get_push names x i y h) [
+    | inl a ↦ elim (get_push names x j z g) [
+      | inl b ↦ before_front all (x ∷ []) y z (f.order i j y z l a b)
+      | inr b ↦ subst (Before (all ++ x ∷ []) y) b.1 (last y (i, a))
+    ]
+    | inr a ↦ elim (get_push names x j z g) [
+      | inl b ↦ let k = get_below names j z b in let e = a.0 in absurd (omega (arith, k, e, l))
+      | inr b ↦ let e = a.0 in let k = b.0 in absurd (omega (arith, e, k, l))
+    ]
+  ];
+}
+  where
+    last : (y : Text) → Has names y → Before (all ++ x ∷ []) y x
+    last y h =
+        let there = (f.same y).0 h in
+        let low = get_below all there.0 y there.1 in (
+          there.0,
+          get_front all (x ∷ []) there.0 y there.1,
+          λ q g. elim (append_get all (x ∷ []) q x g) [
+            | inl old ↦ absurd (fresh ((f.same x).1 (q, old)))
+            | inr new ↦ let m = new.0 in omega (arith, low, m)
+          ],
+        )
+
+one_more : (all names : List Text) (x : Text) → AreFirsts all names → AreFirsts (all ++ x ∷ []) (with_name names x)
+one_more all names x f = by (is_among x names) refl
+  where
+    by : (b : Bool) → is_among x names ≡ b → AreFirsts (all ++ x ∷ []) (if b then names else names ++ x ∷ [])
+    by true e = kept all names x f (among_has x names e)
+    by false e = pushed all names x f (λ h. true_false (sym (has_among x names h) ∙ e))
+
+firsts_behind : (xs all names : List Text) → AreFirsts all names → AreFirsts (all ++ xs) (with_names names xs)
+firsts_behind [] all names f = subst (λ ys. AreFirsts ys names) (sym (append-nil all)) f
+firsts_behind (x ∷ xs) all names f = subst (λ ys. AreFirsts ys (with_names (with_name names x) xs)) (append_assoc all (x ∷ []) xs) (firsts_behind xs (all ++ x ∷ []) (with_name names x) (one_more all names x f))
+
+firsts_of : (xs : List Text) → AreFirsts xs (with_names [] xs)
+firsts_of xs = firsts_behind xs [] [] (record { same = λ y. (λ (h : Has [] y). h, λ (h : Has [] y). h); order = λ i j x y l h g. absurd (none-some x h) })
+
+-- ---- there is one such list
+
+module _ (all : List Text) where
+  abbrev Ordered : List Text → Type 0
+  Ordered xs = (i j : ℕ) (x y : Text) → i < j → slice_get xs i ≡ Some x → slice_get xs j ≡ Some y → Before all x y
+
+  not_both : (x y : Text) → Before all x y → Before all y x → ⊥
+  not_both x y a b = let l : a.0 < b.0 = a.2 b.0 b.1 in let m : b.0 < a.0 = b.2 a.0 a.1 in omega (arith, l, m)
+
+  rest_ordered : (x : Text) (xs : List Text) → Ordered (x ∷ xs) → Ordered xs
+  rest_ordered x xs o i j y z l h g = let m : suc i < suc j = omega (arith, l) in o (suc i) (suc j) y z m h g
+
+  first_is : (x y : Text) (xs ys : List Text) → Ordered (x ∷ xs) → Ordered (y ∷ ys) → Has (y ∷ ys) x → Has (x ∷ xs) y → x ≡ y
+  first_is x y xs ys o p (zero, g) k = sym (same_Some y x g)
+  first_is x y xs ys o p (suc i, g) (zero, h) = same_Some x y h
+  first_is x y xs ys o p (suc i, g) (suc j, h) = absurd (not_both x y (o 0 (suc j) x y (omega arith) refl h) (p 0 (suc i) y x (omega arith) refl g))
+
+  rest_has : (x y z : Text) (xs ys : List Text) → x ≡ y → Ordered (x ∷ xs) → Has xs z → Has (y ∷ ys) z → Has ys z
+  rest_has x y z xs ys e o h (suc i, g) = (i, g)
+  rest_has x y z xs ys e o h (zero, g) =
+      let same : x ≡ z = e ∙ same_Some y z g in
+      let self : Before all x x = subst (Before all x) (sym same) (o 0 (suc h.0) x z (omega arith) refl h.1) in
+      absurd (not_both x x self self)
+
+  one_order : (xs ys : List Text) → Ordered xs → Ordered ys → ((x : Text) → Has xs x → Has ys x) → ((x : Text) → Has ys x → Has xs x) → xs ≡ ys
+  one_order [] [] o p f g = refl
+  one_order [] (y ∷ ys) o p f g = absurd (none-some y (g y (0, refl)).1)
+  one_order (x ∷ xs) [] o p f g = absurd (none-some x (f x (0, refl)).1)
+  one_order (x ∷ xs) (y ∷ ys) o p f g =
+      let e : x ≡ y = first_is x y xs ys o p (f x (0, refl)) (g y (0, refl)) in
+      let rest : xs ≡ ys = one_order xs ys (rest_ordered x xs o) (rest_ordered y ys p)
+      (λ z h. rest_has x y z xs ys e o h (f z (suc h.0, h.1))) (λ z h. rest_has y x z ys xs (sym e) p h (g z (suc h.0, h.1))) in
+      ap (λ z. z ∷ xs) e ∙ ap (λ zs. y ∷ zs) rest
+
+  firsts_one : (one other : List Text) → AreFirsts all one → AreFirsts all other → one ≡ other
+  firsts_one one other a b = one_order one other a.order b.order (λ x h. (b.same x).1 ((a.same x).0 h)) (λ x h. (a.same x).1 ((b.same x).0 h))
+
+-- ---- the texts of a file
+
+declared_in : (es : List t.Entity) (names : List Text) → with_members names es ≡ with_names names (declared_texts es)
+declared_in [] names = refl
+declared_in (e ∷ es) names =
+    declared_in es (with_names names (field_texts e.fields ++ method_texts e.methods)) ∙ sym (names_in_parts names (field_texts e.fields ++ method_texts e.methods) (declared_texts es))
+
+texts_in : (file : t.File) → texts_of file ≡ with_names [] (needed_texts file)
+texts_in file =
+    let language : List Text = codes "out" ∷ codes "print" ∷ codes "create" ∷ codes "apply" ∷ [] in
+    let declared = declared_texts file.entities in
+    let behind = entities_texts file.entities in
+    ap (λ ns. with_names ns behind) (declared_in file.entities (with_names [] language))
+    ∙ sym (names_in_parts (with_names [] language) declared behind)
+    ∙ sym (names_in_parts [] language (declared ++ behind))
+
+pub texts_are_firsts : (file : t.File) → AreFirsts (needed_texts file) (texts_of file)
+texts_are_firsts file = subst (AreFirsts (needed_texts file)) (sym (texts_in file)) (firsts_of (needed_texts file))
+
+pub firsts_are_texts : (file : t.File) (names : List Text) → AreFirsts (needed_texts file) names → names ≡ texts_of file
+firsts_are_texts file names h = firsts_one (needed_texts file) names (texts_of file) h (texts_are_firsts file)

@@ -1,0 +1,37 @@
+-- Which core stands for a file.
+use Rattle.std.specs.Prelude.{◌≡◌, ℕ, ◌+◌, ◌-◌, ◌<◌, ◌≤◌, ◌^◌, List, [], map, length, Some, slice_get}
+use Rattle.pc_lists.specs.Places.{Each}
+use Rattle.pc_lists.specs.Ranges.{Follow}
+use Rattle.pc_tree.specs.Tree as t
+use Rattle.pc_core.specs.declared.declarations.EntityDef.{EntityDef}
+use Rattle.pc_core.specs.CoreData.{CoreData}
+use Rattle.pc_core.specs.Entities.{HasBuiltIn}
+use Rattle.pc_core.specs.Lookup.{node_end}
+use Rattle.pc_members.specs.Chains.{Closes}
+use Rattle.pc_tree.specs.BuiltIn.{first_own}
+use Rattle.pc_names.specs.Names.{name_faults}
+use Rattle.pc_caps.specs.Limits.{node_limit}
+use Rattle.pc_core_relation.specs.Texts.{needed_texts, AreFirsts}
+use Rattle.pc_core_relation.specs.Entities.{EntityStands}
+
+-- For each entity of a core, those above it.
+abbrev pub above_of : CoreData → List (List ℕ)
+above_of core = map (λ x. x.above) core.entities
+
+-- This core stands for this file.
+pub record IsCoreOf (file : t.File) (core : CoreData) : Type 0 where
+  -- there are as many entities as the language and the file have, and above each is what chains of `is` lead to
+  pub above : Closes file (above_of core)
+  -- no name of the file is at fault
+  pub no_fault : name_faults file (above_of core) ≡ []
+  -- the texts, each once
+  pub texts : AreFirsts (needed_texts file) core.names
+  pub few_texts : length core.names < 2 ^ 32
+  -- the entities: those of the language, and then those of the file in the order of the text, each with its methods
+  pub built_in : HasBuiltIn core
+  pub entities : Each (λ i e. (x : EntityDef) × (slice_get core.entities (first_own + i) ≡ Some x) × EntityStands file core (first_own + i) e x) file.entities
+  -- the methods of the entities, and the slots and nodes of the methods, follow one another, and there are no others
+  pub methods_follow : Follow 0 (map (λ x. (x.first_method, x.methods)) core.entities) (length core.methods)
+  pub slots_follow : Follow 0 (map (λ x. (x.first_slot, x.slots)) core.methods) (length core.slots)
+  pub nodes_follow : Follow 0 (map (λ x. (x.first_node, node_end x.first_node x.body - x.first_node)) core.methods) (length core.nodes)
+  pub few_nodes : length core.nodes ≤ node_limit

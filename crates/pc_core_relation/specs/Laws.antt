@@ -1,0 +1,31 @@
+-- What is true of the definitions.
+use Rattle.std.specs.Prelude.{◌≡◌, ℕ, ◌+◌, ◌≤◌, List, length, take, Some}
+use Rattle.pc_tree.specs.Tree as t
+use Rattle.pc_core.specs.declared.nodes.Node.{Node}
+use Rattle.pc_core.specs.CoreData.{CoreData}
+use Rattle.pc_body_spec.specs.Roses.{Rose, put}
+use Rattle.pc_caps.specs.Limits.{node_limit}
+use Rattle.pc_file_spec.specs.Cores.{Stands}
+use Rattle.pc_core_relation.specs.Numbers.{IsNumbered}
+use Rattle.pc_core_relation.specs.Files.{IsCoreOf}
+
+-- A rose that has been put behind some nodes is numbered there from their count on, and its own node is the last.
+abbrev pub WhatIsPutIsNumbered : Type 0
+WhatIsPutIsNumbered =
+    (m : ℕ) (r : Rose) (n : ℕ) (before after : List Node) → put m r before ≡ Some (n, after) → IsNumbered after m (length before) r n × (length after ≡ n + 1)
+
+-- A rose that is numbered in a list of not too many nodes is what has been put behind those before it.
+abbrev pub WhatIsNumberedIsPut : Type 0
+WhatIsNumberedIsPut =
+    (nodes : List Node) (m from : ℕ) (r : Rose) (n : ℕ) → length nodes ≤ node_limit → IsNumbered nodes m from r n → put m r (take from nodes) ≡ Some (n, take (n + 1) nodes)
+
+-- The core that is made of a file, member by member, stands for it.
+abbrev pub MadeCoresStand : Type 0
+MadeCoresStand = (file : t.File) (core : CoreData) → Stands file core → IsCoreOf file core
+
+-- A core that stands for a file is the one that is made of it, and so there is no other.
+abbrev pub StandingCoresAreMade : Type 0
+StandingCoresAreMade = (file : t.File) (core : CoreData) → IsCoreOf file core → Stands file core
+
+abbrev pub StandingCoresAreOne : Type 0
+StandingCoresAreOne = (file : t.File) (one other : CoreData) → IsCoreOf file one → IsCoreOf file other → one ≡ other

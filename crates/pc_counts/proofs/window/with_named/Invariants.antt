@@ -1,6 +1,0 @@
-use Rattle.std.proofs.Common.{◌≡◌, drop}
-use Rattle.pc_counts.specs.Windows.{with_named}
-use Rattle.pc_counts.proofs.window.with_named.Given as goal
-
-abbrev pub invariant-loop-number : goal.invariant-loop-number
-invariant-loop-number l = with_named l.table l.fn.own l.targets ≡ with_named l.table l.block (drop l.number-index l.targets)

@@ -1,0 +1,28 @@
+-- As the code computes it: the names of a file's methods, and the numbers of names among them.
+use Rattle.std.specs.Prelude.{ℕ, List, [], ◌∷◌, ◌++◌, map}
+use Rattle.std.specs.List.{position_or_len}
+use Rattle.std.specs.Str.{bytes_eq}
+use Rattle.pc_tree.specs.Tree as t
+use Rattle.pc_lists.specs.Texts.{Text}
+use Rattle.pc_members.specs.Words.{field_texts, method_texts, has_added}
+use Rattle.pc_members.specs.Tables.{with_names}
+use Rattle.pc_members.specs.Chains.{numbers_of}
+use Rattle.pc_members.specs.Members.{added_text}
+use Rattle.pc_member_counts.specs.declared.listing.Listing.{Listing}
+
+-- The names of all methods that are written in these entities, each once, behind those that are known.
+abbrev pub method_names : List Text → List t.Entity → List Text
+method_names known [] = known
+method_names known (e ∷ es) = method_names (with_names known (method_texts e.methods)) es
+
+-- The number of a name, or the count of the names where it is none of them.
+abbrev pub number_in : List Text → Text → ℕ
+number_in names x = position_or_len (bytes_eq x) names
+
+abbrev pub numbers_in : List Text → List Text → List ℕ
+numbers_in names xs = map (number_in names) xs
+
+-- The names of an entity by their numbers: its methods; its fields, with an added `create`; and what its `is` list names, of which
+-- the first list are the names.
+abbrev pub listing : List Text → List Text → t.Entity → Listing
+listing entities names e = record { methods = numbers_in names (method_texts e.methods); others = numbers_in names (field_texts e.fields) ++ numbers_in names (added_text (has_added e)); targets = numbers_of entities e.provides }

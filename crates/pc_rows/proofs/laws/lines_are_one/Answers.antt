@@ -1,5 +1,0 @@
-use Rattle.pc_rows.proofs.OneLine.{lines_one}
-use Rattle.pc_rows.proofs.laws.lines_are_one.Goals as goal
-
-pub returns : goal.returns
-returns c = lines_one

@@ -1,7 +1,0 @@
-//! The law on lines of schedules, as a call that does nothing.
-ghost use Rattle.pc_rows.specs.Lines.{LinesAreOne};
-
-/// A list of steps has one line.
-pub fn lines_are_one()
-    ensures { LinesAreOne }
-{}

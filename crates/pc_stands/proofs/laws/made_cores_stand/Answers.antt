@@ -1,5 +1,0 @@
-use Rattle.pc_stands.proofs.Files.{made_cores_stand}
-use Rattle.pc_stands.proofs.laws.made_cores_stand.Goals as goal
-
-pub returns : goal.returns
-returns c = made_cores_stand

@@ -1,5 +1,0 @@
-use Rattle.pc_stands.proofs.Numbers.{what_is_put_is_numbered, what_is_numbered_is_put}
-use Rattle.pc_stands.proofs.laws.nodes_are_numbered.Goals as goal
-
-pub returns : goal.returns
-returns c = record { put = what_is_put_is_numbered; numbered = what_is_numbered_is_put }
