@@ -4,7 +4,11 @@ The counts keep within the limits of docs/commands.md at the whole, and come as 
 """
 
 import dataclasses
+import functools
 import itertools
+import pathlib
+import subprocess
+import tempfile
 import typing
 
 ACCEPTED = 0
@@ -374,6 +378,170 @@ def many_methods_above_many_names(part):
     yield from main_with(["0"])
 
 
+# Interfaces: what an entity is below by its methods.
+
+
+def methods_without_bodies(count, rest="()"):
+    """So many methods of an interface, with these parameters and results."""
+    return (f"  fun m{n}{rest}\n" for n in range(count))
+
+
+def methods_with_bodies(count, rest="()", body="0"):
+    """The same of a class."""
+    return (f"  fun m{n}{rest} => {body}\n" for n in range(count))
+
+
+def row_of(count, name):
+    """So many parameters of one type."""
+    return ", ".join(f"a{n}: {name}" for n in range(count))
+
+
+def interface_and_class(count, rest="()", body="0"):
+    """An interface, and a class that has its methods and does not name it."""
+    yield "interface I\n"
+    yield from methods_without_bodies(count, rest)
+    yield "class C\n"
+    yield from methods_with_bodies(count, rest, body)
+
+
+@shape("1,150 calls with 62 arguments of a class below an interface of 4,990 methods")
+def arguments_below_an_interface(part):
+    arguments = ", ".join("c" for _ in range(62))
+    yield from interface_and_class(int(part * 4_990))
+    calls_of_it = lines(int(part * 1_150), f"m({arguments})")
+    yield from main_with(itertools.chain(["let c: C = C\n"], calls_of_it), [f"  fun m({row_of(62, 'I')}) => 0\n"])
+
+
+@shape("40,000 values of a class kept as an interface of 4,900 methods")
+def values_kept_as_an_interface(part):
+    yield from interface_and_class(int(part * 4_900))
+    kept = lines(int(part * 40_000), "a = c")
+    yield from main_with(itertools.chain(["let c: C = C\nvar a: I = c\n"], kept))
+
+
+@shape("20,000 values kept as an interface of 150 methods, whose 20 parameters are the last of 800 traits in a chain")
+def chains_in_an_interface(part):
+    count = int(part * 800)
+    yield "trait T0\n"
+    yield from (f"trait T{n} is T{n - 1}\n" for n in range(1, count))
+    yield "interface I\n"
+    yield from methods_without_bodies(150, f"({row_of(20, f'T{count - 1}')})")
+    yield "class C\n"
+    yield from methods_with_bodies(150, f"({row_of(20, f'T{count - 2}')})")
+    yield from main_with(itertools.chain(["let c: C = C\nvar a: I = c\n"], lines(int(part * 20_000), "a = c")))
+
+
+@shape("20,000 values kept as an interface of 300 methods, whose results are the last of 800 traits in a chain")
+def chains_in_results(part):
+    count = int(part * 800)
+    yield "trait T0\n"
+    yield from (f"trait T{n} is T{n - 1}\n" for n in range(1, count))
+    yield "interface I\n"
+    yield from methods_without_bodies(300, f"(a: T{count - 1}): T{count - 2}")
+    yield "class C\n"
+    yield from methods_with_bodies(300, f"(a: T{count - 1}): T{count - 1}", "a")
+    yield from main_with(itertools.chain(["let c: C = C\nvar a: I = c\n"], lines(int(part * 20_000), "a = c")))
+
+
+@shape("50,000 values kept as an interface of one method with 62 parameters")
+def many_parameters_in_an_interface(part):
+    yield from interface_and_class(1, f"({row_of(62, 'U64')})")
+    yield from main_with(itertools.chain(["let c: C = C\nvar a: I = c\n"], lines(int(part * 50_000), "a = c")))
+
+
+@shape("39,200 new values of 980 classes kept as one interface of five methods")
+def classes_below_one_interface(part):
+    yield "interface I\n"
+    yield from methods_without_bodies(5)
+    of_one = "".join(methods_with_bodies(5))
+    yield from (f"class E{n}\n{of_one}" for n in numbered(part, 980))
+    kept = (f"a = E{n}\n" for _ in range(40) for n in numbered(part, 980))
+    yield from main_with(itertools.chain(["var a: I = E0\n"], kept))
+
+
+@shape("40,000 values of one of 900 interfaces in a chain kept as another")
+def interfaces_in_a_chain(part):
+    count = int(part * 900)
+    yield "interface I0\n  fun m(): U64\n"
+    yield from (f"interface I{n} is I{n - 1}\n" for n in range(1, count))
+    yield f"class C\n  fun m(first: I0 tag) =>\n    var a: I{count - 1} tag = first\n"
+    yield from lines(int(part * 40_000), "a = first")
+    yield from main_with(["0"])
+
+
+@shape("980 interfaces that take over ten methods of 60 parameters")
+def interfaces_that_take_over(part):
+    yield "trait T\n"
+    yield from methods_with_bodies(10, f"({row_of(60, 'T')})", "None")
+    yield from (f"interface I{n} is T\n" for n in numbered(part, 980))
+    yield from main_with(["0"])
+
+
+@shape("980 interfaces of ten methods")
+def interfaces_of_methods(part):
+    of_one = "".join(methods_without_bodies(10))
+    yield from (f"interface I{n}\n{of_one}" for n in numbered(part, 980))
+    yield from main_with(["0"])
+
+
+@shape("980 interfaces of one method with 47 parameters")
+def interfaces_of_parameters(part):
+    of_one = "".join(methods_without_bodies(1, f"({row_of(47, 'I0')})"))
+    yield from (f"interface I{n}\n{of_one}" for n in numbered(part, 980))
+    yield from main_with(["0"])
+
+
+# Names as somebody chooses them.
+
+
+@functools.cache
+def names_of_one_hash(count):
+    """Names that fall into one place of a table whose hash has a fixed key. Wants a C compiler."""
+    source = pathlib.Path(__file__).resolve().parent / "same_hash.c"
+    with tempfile.TemporaryDirectory() as folder:
+        search = pathlib.Path(folder) / "same_hash"
+        subprocess.run(["cc", "-Wall", "-Wextra", "-O2", "-o", search, source], check=True)
+        found = subprocess.run([search, str(count)], check=True, capture_output=True, text=True)
+    return found.stdout.split()
+
+
+def behind_dots(names):
+    """Each name behind a `.`, which no entity has."""
+    return main_with(f"this.{name}\n" for name in names)
+
+
+@shape("50,000 names of one length behind a dot", NO_RULE)
+def names_of_one_length(part):
+    yield from behind_dots(f"a{n:07}" for n in numbered(part, 50_000))
+
+
+@shape("50,000 names with one beginning behind a dot", NO_RULE)
+def names_of_one_beginning(part):
+    yield from behind_dots(f"aaaaaaaaa{n}" for n in numbered(part, 50_000))
+
+
+@shape("50,000 names chosen for one hash behind a dot", NO_RULE)
+def names_chosen(part):
+    yield from behind_dots(names_of_one_hash(50_000)[: int(part * 50_000)])
+
+
+@shape("9,900 methods whose names were chosen for one hash, each called")
+def methods_chosen(part):
+    names = names_of_one_hash(50_000)[: int(part * 9_900)]
+    yield from main_with((f"{name}()\n" for name in names), (f"  fun {name}() => 0\n" for name in names))
+
+
+@shape("28,000 locals of one body whose names were chosen for one hash", LIMIT)
+def locals_chosen(part):
+    yield from main_with(f"let {name}: U64 = 0\n" for name in names_of_one_hash(50_000)[: int(part * 28_000)])
+
+
+@shape("49,000 parameters of one method whose names were chosen for one hash", LIMIT)
+def parameters_chosen(part):
+    parameters = ", ".join(f"{name}: U64" for name in names_of_one_hash(50_000)[: int(part * 49_000)])
+    yield from main_with(["0"], [f"  fun m({parameters}) => 0\n"])
+
+
 # Bodies of traits, which stand in the core once for each entity that takes them over.
 
 
@@ -542,6 +710,73 @@ def line_ends(part):
 def one_name(part):
     yield f"class A{'a' * int(part * 1_048_000)}\n"
     yield from main_with(["0"])
+
+
+# A program as somebody may write it, and not one that costs much.
+
+PAIR = """\
+class Account{n} is Report
+  let _name: String
+  var _sum: U64 = 0
+  var _times: U64 = 0
+
+  new iso create(name: String) =>
+    _name = name
+
+  fun ref add(value: U64): U64 =>
+    _times = _times + 1
+    _sum = _sum + value
+    _sum
+
+  fun ref take(value: U64): Bool =>
+    if (value <= _sum) and (_times < 1000) then
+      _times = _times + 1
+      _sum = _sum - value
+      true
+    else
+      false
+    end
+
+  fun squares(most: U64): U64 =>
+    var n: U64 = 0
+    var sum: U64 = 0
+    while n < most do
+      sum = sum + (n * n)
+      n = n + 1
+    end
+    sum
+
+  fun line(): String => _name + ": " + _sum.string() + " in " + _times.string() + " steps"
+
+actor Teller{n}
+  let _out: OutStream
+  var _account: Account{n} iso
+
+  new create(out: OutStream, account: Account{n} iso) =>
+    _out = out
+    _account = consume account
+
+  be deposit(value: U64) =>
+    _account.add(value)
+
+  be withdraw(value: U64, to: Teller{n}) =>
+    if _account.take(value) then
+      to.deposit(value)
+    else
+      _out.print("refused " + value.string())
+    end
+
+  be report() =>
+    _out.print(_account.line())
+
+"""
+
+
+@shape("a program of 485 classes and as many actors")
+def program(part):
+    yield "trait Report\n  fun line(): String\n\n"
+    yield from (PAIR.format(n=n) for n in numbered(part, 485))
+    yield from main_with(['    let teller: Teller0 = Teller0(env.out, Account0("ann"))\n', "    teller.deposit(100)\n", "    teller.report()\n"])
 
 
 # Faults at the end.

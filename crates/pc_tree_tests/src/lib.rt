@@ -1,4 +1,5 @@
-//! Tests of trees: what is read of a text, where reading stops, levels, what is printed, and made programs.
+//! Tests of trees: what is read of a text, where reading stops, levels, what is printed, made programs, and which names are in
+//! the key of a file's tables.
 #![tactic(auto)]
 
 #[cfg(test)]
@@ -7,6 +8,8 @@ mod ends;
 mod examples;
 #[cfg(test)]
 mod files;
+#[cfg(test)]
+mod keys;
 #[cfg(test)]
 mod levels;
 #[cfg(test)]

@@ -1,0 +1,79 @@
+//! Which names of a file the key of its tables is made of.
+use pc_keyed::keyed_by_names;
+use pc_test_sources::tree_of;
+use std::alloc::{AllocError, Global};
+use std::hash::{BuildHasher, Hasher};
+
+/// Texts with a name of which the letter `?` is changed: one for each thing that is named, and then one for each place where an
+/// expression stands, in which a `.` and a name follow.
+const TEXTS: [&[u8]; 23] = [
+    b"class C?",
+    b"class C let f?: U64",
+    b"class C fun m?() => 0",
+    b"class C fun m(a?: U64) => 0",
+    b"class C fun m() => let a?: U64 = 0",
+    b"class C fun m() => this.a?",
+    b"class C let f: U64 = this.a?",
+    b"class C fun m() => let a: U64 = this.a?",
+    b"class C fun m() => 0 this.a?",
+    b"class C fun m() => not this.a?",
+    b"class C fun m() => 1 + this.a?",
+    b"class C fun m() => this.a?.b",
+    b"class C fun m() => m(0, this.a?)",
+    b"class C fun m() => (this.a?)",
+    b"class C fun m() => if this.a? then 0 end",
+    b"class C fun m() => if true then this.a? end",
+    b"class C fun m() => if true then 0 elseif this.a? then 0 end",
+    b"class C fun m() => if true then 0 else this.a? end",
+    b"class C fun m() => while this.a? do 0 end",
+    b"class C fun m() => while true do this.a? end",
+    b"class C fun m() => recover this.a? end",
+    b"class C fun m() => this.a? = 0",
+    b"class C fun m() => f = this.a?",
+];
+
+// The text with this letter in place of `?`.
+fn with_letter(alloc: Global, text: &[u8], letter: u8) -> Result<Vec<u8>, AllocError> {
+    let mut made = Vec::new(alloc);
+    for byte in text {
+        made.push(if *byte == b'?' { letter } else { *byte })?;
+    }
+    Ok(made)
+}
+
+// What a hash with the key of the text's tree gives for nothing. `None` where the text has no tree.
+fn hash_of(alloc: Global, text: &[u8], letter: u8) -> Option<u64> {
+    let Ok(text) = with_letter(alloc, text, letter) else {
+        return None;
+    };
+    match tree_of(alloc, text.as_slice()) {
+        Ok(tree) => Some(keyed_by_names(&tree).build_hasher().finish()),
+        Err(_) => None,
+    }
+}
+
+// Whether the key changes with the name.
+fn is_in_key(alloc: Global, text: &[u8]) -> bool {
+    let Some(one) = hash_of(alloc, text, b'a') else {
+        return false;
+    };
+    let Some(other) = hash_of(alloc, text, b'b') else {
+        return false;
+    };
+    one != other
+}
+
+// The place of the first text whose name is not in the key.
+fn without(alloc: Global, texts: &[&[u8]]) -> Option<usize> {
+    for at in 0..texts.len() {
+        if !is_in_key(alloc, texts[at]) {
+            return Some(at);
+        }
+    }
+    None
+}
+
+#[test]
+fn each_name_changes_the_key(rt: HostRuntime) {
+    assert_eq!(rt; without(rt.alloc(), &TEXTS), None);
+}
