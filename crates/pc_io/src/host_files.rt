@@ -86,7 +86,7 @@ impl<'a, R: rt::Files> Files for HostFiles<'a, R> {
         answer
     }
 
-    /// Reads from the place, to the file's end or to the limit. Where the last call read a part of this name up to the place and
+    /// Reads from the place, to the file's end or to the limit. If the last call read a part of this name up to the place and
     /// to its limit, the file is still open and goes on, so parts in a row are of one file whatever the name names meanwhile, and a
     /// pipe is read to its end. Any other part is of a file that is opened anew and goes to the place, which a pipe does to 0 alone.
     #[tactic(auto, using(crate::proofs::Times::rises, crate::proofs::Times::keeps))]
@@ -188,7 +188,7 @@ fn read_file_part<R: rt::Files>(
     }
 }
 
-// The file of this name at this place: the one that was begun, where it stands there, or else one that is opened.
+// The file of this name at this place: the one that was begun, if it stands there, or else one that is opened.
 fn file_at<R: rt::Files>(
     runtime: &R,
     begun: Option<Begun<R::File>>,

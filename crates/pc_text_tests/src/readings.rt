@@ -191,3 +191,25 @@ fn a_part_is_given_from_its_place_up_to_the_limit(rt: HostRuntime) -> Result<(),
     fs::remove_file(&rt, "six")?;
     Ok(())
 }
+
+// The parts of a file before it is replaced, and those behind: it goes on to its end, and then the new one is read.
+const BEFORE_REPLACED: [Part; 1] = [("row", 0, 2, Ok(b"ab"))];
+
+const ONCE_REPLACED: [Part; 4] = [
+    ("row", 2, 2, Ok(b"cd")),
+    ("row", 4, 4, Ok(b"ef")),
+    ("row", 4, 2, Ok(b"yz")),
+    ("row", 0, 2, Ok(b"uv")),
+];
+
+#[test]
+fn parts_in_a_row_are_of_one_file(rt: HostRuntime) -> Result<(), Fail> {
+    let mut files = HostFiles::new(rt.alloc(), &rt);
+    fs::write(&rt, "row", "abcdef")?;
+    assert_eq!(rt; wrong_part(rt.alloc(), &mut files, &BEFORE_REPLACED), None);
+    fs::remove_file(&rt, "row")?;
+    fs::write(&rt, "row", "uvwxyz")?;
+    assert_eq!(rt; wrong_part(rt.alloc(), &mut files, &ONCE_REPLACED), None);
+    fs::remove_file(&rt, "row")?;
+    Ok(())
+}

@@ -41,7 +41,7 @@ fn with_letter(alloc: Global, text: &[u8], letter: u8) -> Result<Vec<u8>, AllocE
     Ok(made)
 }
 
-// What a hash with the key of the text's tree gives for nothing. `None` where the text has no tree.
+// What a hash with the key of the text's tree gives for nothing. `None` if the text has no tree.
 fn hash_of(alloc: Global, text: &[u8], letter: u8) -> Option<u64> {
     let Ok(text) = with_letter(alloc, text, letter) else {
         return None;
