@@ -18,7 +18,6 @@ use Rattle.pc_core.specs.CoreData.{CoreData}
 use Rattle.pc_core.specs.Methods.{constructor_kind, word_kind}
 use Rattle.pc_lists.specs.Texts.{Text}
 use Rattle.pc_members.specs.Words.{is_new, field_texts, method_texts, built_in_names, entity_names}
-use Rattle.pc_members.specs.Chains.{first_own}
 use Rattle.pc_tree.specs.BuiltIn.{first_own}
 use Rattle.pc_members.specs.Members.{Member, written, added, members, member_text, is_constructor}
 use Rattle.pc_members.specs.Reach.{or_nil}

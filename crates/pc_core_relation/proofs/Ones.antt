@@ -27,7 +27,7 @@ use Rattle.pc_core.specs.Lookup.{own_methods}
 use Rattle.pc_members.specs.Words as words
 use Rattle.pc_lists.specs.Texts.{Text}
 use Rattle.pc_members.specs.Words.{built_in_names, entity_names}
-use Rattle.pc_members.specs.Chains.{first_own, numbers_of}
+use Rattle.pc_members.specs.Chains.{numbers_of}
 use Rattle.pc_tree.specs.BuiltIn.{first_own}
 use Rattle.pc_members.specs.Members.{members}
 use Rattle.pc_members.specs.Reach.{or_nil}

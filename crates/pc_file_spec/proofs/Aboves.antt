@@ -14,7 +14,6 @@ use Rattle.pc_lists.proofs.Gets.{get_append, get_map}
 use Rattle.pc_lists.proofs.Elements.{has_either}
 use Rattle.pc_lists.specs.Texts.{Text}
 use Rattle.pc_members.specs.Words.{built_in_names, texts_of, entity_names}
-use Rattle.pc_members.specs.Chains.{first_own}
 use Rattle.pc_tree.specs.BuiltIn.{first_own}
 use Rattle.pc_members.specs.Chains as chain
 use Rattle.pc_members.specs.Members.{of_each, trait_methods}

@@ -12,7 +12,6 @@ use Rattle.pc_lists.proofs.Elements.{has_on, has_either, has_front, has_behind}
 use Rattle.pc_lists.proofs.Gets.{get_map, map_get}
 use Rattle.pc_lists.specs.Texts.{Text}
 use Rattle.pc_members.specs.Words.{is_among, field_texts, method_texts, has_added}
-use Rattle.pc_members.specs.Chains.{first_own}
 use Rattle.pc_tree.specs.BuiltIn.{first_own}
 use Rattle.pc_members.proofs.Differences.{has_among, among_has}
 use Rattle.pc_members.proofs.Named.{named_is, one_entity}

@@ -9,7 +9,6 @@ use Rattle.pc_tree.specs.declared.names.TypeRef.{TypeRef}
 use Rattle.pc_tree.specs.Tree as t
 use Rattle.pc_lists.specs.Texts.{Text}
 use Rattle.pc_members.specs.Words.{built_in_names, entity_names}
-use Rattle.pc_members.specs.Chains.{first_own}
 use Rattle.pc_tree.specs.BuiltIn.{first_own}
 use Rattle.pc_members.proofs.Differences.{same_text}
 use Rattle.pc_lists.proofs.Bools.{true_false}

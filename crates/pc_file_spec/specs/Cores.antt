@@ -10,7 +10,7 @@ use Rattle.pc_core.specs.Entities.{built_in, built_in_value, out_field}
 use Rattle.pc_names.specs.declared.fault.NameFault.{NameFault}
 use Rattle.pc_lists.specs.Texts.{Text}
 use Rattle.pc_members.specs.Words.{entity_names}
-use Rattle.pc_members.specs.Chains.{first_own, numbers_of}
+use Rattle.pc_members.specs.Chains.{numbers_of}
 use Rattle.pc_tree.specs.BuiltIn.{first_own}
 use Rattle.pc_members.specs.Reach.{or_nil}
 use Rattle.pc_names.specs.Names.{NamesData, Collected}

@@ -8,7 +8,7 @@ use Rattle.pc_tree.specs.Kinds.{is_abstract}
 use Rattle.pc_tree.specs.Tree as t
 use Rattle.pc_names.specs.declared.fault.NameFault.{NameFault}
 use Rattle.pc_lists.specs.Texts.{Text}
-use Rattle.pc_members.specs.Chains.{Leads, first_own}
+use Rattle.pc_members.specs.Chains.{Leads}
 use Rattle.pc_tree.specs.BuiltIn.{first_own}
 use Rattle.pc_names.specs.Names.{NamesData, Collected}
 use Rattle.pc_members.specs.Words.{field_texts, method_texts}

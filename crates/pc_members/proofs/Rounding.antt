@@ -8,7 +8,7 @@ use Rattle.pc_tree.specs.Kinds.{is_abstract}
 use Rattle.pc_tree.specs.Tree as t
 use Rattle.pc_lists.specs.Texts.{Text}
 use Rattle.pc_members.specs.Words.{entity_names}
-use Rattle.pc_members.specs.Chains.{first_own, IsFounded}
+use Rattle.pc_members.specs.Chains.{IsFounded}
 use Rattle.pc_tree.specs.BuiltIn.{first_own}
 use Rattle.pc_members.specs.Members.{Member}
 use Rattle.pc_members.specs.Reach.{or_nil}

@@ -1,5 +1,6 @@
 //! The `is` lists, as edges between the numbers of entities.
 ghost use Rattle.std.specs.Prelude.{◌≡◌, ◌++◌, [], map, replicate, IfOk, OnOk};
+ghost use Rattle.pc_tree.specs.BuiltIn.{first_own};
 ghost use Rattle.pc_tree.specs.View.{entity_view, file_view};
 ghost use Rattle.pc_members.specs.Chains as spec;
 ghost use Rattle.pc_members.specs.Words.{entity_names};
@@ -30,7 +31,7 @@ pub fn number_names(
 // The built-in entities, which name none.
 fn add_built_in(alloc: Global, edges: &mut List<List<u32>>) -> Result<(), AllocError>
     requires { edges.old ≡ [] }
-    ensures { OnOk result (edges.new ≡ replicate spec.first_own []) }
+    ensures { OnOk result (edges.new ≡ replicate first_own []) }
 {
     while edges.len() < FIRST_OWN as usize {
         edges.push(List::new(alloc))?;
@@ -61,7 +62,7 @@ fn add_all_edges(
     all: &[Entity],
 ) -> Result<(), AllocError>
     requires { edges.old ≡ [] }
-    ensures { OnOk result (edges.new ≡ replicate spec.first_own [] ++ spec.own_edges entities.now (map entity_view all.now)) }
+    ensures { OnOk result (edges.new ≡ replicate first_own [] ++ spec.own_edges entities.now (map entity_view all.now)) }
 {
     add_built_in(alloc, edges)?;
     add_edges(alloc, entities, edges, all)

@@ -12,7 +12,7 @@ use Rattle.pc_names.specs.declared.fault.NameFault.TheVariants as fault
 use Rattle.pc_names.specs.declared.fault.Which.TheVariants as which
 use Rattle.pc_lists.specs.Texts.{Text}
 use Rattle.pc_members.specs.Words.{texts_of}
-use Rattle.pc_names.specs.Counts.{method_count, count_faults, method_limit}
+use Rattle.pc_names.specs.Counts.{method_count, count_faults}
 use Rattle.pc_caps.specs.Limits.{method_limit}
 use Rattle.pc_names.specs.Mains.{is_main, main_faults}
 use Rattle.pc_names.specs.Faults.{where_}
