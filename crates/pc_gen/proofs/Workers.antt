@@ -3,7 +3,7 @@ use Rattle.std.proofs.Common.{◌≡◌, ℕ, suc, ◌+◌, ◌*◌, List, [], �
 use Rattle.std.specs.List.{range_with_len}
 use Rattle.std.proofs.lemmas.List.FromFn.{map-range_with_len_more}
 use Rattle.pc_tree.specs.Tree as t
-use Rattle.pc_gen.specs.Draws.{next, high, state}
+use Rattle.pc_draws.specs.Draws.{next, high, state}
 use Rattle.pc_gen.specs.Program.{work, worker, task_of}
 
 pub two_draws : (seed i s : ℕ) → s ≡ state seed (i * 2) → next (next s) ≡ state seed ((i + 1) * 2)

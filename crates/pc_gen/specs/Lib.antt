@@ -1,4 +1,3 @@
-pub mod Draws
 pub mod Parts
 pub mod Program
 pub mod Schedule

@@ -20,7 +20,7 @@ use Rattle.pc_tree.specs.declared.kinds.EntityKind.TheVariants as kind
 use Rattle.pc_tree.specs.declared.kinds.MethodWord.TheVariants as word
 use Rattle.pc_gen.specs.declared.task.Task.{Task}
 use Rattle.pc_gen.specs.declared.task.Task.TheVariants as task
-use Rattle.pc_gen.specs.Draws.{draw}
+use Rattle.pc_draws.specs.Draws.{draw}
 use Rattle.pc_gen.specs.Parts.{named, type_of, variable, entity, number, consumed, operation, assigned, dot, arguments, chained, call, construct, sequence, alone, local, choice, turns, recovered, param, method, create, actor}
 
 -- ---- the class Cell

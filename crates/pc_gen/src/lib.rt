@@ -8,7 +8,6 @@
 #![tactic(auto)]
 
 mod bodies;
-mod draws;
 mod parts;
 mod program;
 mod schedule;

@@ -2,18 +2,18 @@
 ghost use Rattle.std.specs.Prelude.{◌≡◌, ◌++◌, [], ◌∷◌, ◌<◌, ◌≤◌, ◌+◌, map, codes, IfOk, OnOk};
 ghost use Rattle.pc_tree.specs.View.{expr_view, item_view, field_view, method_view, entity_view, file_view};
 ghost use Rattle.pc_tree.specs.declared.kinds.Op.TheVariants as op;
-ghost use Rattle.pc_gen.specs.Draws.{next, high};
+ghost use Rattle.pc_draws.specs.Draws.{next, high};
 ghost use Rattle.pc_gen.specs.Parts as part;
 ghost use Rattle.pc_gen.specs.Program as spec;
 
 use crate::bodies::{push_plain, push_task, tell};
-use crate::draws::Draws;
 use crate::parts::{
     actor, alone, assigned, chained, construct, consumed, create, dot, entity, infix, local,
     method, named, number, one, param, sequence, type_of, variable,
 };
 use crate::task::{Task, task_of};
 use pc_caps::{Cap, List};
+use pc_draws::Draws;
 use pc_tree::{
     Entity, EntityKind, Expr, FieldDef, File, Item, MethodDef, MethodWord, Op, ParamDef,
 };

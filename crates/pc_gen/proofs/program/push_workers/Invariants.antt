@@ -1,7 +1,7 @@
 use Rattle.std.proofs.Common.{◌≡◌, ◌++◌, ◌*◌, map}
 use Rattle.std.specs.List.{range_with_len}
 use Rattle.pc_tree.specs.View.{entity_view}
-use Rattle.pc_gen.specs.Draws.{state}
+use Rattle.pc_draws.specs.Draws.{state}
 use Rattle.pc_gen.specs.Program.{worker}
 use Rattle.pc_gen.proofs.program.push_workers.Given as goal
 

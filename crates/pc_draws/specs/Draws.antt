@@ -1,11 +1,11 @@
 -- The numbers that are drawn of a seed.
 use Rattle.std.specs.Prelude.{ℕ, zero, suc, ◌+◌, ◌*◌, ◌/◌, ◌%◌, ◌^◌}
 
--- the state behind the next draw
+-- the state after the next draw
 abbrev pub next : ℕ → ℕ
 next x = (1103515245 * x + 12345) % 2 ^ 31
 
--- the state behind so many draws
+-- the state after this number of draws
 abbrev pub state : (seed draws : ℕ) → ℕ
 state seed zero = seed % 2 ^ 31
 state seed (suc k) = next (state seed k)
@@ -14,6 +14,6 @@ state seed (suc k) = next (state seed k)
 abbrev pub high : (drawn below : ℕ) → ℕ
 high x n = (x / 65536) % n
 
--- the draw below n of this number, counted from 0
+-- the draw below n with this number, counted from 0
 abbrev pub draw : (seed number below : ℕ) → ℕ
 draw seed k n = high (state seed (suc k)) n

@@ -1,0 +1,53 @@
+-- What is proved of the lists of seeds.
+use Rattle.std.specs.Prelude.{◌≡◌, ◌≢◌, ℕ, ◌≤◌, true, false, List, [], ◌∷◌, ◌++◌, length, ◌⊎◌}
+use Rattle.pc_core.specs.CoreData.{CoreData}
+use Rattle.pc_semantics.specs.declared.outcome.Outcome.TheVariants.{Moved, Skipped}
+use Rattle.pc_semantics.specs.Configurations.{Configuration}
+use Rattle.pc_semantics.specs.Runs.{after}
+use Rattle.pc_semantics.specs.Step.{step}
+use Rattle.pc_ahead.specs.Ahead.{ahead_of}
+use Rattle.pc_ahead.specs.declared.ahead.Ahead.TheVariants.{Send, Spawn}
+use Rattle.pc_choose.specs.Able.{able}
+use Rattle.pc_choose.specs.Choice.{most_turns}
+use Rattle.pc_choose.specs.Lists.{Chosen, most_steps}
+
+-- A step is skipped exactly if its actor is not able.
+pub record SkipsUnable : Type 0 where
+  pub skips : (core : CoreData) (c : Configuration) (i : ℕ) → able c i ≡ false → (step core c i).0 ≡ Skipped
+  pub goes : (core : CoreData) (c : Configuration) (i : ℕ) → able c i ≡ true → (step core c i).0 ≢ Skipped
+
+-- An actor that is able stays so, whatever steps the others take.
+abbrev pub AbleStay : Type 0
+AbleStay = (core : CoreData) (c : Configuration) (i j : ℕ) → i ≢ j → able c i ≡ true → able (step core c j).1 i ≡ true
+
+-- A seed has one list.
+pub record OneList (core : CoreData) (seed : ℕ) : Type 0 where
+  pub list : List ℕ
+  pub chosen : Chosen core seed list
+  pub one : (other : List ℕ) → Chosen core seed other → other ≡ list
+
+abbrev pub ListsAreOne : Type 0
+ListsAreOne = (core : CoreData) (seed : ℕ) → OneList core seed
+
+-- It has at most 1,000,000 steps.
+abbrev pub ListsAreShort : Type 0
+ListsAreShort = (core : CoreData) (seed : ℕ) (list : List ℕ) → Chosen core seed list → length list ≤ most_steps
+
+-- Each step but the last one moves.
+abbrev pub StepsMove : Type 0
+StepsMove = (core : CoreData) (seed : ℕ) (before rest : List ℕ) (i j : ℕ) → Chosen core seed (before ++ i ∷ j ∷ rest) → (step core (after core before) i).0 ≡ Moved
+
+-- A step of actor j changes whether an actor is able only for j itself, for the one to whom it sends, and for a new actor.
+abbrev pub FewChange : Type 0
+FewChange = (core : CoreData) (c : Configuration) (i j : ℕ) → i ≢ j → ahead_of core c j ≢ Send i → (ahead_of core c j ≡ Spawn → i ≢ length c.actors) → able (step core c j).1 i ≡ able c i
+
+-- How a list ends: it has 1,000,000 steps; or at least as many as it may have turns; or no actor is able after it; or its last
+-- step did not move. So a list of fewer than 95,000 steps ends only when no actor is able, or at a step that did not move.
+abbrev pub StopsAt : CoreData → List ℕ → Type 0
+StopsAt core list = (before : List ℕ) × (i : ℕ) × (list ≡ before ++ i ∷ []) × ((step core (after core before) i).0 ≢ Moved)
+
+abbrev pub EndsAt : CoreData → List ℕ → Type 0
+EndsAt core list = (length list ≡ most_steps) ⊎ ((most_turns ≤ length list) ⊎ (((i : ℕ) → able (after core list) i ≡ false) ⊎ StopsAt core list))
+
+abbrev pub ListsEnd : Type 0
+ListsEnd = (core : CoreData) (seed : ℕ) (list : List ℕ) → Chosen core seed list → EndsAt core list

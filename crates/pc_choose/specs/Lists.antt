@@ -1,0 +1,32 @@
+-- The list of steps of a seed.
+use Rattle.std.specs.Prelude.{◌≡◌, ℕ, zero, suc, List, [], ◌∷◌, None, IsSomeAnd}
+use Rattle.pc_core.specs.CoreData.{CoreData}
+use Rattle.pc_semantics.specs.declared.outcome.Outcome.{Outcome}
+use Rattle.pc_semantics.specs.declared.outcome.Outcome.TheVariants.{Moved, Skipped, Lacks, TooLong}
+use Rattle.pc_semantics.specs.Configurations.{Configuration, start}
+use Rattle.pc_semantics.specs.Step.{step}
+use Rattle.pc_choose.specs.declared.point.Point.{Point}
+use Rattle.pc_choose.specs.Choice.{turn, stepped, at_first}
+
+-- how many steps a list may have at most
+abbrev pub most_steps : ℕ
+most_steps = 1000000
+
+-- After a step that moved the rest goes on as stated; after any other there is none.
+abbrev pub AfterStep : (Configuration → Type 0) → List ℕ → Outcome × Configuration → Type 0
+AfterStep goes_on rest (Moved, d) = goes_on d
+AfterStep goes_on rest (Skipped, d) = rest ≡ []
+AfterStep goes_on rest (Lacks l, d) = rest ≡ []
+AfterStep goes_on rest (TooLong, d) = rest ≡ []
+
+-- From configuration c on, with room for this number of steps: each step is of the actor whose turn it is, and the list ends
+-- when it is no one's turn.
+abbrev pub Follows : CoreData → (seed room : ℕ) → Point → Configuration → List ℕ → Type 0
+Follows core seed zero p c list = list ≡ []
+Follows core seed (suc room) p c [] = turn seed p c ≡ None
+Follows core seed (suc room) p c (i ∷ is) =
+    IsSomeAnd (turn seed p c) (λ q. (i ≡ q.actor) × AfterStep (λ d. Follows core seed room (stepped q) d is) is (step core c i))
+
+-- The list of the seed.
+abbrev pub Chosen : CoreData → (seed : ℕ) → List ℕ → Type 0
+Chosen core seed list = Follows core seed most_steps at_first (start core) list

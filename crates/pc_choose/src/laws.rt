@@ -1,0 +1,44 @@
+//! The laws on lists of seeds, as calls that do nothing.
+ghost use Rattle.pc_choose.specs.Laws.{AbleStay, FewChange, ListsAreOne, ListsAreShort, ListsEnd, SkipsUnable, StepsMove};
+
+/// A step is skipped exactly if its actor is not able.
+#[tactic(auto, using(crate::proofs::Working::skips_unable))]
+pub fn skips_unable()
+    ensures { SkipsUnable }
+{}
+
+/// An actor that is able stays so, whatever steps the others take.
+#[tactic(auto, using(crate::proofs::Staying::able_stay))]
+pub fn able_stay()
+    ensures { AbleStay }
+{}
+
+/// A seed has one list.
+#[tactic(auto, using(crate::proofs::Listing::lists_are_one))]
+pub fn lists_are_one()
+    ensures { ListsAreOne }
+{}
+
+/// The list of a seed has at most 1,000,000 steps.
+#[tactic(auto, using(crate::proofs::Listing::lists_are_short))]
+pub fn lists_are_short()
+    ensures { ListsAreShort }
+{}
+
+/// Each step of the list of a seed moves, except that the last one may end the run.
+#[tactic(auto, using(crate::proofs::Listing::steps_move))]
+pub fn steps_move()
+    ensures { StepsMove }
+{}
+
+/// A step changes whether an actor is able only for its own actor, for the one to which it sends and for a new one.
+#[tactic(auto, using(crate::proofs::Changing::few_change))]
+pub fn few_change()
+    ensures { FewChange }
+{}
+
+/// The list of a seed ends when no actor is able, at a step that does not move, or at one of its two limits.
+#[tactic(auto, using(crate::proofs::Ending::lists_end))]
+pub fn lists_end()
+    ensures { ListsEnd }
+{}
