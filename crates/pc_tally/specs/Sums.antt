@@ -1,0 +1,30 @@
+-- Sums of the first numbers of a list.
+use Rattle.std.specs.Prelude.{◌≡◌, ℕ, ◌+◌, ◌*◌, ◌<◌, ◌≤◌, ◌^◌, ◌⊎◌, List, [], ◌∷◌, ◌++◌, length, take, sum}
+
+-- The sums of the first numbers pass `wanted` at this place: with the number there it is exceeded, and before it is not.
+pub record FallsOn (numbers : List ℕ) (wanted place : ℕ) : Type 0 where
+  pub there : place < length numbers
+  pub before : sum (take place numbers) ≤ wanted
+  pub passes : wanted < sum (take (place + 1) numbers)
+
+-- how many numbers have one sum
+abbrev pub group : ℕ
+group = 64
+
+-- Each of the upper numbers is the sum of the next 64 of the lower ones, and they are enough for all.
+pub record Summed (upper lower : List ℕ) : Type 0 where
+  pub sums : (n : ℕ) → sum (take n upper) ≡ sum (take (group * n) lower)
+  pub covers : length lower ≤ group * length upper
+  pub tight : group * length upper ≤ length lower + group
+
+-- What a tally keeps: sums of groups, of blocks of these, and of all.
+pub record IsTally (numbers groups blocks : List ℕ) (total : ℕ) : Type 0 where
+  pub few : length numbers ≤ 2 ^ 32
+  pub total_is : total ≡ sum numbers
+  pub small : total < 2 ^ 32
+  pub groups_are : Summed groups numbers
+  pub blocks_are : Summed blocks groups
+
+-- The list is the old one, perhaps with a 0 at its end.
+abbrev pub IsLonger : (old new : List ℕ) → Type 0
+IsLonger old new = (new ≡ old) ⊎ (new ≡ old ++ 0 ∷ [])
