@@ -26,35 +26,35 @@ never_within (k ∷ ks) i is e = never k (ks ++ i ∷ is) e
 
 -- ---- the list, as it is made
 
-abbrev behind_step : (Configuration → List ℕ) → Outcome × Configuration → List ℕ
-behind_step more (Moved, d) = more d
-behind_step more (Skipped, d) = []
-behind_step more (Lacks l, d) = []
-behind_step more (TooLong, d) = []
+abbrev pub after_step : (Configuration → List ℕ) → Outcome × Configuration → List ℕ
+after_step more (Moved, d) = more d
+after_step more (Skipped, d) = []
+after_step more (Lacks l, d) = []
+after_step more (TooLong, d) = []
 
-abbrev behind_turn : CoreData → (Point → Configuration → List ℕ) → Configuration → Option Point → List ℕ
-behind_turn core more c None = []
-behind_turn core more c (Some q) = q.actor ∷ behind_step (more (stepped q)) (step core c q.actor)
+abbrev pub after_turn : CoreData → (Point → Configuration → List ℕ) → Configuration → Option Point → List ℕ
+after_turn core more c None = []
+after_turn core more c (Some q) = q.actor ∷ after_step (more (stepped q)) (step core c q.actor)
 
 abbrev pub list_of : CoreData → (seed room : ℕ) → Point → Configuration → List ℕ
 list_of core seed zero p c = []
-list_of core seed (suc room) p c = behind_turn core (list_of core seed room) c (turn seed p c)
+list_of core seed (suc room) p c = after_turn core (list_of core seed room) c (turn seed p c)
 
 module _ (core : CoreData) (seed : ℕ) where
   -- ---- it follows
 
   module _ (room : ℕ) (more : (q : Point) (d : Configuration) → Follows core seed room q d (list_of core seed room q d)) where
-    step_follows : (q : Point) (r : Outcome × Configuration) → AfterStep (λ d. Follows core seed room q d (behind_step (list_of core seed room q) r)) (behind_step (list_of core seed room q) r) r
+    step_follows : (q : Point) (r : Outcome × Configuration) → AfterStep (λ d. Follows core seed room q d (after_step (list_of core seed room q) r)) (after_step (list_of core seed room q) r) r
     step_follows q (Moved, d) = more q d
     step_follows q (Skipped, d) = refl
     step_follows q (Lacks l, d) = refl
     step_follows q (TooLong, d) = refl
 
-    turn_follows : (p : Point) (c : Configuration) (t : Option Point) → turn seed p c ≡ t → Follows core seed (suc room) p c (behind_turn core (list_of core seed room) c t)
+    turn_follows : (p : Point) (c : Configuration) (t : Option Point) → turn seed p c ≡ t → Follows core seed (suc room) p c (after_turn core (list_of core seed room) c t)
     turn_follows p c None e = e
     turn_follows p c (Some q) e =
         subst
-        (λ (o : Option Point). IsSomeAnd o (λ x. (q.actor ≡ x.actor) × AfterStep (λ d. Follows core seed room (stepped x) d (behind_step (list_of core seed room (stepped q)) (step core c q.actor))) (behind_step (list_of core seed room (stepped q)) (step core c q.actor)) (step core c q.actor)))
+        (λ (o : Option Point). IsSomeAnd o (λ x. (q.actor ≡ x.actor) × AfterStep (λ d. Follows core seed room (stepped x) d (after_step (list_of core seed room (stepped q)) (step core c q.actor))) (after_step (list_of core seed room (stepped q)) (step core c q.actor)) (step core c q.actor)))
         (sym e)
         (refl, step_follows (stepped q) (step core c q.actor))
 
@@ -65,21 +65,21 @@ module _ (core : CoreData) (seed : ℕ) where
   -- ---- no other does
 
   module _ (room : ℕ) (more : (q : Point) (d : Configuration) (list : List ℕ) → Follows core seed room q d list → list ≡ list_of core seed room q d) where
-    step_is : (q : Point) (is : List ℕ) (r : Outcome × Configuration) → AfterStep (λ d. Follows core seed room q d is) is r → is ≡ behind_step (list_of core seed room q) r
+    step_is : (q : Point) (is : List ℕ) (r : Outcome × Configuration) → AfterStep (λ d. Follows core seed room q d is) is r → is ≡ after_step (list_of core seed room q) r
     step_is q is (Moved, d) b = more q d is b
     step_is q is (Skipped, d) b = b
     step_is q is (Lacks l, d) b = b
     step_is q is (TooLong, d) b = b
 
-    turn_is : (c : Configuration) (i : ℕ) (is : List ℕ) (t : Option Point) → IsSomeAnd t (λ q. (i ≡ q.actor) × AfterStep (λ d. Follows core seed room (stepped q) d is) is (step core c i)) → i ∷ is ≡ behind_turn core (list_of core seed room) c t
+    turn_is : (c : Configuration) (i : ℕ) (is : List ℕ) (t : Option Point) → IsSomeAnd t (λ q. (i ≡ q.actor) × AfterStep (λ d. Follows core seed room (stepped q) d is) is (step core c i)) → i ∷ is ≡ after_turn core (list_of core seed room) c t
     turn_is c i is None f = absurd f
     turn_is c i is (Some q) f =
         ap (λ (l : List ℕ). i ∷ l) (step_is (stepped q) is (step core c i) f.1)
-        ∙ ap (λ (k : ℕ). k ∷ behind_step (list_of core seed room (stepped q)) (step core c k)) f.0
+        ∙ ap (λ (k : ℕ). k ∷ after_step (list_of core seed room (stepped q)) (step core c k)) f.0
 
   pub list_is : (room : ℕ) (p : Point) (c : Configuration) (list : List ℕ) → Follows core seed room p c list → list ≡ list_of core seed room p c
   list_is zero p c list f = f
-  list_is (suc room) p c [] f = sym (ap (behind_turn core (list_of core seed room) c) f)
+  list_is (suc room) p c [] f = sym (ap (after_turn core (list_of core seed room) c) f)
   list_is (suc room) p c (i ∷ is) f = turn_is room (list_is room) c i is (turn seed p c) f
 
   -- ---- it is short

@@ -1,5 +1,5 @@
 -- A list under way.
-use Rattle.std.proofs.Common.{◌≡◌, ◌≢◌, ℕ, suc, ◌+◌, ◌-◌, ◌<◌, ◌≤◌, List, [], ◌∷◌, ◌++◌, Option, Some, None, refl, sym, subst, ◌∙◌, arith, append_assoc, append-nil}
+use Rattle.std.proofs.Common.{◌≡◌, ◌≢◌, ℕ, suc, ◌+◌, ◌-◌, ◌<◌, ◌≤◌, List, [], ◌∷◌, ◌++◌, Option, Some, None, refl, sym, ap, subst, ◌∙◌, arith, append_assoc, append-nil}
 use Rattle.std.specs.Prelude.{IsSomeAnd}
 use Rattle.std.specs.FinMap.{len}
 use Rattle.pc_core.specs.CoreData.{CoreData}
@@ -11,7 +11,9 @@ use Rattle.pc_semantics.specs.Configurations.{Configuration, start}
 use Rattle.pc_semantics.specs.Step.{step}
 use Rattle.pc_semantics.specs.Text.{waiting}
 use Rattle.pc_choose.specs.declared.point.Point.{Point}
+use Rattle.pc_choose.specs.declared.step.Step.{Step}
 use Rattle.pc_choose.specs.Choice.{turn, stepped, at_first}
+use Rattle.pc_choose.specs.Choosers.{Advances}
 use Rattle.pc_choose.specs.Lists.{AfterStep, Follows, Chosen, most_steps}
 
 -- So many steps were taken, these; what follows from here gives the whole.
@@ -37,37 +39,55 @@ module _ (core : CoreData) (seed n : ℕ) (p : Point) (c : Configuration) (list 
     one_more = omega (arith, within)
 
     -- it is no one's turn
-    pub is_over : None ≡ turn seed p c → Chosen core seed list
-    is_over e = subst (Chosen core seed) (append-nil list) (u.whole [] (subst (λ (r : ℕ). Follows core seed r p c []) one_more (sym e)))
+    pub is_over : (q : Point) (d : Configuration) → Advances core seed p c q d None → Chosen core seed list
+    is_over q d a = subst (Chosen core seed) (append-nil list) (u.whole [] (subst (λ (r : ℕ). Follows core seed r p c []) one_more a.0))
 
-    module _ (q : Point) (t : Some q ≡ turn seed p c) where
-      with_step : (is : List ℕ) → AfterStep (λ d. Follows core seed (most_steps - (n + 1)) (stepped q) d is) is (step core c q.actor) → Chosen core seed (list ++ q.actor ∷ is)
-      with_step is b =
-          u.whole (q.actor ∷ is) (subst (λ (r : ℕ). Follows core seed r p c (q.actor ∷ is)) one_more
-          (subst (λ (o : Option Point). IsSomeAnd o (λ x. (q.actor ≡ x.actor) × AfterStep (λ d. Follows core seed (most_steps - (n + 1)) (stepped x) d is) is (step core c q.actor))) t (refl, b)))
+    module _ (q : Point) (d : Configuration) (s : Step) where
+      abbrev FromTurn : Option Point → Type 0
+      FromTurn t = IsSomeAnd t (λ x. (s.actor ≡ x.actor) × (q ≡ stepped x) × (◌≡◌ {A = Outcome × Configuration} (s.outcome, d) (step core c s.actor)))
 
-      module _ (d : Configuration) where
+      abbrev Then : List ℕ → Point → Outcome × Configuration → Type 0
+      Then is y r = AfterStep (λ x. Follows core seed (most_steps - (n + 1)) y x is) is r
+
+      follows : (is : List ℕ) → Then is q (s.outcome, d) → (t : Option Point) → FromTurn t → IsSomeAnd t (λ x. (s.actor ≡ x.actor) × Then is (stepped x) (step core c s.actor))
+      follows is b None a = absurd a
+      follows is b (Some x) a = (a.0, subst (λ (y : Point). Then is y (step core c s.actor)) a.1 (subst (λ (r : Outcome × Configuration). Then is q r) a.2 b))
+
+      is_step : (t : Option Point) → FromTurn t → ◌≡◌ {A = Outcome × Configuration} (s.outcome, d) (step core c s.actor)
+      is_step None a = absurd a
+      is_step (Some x) a = a.2
+
+      module _ (a : Advances core seed p c q d (Some s)) where
+        with_step : (is : List ℕ) → Then is q (s.outcome, d) → Chosen core seed (list ++ s.actor ∷ is)
+        with_step is b = u.whole (s.actor ∷ is) (subst (λ (r : ℕ). Follows core seed r p c (s.actor ∷ is)) one_more (follows is b (turn seed p c) a))
+
         -- the step moved
-        pub goes_on : ◌≡◌ {A = Outcome × Configuration} (Moved, d) (step core c q.actor) → Underway core seed (n + 1) (stepped q) d (list ++ q.actor ∷ [])
+        pub goes_on : s.outcome ≡ Moved → Underway core seed (n + 1) q d (list ++ s.actor ∷ [])
         goes_on e =
-            let g : Grown c d = subst (λ (r : Outcome × Configuration). Changes c r) (sym e) (step_changes c core q.actor) in
+            let is : ◌≡◌ {A = Outcome × Configuration} (Moved, d) (step core c s.actor) = ap (λ (o : Outcome). (o, d)) (sym e) ∙ is_step (turn seed p c) a in
+            let g : Grown c d = subst (λ (r : Outcome × Configuration). Changes c r) (sym is) (step_changes c core s.actor) in
             record {
               whole = λ more f.
-                  subst (Chosen core seed) (sym (append_assoc list (q.actor ∷ []) more))
-                  (with_step more (subst (λ (r : Outcome × Configuration). AfterStep (λ x. Follows core seed (most_steps - (n + 1)) (stepped q) x more) more r) e f));
+                  subst (Chosen core seed) (sym (append_assoc list (s.actor ∷ []) more))
+                  (with_step more (subst (λ (o : Outcome). Then more q (o, d)) (sym e) f));
               few_objects = omega (arith, g.objects, u.few_objects);
               few_messages = omega (arith, g.messages, u.few_messages);
             }
 
-        -- it ended the run
-        ends : (o : Outcome) → o ≢ Moved → AfterStep (λ x. Follows core seed (most_steps - (n + 1)) (stepped q) x []) [] (o, d)
+        -- it ended the list
+        ends : (o : Outcome) → o ≢ Moved → Then [] q (o, d)
         ends Moved m = absurd (m refl)
         ends Skipped m = refl
         ends (Lacks l) m = refl
         ends TooLong m = refl
 
-        pub stops : (o : Outcome) → o ≢ Moved → ◌≡◌ {A = Outcome × Configuration} (o, d) (step core c q.actor) → Chosen core seed (list ++ q.actor ∷ [])
-        stops o m e = with_step [] (subst (λ (r : Outcome × Configuration). AfterStep (λ x. Follows core seed (most_steps - (n + 1)) (stepped q) x []) [] r) e (ends o m))
+        pub stops : s.outcome ≢ Moved → Chosen core seed (list ++ s.actor ∷ [])
+        stops m = with_step [] (ends s.outcome m)
+
+-- of the same core and seed
+pub of_same : (core m : CoreData) (seed s : ℕ) (p : Point) (c : Configuration) (q : Point) (d : Configuration) (o r : Option Step) → m ≡ core → s ≡ seed → o ≡ r → Advances m s p c q d o → Advances core seed p c q d r
+of_same core m seed s p c q d o r e f g a =
+    subst (Advances core seed p c q d) g (subst (λ (k : CoreData). Advances k seed p c q d o) e (subst (λ (t : ℕ). Advances m t p c q d o) f a))
 
 -- ---- outcomes that end a run
 

@@ -1,1 +1,1 @@
-mod Sums
+pub mod Sums

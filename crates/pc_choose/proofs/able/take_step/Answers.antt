@@ -1,0 +1,23 @@
+use Rattle.std.proofs.Common.{◌∙◌, ap, sym}
+use Rattle.pc_semantics.specs.declared.outcome.Outcome.{Outcome}
+use Rattle.pc_choose.proofs.Places.{are_known}
+use Rattle.pc_choose.proofs.Marking.{counts, kept, kept_at_lack}
+use Rattle.pc_choose.proofs.able.take_step.Goals as goal
+
+pub note-requires-clause-marks : goal.note-requires-clause-marks
+note-requires-clause-marks c = are_known c.args.machine.now.configuration c.args.marks.now c.requires.known
+
+pub note-requires-clause-count : goal.note-requires-clause-count
+note-requires-clause-count c =
+    counts c.args.machine.now.core c.args.machine.now.configuration c.step.new.self.configuration c.args.actor c.args.marks.now c.ahead-ahead.result c.requires.known c.ahead-ahead.ensures
+    (ap (λ (o : Outcome). (o, c.step.new.self.configuration)) (sym c.in-Moved.is) ∙ c.in_ok-step.ensures.ok)
+
+pub returns-in_ok-note-in-Moved-clause-known : goal.returns-in_ok-note-in-Moved-clause-known
+returns-in_ok-note-in-Moved-clause-known c =
+    kept c.args.machine.now.core c.args.machine.now.configuration c.step.new.self.configuration c.args.actor c.args.marks.now c.ahead-ahead.result c.requires.known c.ahead-ahead.ensures
+    (ap (λ (o : Outcome). (o, c.step.new.self.configuration)) (sym c.in-Moved.is) ∙ c.in_ok-step.ensures.ok) c.note.new.marks c.in_ok-note-in-Moved.ensures
+
+pub returns-in-Lacks-clause-known : goal.returns-in-Lacks-clause-known
+returns-in-Lacks-clause-known c =
+    kept_at_lack c.args.machine.now.core c.args.machine.now.configuration c.step.new.self.configuration c.args.actor c.args.marks.now c.ahead-ahead.result c.requires.known c.ahead-ahead.ensures c.in-Lacks.lack
+    (ap (λ (o : Outcome). (o, c.step.new.self.configuration)) (sym c.in-Lacks.is) ∙ c.in_ok-step.ensures.ok)

@@ -1,0 +1,35 @@
+-- Choosers: where a choice stands.
+use Rattle.std.specs.Prelude.{◌≡◌, ℕ, ◌*◌, List, Option, Some, None, IsSomeAnd, refl}
+use Rattle.std.specs.Coded.{Coded, code_by, coded×, coded_list, coded_ℕ}
+use Rattle.pc_core.specs.CoreData.{CoreData}
+use Rattle.pc_semantics.specs.declared.outcome.Outcome.{Outcome}
+use Rattle.pc_semantics.specs.Configurations.{Configuration}
+use Rattle.pc_semantics.specs.Step.{step}
+use Rattle.pc_draws.specs.Draws.{state}
+use Rattle.pc_choose.specs.declared.point.Point.{Point}
+use Rattle.pc_choose.specs.declared.step.Step.{Step}
+use Rattle.pc_choose.specs.contracts.point.Point as point
+use Rattle.pc_choose.specs.Choice.{turn, stepped}
+use Rattle.pc_choose.specs.Marks.{marks_of}
+
+-- The seed, the state of its draws, the point, and the marks of the able actors.
+pub record ChooserData : Type 0 where
+  pub seed : ℕ
+  pub drawn : ℕ
+  pub point : Point
+  pub marks : List ℕ
+
+abbrev pub coded_chooser : Coded ChooserData
+coded_chooser =
+    code_by (ℕ × (ℕ × (Point × List ℕ))) (coded× coded_ℕ (coded× coded_ℕ (coded× point.the_row.coded (coded_list coded_ℕ))))
+    (λ c. (c.seed, (c.drawn, (c.point, c.marks)))) (λ p. record { seed = p.0; drawn = p.1.0; point = p.1.1.0; marks = p.1.1.1 }) (λ _. refl)
+
+-- The chooser stands at a configuration: two numbers were drawn for each turn that began, and it knows who is able.
+pub record IsAt (chooser : ChooserData) (c : Configuration) : Type 0 where
+  pub drawn : chooser.drawn ≡ state chooser.seed (2 * chooser.point.turns)
+  pub marks : chooser.marks ≡ marks_of c
+
+-- From point p and configuration c to q and d: it is no one's turn, or the step of whoever's turn it is was taken.
+abbrev pub Advances : CoreData → (seed : ℕ) → Point → Configuration → Point → Configuration → Option Step → Type 0
+Advances core seed p c q d None = (turn seed p c ≡ None) × (d ≡ c)
+Advances core seed p c q d (Some taken) = IsSomeAnd (turn seed p c) (λ t. (taken.actor ≡ t.actor) × (q ≡ stepped t) × (◌≡◌ {A = Outcome × Configuration} (taken.outcome, d) (step core c taken.actor)))
