@@ -16,6 +16,7 @@ mod point;
 mod step;
 mod turns;
 
+pub use able::count_able;
 pub use chooser::Chooser;
 pub use choosing::{MOST_STEPS, choose};
 pub use laws::{

@@ -5,7 +5,7 @@ ghost use Rattle.pc_choose.specs.Able.{able_actors};
 ghost use Rattle.pc_choose.specs.Marks.{marks_of};
 ghost use Rattle.pc_choose.specs.Choice as choice;
 
-use crate::able::{able_at, count_able, first_able, is_marked};
+use crate::able::{able_at, count_marked, first_able, is_marked};
 use crate::point::{Picked, Point};
 use pc_draws::Draws;
 use pc_machine::Machine;
@@ -48,7 +48,7 @@ fn by_draw(machine: &Machine<'_>, marks: &Tally, draws: &mut Draws) -> Option<Pi
     ensures picked { result ≡ choice.picks (slice_get (able_actors machine.now.configuration) (high (next draws.old.state) (length (able_actors machine.now.configuration)))) 0 }
     ensures drawn { IfSome result (λ _. draws.new.state ≡ next draws.old.state) }
 {
-    let count = count_able(machine, marks);
+    let count = count_marked(machine, marks);
     if count == 0 {
         return None;
     }
