@@ -1,3 +1,3 @@
 mod Written
-mod Stepping
-mod Whole
+pub mod Stepping
+pub mod Whole

@@ -16,7 +16,8 @@ use Rattle.pc_run.specs.declared.counts.Progress.TheVariants as progress
 use Rattle.pc_run.specs.declared.report.Report.{Report}
 use Rattle.pc_run.specs.declared.report.RunFault.{RunFault}
 use Rattle.pc_run.specs.declared.report.RunFault.TheVariants.{Sink, TooLong, Memory}
-use Rattle.pc_run.specs.Ends.{Leaves, WritesText}
+use Rattle.std.proofs.KnownBytes.{Appends-trans}
+use Rattle.pc_run.specs.Ends.{IsAnswer, Leaves, WritesText}
 use Rattle.pc_run.specs.Reports.{report_of, summary_of}
 use Rattle.pc_run.specs.Underway.{Underway, Reached}
 use Rattle.pc_io.specs.Change.{Change, change}
@@ -77,6 +78,27 @@ module _ (core : CoreData) (list : List ℕ) where
     pub text_begins : (p : Progress) → Reached core list c [] p → (rest : List ℕ) × (lines c.printed ++ rest ≡ run_text core list)
     text_begins (progress.Going k) u = (summary_of (report_at c k), whole_text k u)
     text_begins (progress.TooLong n) h = ([], append-nil _ ∙ cut_text n h)
+
+  -- ---- what is answered
+
+  pub answers_stopped : (text : List ℕ) (out : Change) (e : RunFault) (r : Result Report RunFault) → IsErrAnd r (λ x. x ≡ e) → WriteStops text out e → IsAnswer core list out.faults_before out.faults_now r
+  answers_stopped text out e (Ok x) by s = absurd by
+  answers_stopped text out e (Err Sink) by s = (subst (WriteStops text out) (sym by) s).0
+  answers_stopped text out e (Err (TooLong n)) by s = absurd (subst (WriteStops text out) (sym by) s)
+  answers_stopped text out e (Err Memory) by s = tt
+
+  module _ (c : Configuration) (texts : List (List ℕ)) (are : texts ≡ c.printed) where
+    pub going_answers : (k : Counts) → Underway core list c k [] → (before now : ℕ) (report : Report) → report ≡ report_at c k → IsAnswer core list before now (Ok report)
+    going_answers k u before now report is = (sym u.end, is ∙ whole_report c k u)
+
+    pub going_writes : (k : Counts) → Underway core list c k [] → (w x y : Option (List ℕ)) → Appends w x (lines texts) → (report : Report) → report ≡ report_at c k → Appends x y (summary_of report) → Appends w y (run_text core list)
+    going_writes k u w x y front report is s =
+        subst (Appends w y)
+        (ap (λ ts. lines ts ++ summary_of report) are ∙ ap (λ (n : Report). lines c.printed ++ summary_of n) is ∙ whole_text c k u)
+        (Appends-trans w x y (lines texts) (summary_of report) front s)
+
+    pub cut_writes : (n : ℕ) → Reached core list c [] (progress.TooLong n) → (w x : Option (List ℕ)) → Appends w x (lines texts) → Appends w x (run_text core list)
+    cut_writes n h w x front = subst (Appends w x) (ap lines are ∙ cut_text c n h) front
 
   -- ---- the exits of the writing
 

@@ -1,5 +1,5 @@
 //! A run: all turns are taken, and then its text is written.
-ghost use Rattle.std.specs.Prelude.{◌≡◌, ◌≤◌, length};
+ghost use Rattle.std.specs.Prelude.{◌≡◌, ◌≤◌, [], length, ℕ, List as Sequence};
 ghost use Rattle.std.specs.FinMap.{len};
 ghost use Rattle.pc_sched.specs.Limits.{turn_limit};
 ghost use Rattle.pc_sched.specs.Schedules.{total};
@@ -7,6 +7,7 @@ ghost use Rattle.pc_semantics.specs.Configurations.{start};
 ghost use Rattle.pc_semantics.specs.Text.{waiting};
 ghost use Rattle.pc_run.specs.Ends.{NeverLacks, IsAnswer, Leaves, WritesText};
 ghost use Rattle.pc_run.specs.Spreading.{spread};
+ghost use Rattle.pc_run.specs.Underway.{Reached};
 
 use crate::counts::{Counts, Progress};
 use crate::report::{Report, RunFault};
@@ -33,6 +34,36 @@ fn report_of(machine: &Machine<'_>, counts: Counts) -> Report
         actors: machine.actors(),
         objects: machine.objects(),
         waiting: machine.waiting(),
+    }
+}
+
+/// Writes what a run printed, whose steps were all taken, each text with a line end by one call of `put`, and the line of the
+/// run's numbers by one more. What is said holds of every list of steps whose run came to the machine's configuration with
+/// this progress.
+///
+/// # Errors
+/// - `TooLong(n)` if the n-th step would make a text that is too long. The texts are written, without the numbers.
+/// - `Sink` only if the sink's count of failures rose in this call, or stands at its last value. A prefix of the text was
+///   written, and nothing after the piece that failed.
+/// - `Memory` when out of memory. A prefix of the text was written.
+pub fn put_run<O: Sink>(
+    alloc: Global,
+    machine: &Machine<'_>,
+    progress: Progress,
+    out: &mut O,
+) -> Result<Report, RunFault>
+    ensures answers { (list : Sequence ℕ) → Reached machine.now.core list machine.now.configuration [] progress → IsAnswer machine.now.core list (O.faults out.old) (O.faults out.new) result }
+    ensures writes { (list : Sequence ℕ) → Reached machine.now.core list machine.now.configuration [] progress → WritesText machine.now.core list (O.written out.old) (O.written out.new) result }
+    ensures later { O.faults out.old ≤ O.faults out.new }
+{
+    put_texts(alloc, machine.printed().as_slice(), out)?;
+    match progress {
+        Progress::Going(counts) => {
+            let report = report_of(machine, counts);
+            put_summary(alloc, report, out)?;
+            Ok(report)
+        }
+        Progress::TooLong(step) => Err(RunFault::TooLong(step)),
     }
 }
 
@@ -69,13 +100,5 @@ pub fn run<O: Sink>(
     ensures core { machine.new.core ≡ machine.old.core }
 {
     let progress = take_turns(machine, turns)?;
-    put_texts(alloc, machine.printed().as_slice(), out)?;
-    match progress {
-        Progress::Going(counts) => {
-            let report = report_of(machine, counts);
-            put_summary(alloc, report, out)?;
-            Ok(report)
-        }
-        Progress::TooLong(step) => Err(RunFault::TooLong(step)),
-    }
+    put_run(alloc, machine, progress, out)
 }
