@@ -5,8 +5,8 @@ use Rattle.pc_semantics.specs.declared.outcome.Outcome.TheVariants.{Moved, Skipp
 use Rattle.pc_semantics.specs.Configurations.{Configuration}
 use Rattle.pc_semantics.specs.Runs.{after}
 use Rattle.pc_semantics.specs.Step.{step}
-use Rattle.pc_ahead.specs.Ahead.{ahead_of}
-use Rattle.pc_ahead.specs.declared.ahead.Ahead.TheVariants.{Send, Spawn}
+use Rattle.pc_semantics.specs.Ahead.{ahead_of}
+use Rattle.pc_semantics.specs.declared.ahead.Ahead.TheVariants.{Send, Spawn}
 use Rattle.pc_choose.specs.Able.{able}
 use Rattle.pc_choose.specs.Choice.{most_turns}
 use Rattle.pc_choose.specs.Lists.{Chosen, most_steps}

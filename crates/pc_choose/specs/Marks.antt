@@ -2,8 +2,8 @@
 use Rattle.std.specs.Prelude.{ℕ, ◌≤◌, Bool, true, false, List, [], ◌∷◌, ◌++◌, map, slice_index, slice_set}
 use Rattle.pc_semantics.specs.declared.actors.Actor.{Actor}
 use Rattle.pc_semantics.specs.Configurations.{Configuration}
-use Rattle.pc_ahead.specs.declared.ahead.Ahead.{Ahead}
-use Rattle.pc_ahead.specs.declared.ahead.Ahead.TheVariants as ahead
+use Rattle.pc_semantics.specs.declared.ahead.Ahead.{Ahead}
+use Rattle.pc_semantics.specs.declared.ahead.Ahead.TheVariants as ahead
 use Rattle.pc_choose.specs.Able.{has_work}
 
 abbrev pub mark : Bool → ℕ

@@ -1,6 +1,6 @@
 //! Which names of a file the key of its tables is made of.
 use pc_keyed::keyed_by_names;
-use pc_test_sources::tree_of;
+use pc_test_inputs::tree_of;
 use std::alloc::{AllocError, Global};
 use std::hash::{BuildHasher, Hasher};
 
