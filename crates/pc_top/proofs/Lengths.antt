@@ -1,11 +1,11 @@
 -- A derivation's text is within the limit of a derivation.
-use Rattle.std.proofs.Common.{◌≤◌, ◌<◌, ◌+◌, ◌*◌, ◌/◌, ◌^◌, ℕ, zero, suc, length, List, [], ◌∷◌, ◌++◌, Option, Some, None, inl, inr, ap, arith}
+use Rattle.std.proofs.Common.{◌≤◌, ◌<◌, ◌+◌, ◌*◌, ◌/◌, ◌%◌, ◌^◌, ℕ, zero, suc, length, List, [], ◌∷◌, ◌++◌, Option, Some, None, inl, inr, ap, arith, false}
 use Rattle.std.specs.Prelude.{codes, decimal}
 use Rattle.std.specs.List.{AllByRecursion}
-use Rattle.std.specs.Fmt.{digits}
+use Rattle.std.specs.Fmt.{digits, digit_glyph}
 use Rattle.std.proofs.lemmas.Bool.{cases_lt}
 use Rattle.std.proofs.Math.Nat.{mul-suc}
-use Rattle.std.proofs.lemmas.Fmt.{length-decimal-le}
+use Rattle.std.proofs.lemmas.Fmt.{length-decimal-le, hex_one_digit}
 use Rattle.std.proofs.lemmas.List.{length-append}
 use Rattle.pc_caps.specs.declared.capability.Cap.{Cap}
 use Rattle.pc_caps.specs.declared.capability.Cap.TheVariants as cap
@@ -16,7 +16,7 @@ use Rattle.pc_ann.specs.declared.annotation.Note.{Note}
 use Rattle.pc_ann.specs.declared.annotation.Ann.{Ann}
 use Rattle.pc_ann.specs.declared.annotation.Rule.{Rule}
 use Rattle.pc_ann.specs.declared.annotation.Rule.TheVariants as rule
-use Rattle.pc_deriv.proofs.Digits.{spell, last_glyph, spell_last, spell_next}
+use Rattle.pc_deriv.proofs.Digits.{hex_step}
 use Rattle.pc_deriv.specs.Faults.{IsText}
 use Rattle.pc_deriv.proofs.Shown.{shown_fits}
 use Rattle.pc_deriv.specs.Names.{version_name, rule_name, cap_name, form_name}
@@ -81,20 +81,19 @@ form_size form.Tag = omega arith
 number_size : (n : ℕ) → n < 2 ^ 32 → length (decimal n) ≤ 10
 number_size n l = length-decimal-le 10 n (omega arith) (omega (arith, l)) (omega (arith, l))
 
-spell_size : (j k n : ℕ) (acc : List ℕ) → n < 16 ^ suc j → length (spell k n acc) ≤ suc j + length acc
-spell_size j zero n acc l = omega arith
-spell_size zero (suc k) n acc l = let e = ap (λ (xs : List ℕ). length xs) (spell_last k n acc (omega (arith, l))) in omega (arith, e)
-spell_size (suc j) (suc k) n acc l =
+hex_size : (j n : ℕ) → n < 2 ^ 64 → n < 16 ^ suc j → length (digits 16 false n) ≤ suc j
+hex_size zero n small l = let e = ap (λ (xs : List ℕ). length xs) (hex_one_digit false n (omega (arith, l))) in omega (arith, e)
+hex_size (suc j) n small l =
     elim (cases_lt n 16) [
-      | inl low ↦ let e = ap (λ (xs : List ℕ). length xs) (spell_last k n acc low) in omega (arith, e)
-      | inr high ↦ let e = ap (λ (xs : List ℕ). length xs) (spell_next k n acc high) in
-          let r = spell_size j k (n / 16) (last_glyph n ∷ acc) (omega arith) in
-          omega (arith, e, r)
+      | inl low ↦ let e = ap (λ (xs : List ℕ). length xs) (hex_one_digit false n low) in omega (arith, e)
+      | inr high ↦ let e = ap (λ (xs : List ℕ). length xs) (hex_step n high small) in
+          let s = length-append (digits 16 false (n / 16)) (digit_glyph false (n % 16) ∷ []) in
+          let r = hex_size j (n / 16) (omega (arith, small)) (omega (arith, l)) in
+          omega (arith, e, s, r)
     ]
 
 mask_size : (m : Mask) → MaskFits m → length (mask_text m) ≤ 16
-unfolding digits
-mask_size m l = let r = spell_size 15 64 m.0 [] (omega (arith, l)) in omega (arith, r)
+mask_size m l = hex_size 15 m.0 (omega (arith, l)) (omega (arith, l))
 
 -- two lists, one behind the other
 both_sizes : {T : Type 0} → (xs ys : List T) (a b : ℕ) → length xs ≤ a → length ys ≤ b → length (xs ++ ys) ≤ a + b
