@@ -59,8 +59,8 @@ fn add_body(key: &mut KeyedBy, body: &Option<Seq>) {
 }
 
 #[cycle(walk)]
-fn expr(key: &mut KeyedBy, e: &Expr) {
-    match e {
+fn expr(key: &mut KeyedBy, part: &Expr) {
+    match part {
         Expr::Number { .. }
         | Expr::Truth { .. }
         | Expr::Text { .. }
@@ -105,8 +105,8 @@ fn suffix_list(key: &mut KeyedBy, xs: &[Suffix]) {
 }
 
 #[cycle(walk)]
-fn suffix(key: &mut KeyedBy, x: &Suffix) {
-    match x {
+fn suffix(key: &mut KeyedBy, part: &Suffix) {
+    match part {
         Suffix::Dot(name) => add_name(key, name),
         Suffix::Args { args, .. } => exprs(key, args.as_slice()),
     }
@@ -120,9 +120,9 @@ fn arm_list(key: &mut KeyedBy, xs: &[Arm]) {
 }
 
 #[cycle(walk)]
-fn arm(key: &mut KeyedBy, x: &Arm) {
-    sequence(key, &x.cond);
-    sequence(key, &x.body);
+fn arm(key: &mut KeyedBy, part: &Arm) {
+    sequence(key, &part.cond);
+    sequence(key, &part.body);
 }
 
 #[cycle(walk)]
@@ -146,12 +146,12 @@ fn items(key: &mut KeyedBy, xs: &[Item]) {
 }
 
 #[cycle(walk)]
-fn item(key: &mut KeyedBy, x: &Item) {
-    match x {
+fn item(key: &mut KeyedBy, part: &Item) {
+    match part {
         Item::Local { name, value, .. } => {
             add_name(key, name);
             expr(key, value);
         }
-        Item::Plain(e) => expr(key, e),
+        Item::Plain(value) => expr(key, value),
     }
 }

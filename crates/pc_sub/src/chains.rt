@@ -6,22 +6,22 @@ ghost use Rattle.pc_sub.specs.Chain as spec;
 
 use pc_core::Core;
 
-// Whether `b` is `a`, or a chain of `is` leads from `a` to `b`.
-pub(crate) fn is_chain(core: &Core, a: u32, b: u32) -> bool
-    ensures { result ≡ spec.is_chain core.now a b }
+// Whether the two are one, or a chain of `is` leads from one to the other.
+pub(crate) fn is_chain(core: &Core, from: u32, to: u32) -> bool
+    ensures { result ≡ spec.is_chain core.now from to }
 {
     core.formed();
-    a == b || leads(core, a, b)
+    from == to || leads(core, from, to)
 }
 
-// Whether a chain of at least one `is` leads from `a` to `b`.
-fn leads(core: &Core, a: u32, b: u32) -> bool
-    ensures { IsTrue result ↔ Leads core.now a b }
+// Whether a chain of at least one `is` leads from one to the other.
+fn leads(core: &Core, from: u32, to: u32) -> bool
+    ensures { IsTrue result ↔ Leads core.now from to }
 {
     core.formed();
-    match core.entity_at(a) {
+    match core.entity_at(from) {
         None => false,
-        Some(entity) => contains(entity.above.as_slice(), b),
+        Some(entity) => contains(entity.above.as_slice(), to),
     }
 }
 
