@@ -1,8 +1,7 @@
-use Rattle.std.proofs.Common.{◌<◌, ◌∙◌, ◌^◌, take, ◌+◌, ◌++◌, ◌∷◌, [], ℕ, List, length, sum, ap, sym, arith}
-use Rattle.std.proofs.lemmas.List.{length-take-le}
+use Rattle.std.proofs.Common.{◌<◌, ◌∙◌, take, ◌+◌, ◌++◌, ◌∷◌, [], ℕ, List, length, sum, ap, sym, arith}
 use Rattle.pc_choose.specs.Able.{able}
 use Rattle.pc_choose.specs.Marks.{marks_of}
-use Rattle.pc_choose.proofs.Places.{mark_small, marks_fit, one_mark_more, all_marks}
+use Rattle.pc_choose.proofs.Places.{mark_small, marks_fit, one_mark_more}
 use Rattle.pc_choose.proofs.able.marks.Goals as goal
 
 pub push-requires-clause-few : goal.push-requires-clause-few
