@@ -1,5 +1,5 @@
 -- A play under way is the run of the list of its seed under way.
-use Rattle.std.proofs.Common.{◌≡◌, ◌≢◌, ℕ, zero, suc, ◌+◌, ◌-◌, ◌<◌, ◌≤◌, List, [], ◌∷◌, ◌++◌, Option, Some, None, Result, Ok, Err, refl, sym, ap, subst, ◌∙◌, arith, zero-add, length, append-nil}
+use Rattle.std.proofs.Common.{◌≡◌, ◌≢◌, ℕ, suc, ◌+◌, ◌-◌, ◌<◌, ◌≤◌, List, [], ◌∷◌, Option, Some, None, Result, Ok, Err, refl, sym, ap, subst, ◌∙◌, arith, zero-add, length, append-nil}
 use Rattle.std.specs.Prelude.{IsErrAnd, IsSomeAnd}
 use Rattle.std.specs.Io.KnownBytes.{Appends}
 use Rattle.pc_io.specs.Change.{Change, change}
@@ -25,7 +25,7 @@ use Rattle.pc_choose.specs.declared.point.Point.{Point}
 use Rattle.pc_choose.specs.declared.step.Step.{Step}
 use Rattle.pc_choose.specs.Choice.{turn, stepped, at_first}
 use Rattle.pc_choose.specs.Choosers.{Advances}
-use Rattle.pc_choose.specs.Lists.{Chosen, most_steps}
+use Rattle.pc_choose.specs.Lists.{most_steps}
 use Rattle.pc_choose.proofs.Listing.{list_of, after_turn, after_step, list_follows, list_short}
 use Rattle.pc_play.specs.Plays.{IsThrough, Played}
 

@@ -1,4 +1,4 @@
-use Rattle.std.proofs.Common.{rules, ◌≡◌, ◌≤◌, ℕ, ◌+◌, ◌∙◌, Option, Some, None, refl, sym, ap, subst, arith}
+use Rattle.std.proofs.Common.{rules, ◌≡◌, ℕ, ◌∙◌, Some, None, refl, sym, ap, subst, arith}
 use Rattle.pc_run.specs.declared.counts.Progress.TheVariants.{Going}
 use Rattle.pc_run.specs.Counting.{counted}
 use Rattle.pc_choose.specs.Lists.{most_steps}
