@@ -1,0 +1,3 @@
+mod Grouping
+mod Ended
+mod Adding

@@ -1,0 +1,4 @@
+pub mod Plays
+pub mod Tables
+pub mod Texts
+pub mod Under

@@ -1,0 +1,48 @@
+-- Plays of seeds, and their outcomes.
+use Rattle.std.specs.Prelude.{◌≡◌, ℕ, zero, suc, Bool, true, false, ◌&&◌, List, length, Option, Some, None, IfSome, slice_get}
+use Rattle.std.specs.Str.{bytes_eq}
+use Rattle.pc_core.specs.CoreData.{CoreData}
+use Rattle.pc_semantics.specs.declared.outcome.Outcome.{Outcome}
+use Rattle.pc_semantics.specs.Runs.{after, outcomes}
+use Rattle.pc_semantics.specs.Text.{lines, end_of}
+use Rattle.pc_choose.specs.Able.{able_actors}
+use Rattle.pc_choose.specs.Lists.{Chosen}
+use Rattle.pc_outcomes.specs.declared.entry.Ending.{Ending}
+use Rattle.pc_outcomes.specs.declared.entry.Ending.TheVariants.{Done, Cut, TooLong}
+use Rattle.pc_outcomes.specs.declared.entry.Play.{Play}
+
+-- How a run ended, by how many actors are able after it and by the step that ended it, if one did.
+abbrev pub ended : (able : ℕ) → Option (ℕ × Outcome) → Ending
+ended zero None = Done
+ended (suc n) None = Cut
+ended n (Some end) = TooLong
+
+-- The play of a seed: the run of its list.
+pub record IsPlay (core : CoreData) (seed : ℕ) (play : Play) : Type 0 where
+  pub list : List ℕ
+  pub chosen : Chosen core seed list
+  pub text : play.text ≡ lines (after core list).printed
+  pub ending : play.ending ≡ ended (length (able_actors (after core list))) (end_of (outcomes core list))
+  pub steps : play.steps ≡ length list
+
+-- The plays of the seeds below a count, in order.
+pub record ArePlays (core : CoreData) (count : ℕ) (plays : List Play) : Type 0 where
+  pub all : length plays ≡ count
+  pub are : (seed : ℕ) → IfSome (slice_get plays seed) (IsPlay core seed)
+
+-- ---- outcomes
+
+abbrev pub same_ending : Ending → Ending → Bool
+same_ending Done Done = true
+same_ending Cut Cut = true
+same_ending TooLong TooLong = true
+same_ending Done Cut = false
+same_ending Done TooLong = false
+same_ending Cut Done = false
+same_ending Cut TooLong = false
+same_ending TooLong Done = false
+same_ending TooLong Cut = false
+
+-- The play has this outcome: it printed the text, and ended so.
+abbrev pub has_outcome : List ℕ → Ending → Play → Bool
+has_outcome text ending play = bytes_eq text play.text && same_ending ending play.ending

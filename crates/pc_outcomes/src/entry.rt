@@ -1,0 +1,37 @@
+//! Outcomes.
+
+use pc_caps::List;
+
+/// How a play ended.
+#[derive(Clone, Copy, Debug, PartialEq, Eq)]
+pub enum Ending {
+    /// No actor has anything to do.
+    Done,
+    /// It has as many steps or turns as it may have, and some actor has something to do.
+    Cut,
+    /// Its last step would have made too long a text.
+    TooLong,
+}
+
+/// A play of a seed: its outcome, which is what was printed and how it ended, and how many steps it has.
+#[derive(Debug, Drop)]
+pub struct Play {
+    /// What was printed, each text with a line end.
+    pub text: List<u8>,
+    pub ending: Ending,
+    pub steps: u32,
+}
+
+/// An outcome with the seeds that have it.
+#[derive(Debug, Drop)]
+pub struct Entry {
+    /// The first seed that has it.
+    pub seed: u32,
+    /// How many seeds have it.
+    pub number: u32,
+    /// How many steps the play of the first seed has.
+    pub steps: u32,
+    /// What is printed, each text with a line end.
+    pub text: List<u8>,
+    pub ending: Ending,
+}
