@@ -158,7 +158,7 @@ module _ (core : CoreData) (b : Ann) (formed : Formed core) where
       let same : i ≡ j = omega (arith, l) in
       same_note b c d t u (same_Some c d (sym f ∙ ap (λ (z : Node). slice_get z.children i) o.at ∙ ap (slice_get y.children) same ∙ z)) s a
 
-  body_one : (n : ℕ) (x : Node) (f : Method) (m : Masks) → slice_get core.nodes n ≡ Some x → x.kind ≡ node.Body → slice_get core.methods x.method ≡ Some f → Reaches core b n m → ◌≡◌ {A = Masks} (first (1 + length f.params), start_set core f) m
+  pub body_one : (n : ℕ) (x : Node) (f : Method) (m : Masks) → slice_get core.nodes n ≡ Some x → x.kind ≡ node.Body → slice_get core.methods x.method ≡ Some f → Reaches core b n m → ◌≡◌ {A = Masks} (first (1 + length f.params), start_set core f) m
   body_one n x f m g k e (body y h u w v) =
       let is : x ≡ y = same_Some x y (sym g ∙ u) in
       let own : f ≡ h = same_Some f h (sym e ∙ ap (λ (z : Node). slice_get core.methods z.method) is ∙ v) in

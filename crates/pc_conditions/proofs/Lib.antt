@@ -1,0 +1,9 @@
+mod Firsts
+mod Opposed
+mod Plain
+mod Calling
+mod Started
+mod TheRule
+mod Explained
+mod SomeReason
+mod One

@@ -1,0 +1,44 @@
+-- Which rules are looked at for a node.
+use Rattle.std.specs.Prelude.{ℕ, Bool, true, false, not, List, Option, Some, None, slice_get, codes}
+use Rattle.pc_ann.specs.declared.annotation.Note.{Note}
+use Rattle.pc_ann.specs.declared.annotation.Rule.{Rule}
+use Rattle.pc_ann.specs.declared.annotation.Rule.TheVariants as rule
+use Rattle.pc_core.specs.CoreData.{CoreData}
+use Rattle.pc_core.specs.declared.declarations.Method.{Method}
+use Rattle.pc_core.specs.declared.nodes.Node.{Node}
+use Rattle.pc_core.specs.declared.nodes.NodeKind.{NodeKind}
+use Rattle.pc_core.specs.declared.nodes.NodeKind.TheVariants as node
+use Rattle.pc_rules.specs.Fields.{incomplete}
+use Rattle.pc_rules.specs.Calls.{is_function, is_behaviour, same_text}
+use Rattle.pc_rules.specs.Operators.{is_arithmetic, is_comparison, is_equality, is_add, is_xor}
+use Rattle.pc_conditions.specs.Conditions.{callee}
+
+abbrev pub calls_function : Option Method → Bool
+calls_function None = false
+calls_function (Some f) = is_function f.kind
+
+abbrev pub calls_behaviour : Option Method → Bool
+calls_behaviour None = false
+calls_behaviour (Some f) = is_behaviour f.kind
+
+abbrev pub is_string : Option (List ℕ) → Bool
+is_string None = false
+is_string (Some text) = same_text text (codes "string")
+
+-- The rule is looked at for a node x of this kind: by whether the node is incomplete, by the kind of the method that is
+-- called, by the method's name, or by the operator. A rule that is not looked at says nothing of the node.
+abbrev pub chosen : CoreData → List Note → Node → Rule → NodeKind → Bool
+chosen core ns x rule.Get (node.Field name) = not (incomplete core ns x)
+chosen core ns x rule.GetOwn (node.Field name) = incomplete core ns x
+chosen core ns x rule.Put (node.SetField name) = not (incomplete core ns x)
+chosen core ns x rule.PutOwn (node.SetField name) = incomplete core ns x
+chosen core ns x rule.Call (node.Call name) = not (calls_behaviour (callee core ns name))
+chosen core ns x rule.CallRecover (node.Call name) = calls_function (callee core ns name)
+chosen core ns x rule.Send (node.Call name) = calls_behaviour (callee core ns name)
+chosen core ns x rule.Builtin (node.Call name) = is_string (slice_get core.names name)
+chosen core ns x rule.Arith (node.Binary o) = is_arithmetic o
+chosen core ns x rule.Compare (node.Binary o) = is_comparison o
+chosen core ns x rule.Equal (node.Binary o) = is_equality o
+chosen core ns x rule.Join (node.Binary o) = is_add o
+chosen core ns x rule.Logic (node.Binary o) = is_xor o
+chosen core ns x r k = true

@@ -1,0 +1,157 @@
+-- What each rule asks of a node, one thing after the other.
+use Rattle.std.specs.Prelude.{ℕ, ◌+◌, ◌-◌, List, [], ◌∷◌, ◌++◌, length, Option, Some, None, slice_get, if◌then◌else◌}
+use Rattle.pc_ann.specs.declared.annotation.Note.{Note}
+use Rattle.pc_ann.specs.declared.annotation.Rule.{Rule}
+use Rattle.pc_ann.specs.declared.annotation.Rule.TheVariants as rule
+use Rattle.pc_caps.specs.declared.capability.Cap.{Cap}
+use Rattle.pc_core.specs.CoreData.{CoreData}
+use Rattle.pc_core.specs.declared.declarations.FieldInfo.{FieldInfo}
+use Rattle.pc_core.specs.declared.declarations.Method.{Method}
+use Rattle.pc_core.specs.declared.declarations.ParamInfo.{ParamInfo}
+use Rattle.pc_core.specs.declared.nodes.Node.{Node}
+use Rattle.pc_core.specs.declared.nodes.NodeKind.{NodeKind}
+use Rattle.pc_core.specs.declared.nodes.NodeKind.TheVariants as node
+use Rattle.pc_lists.specs.Options.{◌>>=◌}
+use Rattle.pc_rules.specs.Parts.{Ty, Slots, slot_of}
+use Rattle.pc_rules.specs.Fields.{field_of, own_field}
+use Rattle.pc_rules.specs.Calls.{called, is_function}
+use Rattle.pc_rules.specs.Children.{type_at}
+use Rattle.pc_conditions.specs.declared.condition.Condition.{Condition}
+use Rattle.pc_conditions.specs.declared.condition.Condition.TheVariants as asks
+
+-- the entities of literals
+abbrev pub u64 : ℕ
+u64 = 1
+
+abbrev pub bool : ℕ
+bool = 2
+
+abbrev pub string : ℕ
+string = 3
+
+-- ---- parts that several rules share
+
+-- The value goes to a place of this entity and capability.
+abbrev pub goes : (child : ℕ) → ℕ × Cap → List Condition
+goes i p = asks.Typed i ∷ asks.Under i p.0 ∷ asks.Fits i p.1 ∷ []
+
+-- Each argument, from this index on, goes to its parameter.
+abbrev pub arguments_go : ℕ → List ParamInfo → List Condition
+arguments_go i [] = []
+arguments_go i (p ∷ ps) = asks.Typed i ∷ asks.Under i p.entity ∷ asks.Fits i p.cap ∷ arguments_go (i + 1) ps
+
+-- As many arguments as parameters, and each goes.
+abbrev pub all_go : (arguments : ℕ) → List ParamInfo → List Condition
+all_go n ps = asks.Counted n (length ps) ∷ arguments_go 0 ps
+
+-- Each argument, from this index on, may be passed beside a receiver that is lent.
+abbrev pub arguments_sent : ℕ → List ParamInfo → List Condition
+arguments_sent i [] = []
+arguments_sent i (p ∷ ps) = asks.Sent i p.cap ∷ arguments_sent (i + 1) ps
+
+-- A readable value of this entity.
+abbrev pub reads : (child entity : ℕ) → List Condition
+reads i e = asks.Typed i ∷ asks.IsA i e ∷ asks.Readable i ∷ []
+
+-- Both sides are.
+abbrev pub both_read : (entity : ℕ) → List Condition
+both_read e = reads 0 e ++ reads 1 e
+
+-- ---- what is asked of what was found
+
+-- What is asked of it, where there is one. Where there is none, a condition before this fails.
+abbrev pub of_found : {A : Type 0} → Option A → (A → List Condition) → List Condition
+of_found None ask = []
+of_found (Some a) ask = ask a
+
+-- The type of a slot.
+abbrev pub slot_type : CoreData → Slots → (method slot : ℕ) → Option (ℕ × Cap)
+slot_type core slots m s = do
+  i ← slot_of core slots m s
+  Some i.1
+
+-- The field of this name of the child's entity.
+abbrev pub child_field : CoreData → List Note → (child name : ℕ) → Option (ℕ × FieldInfo)
+child_field core ns i name = do
+  o ← type_at ns i
+  field_of core o.0 name
+
+-- The method of this name of the receiver's entity.
+abbrev pub callee : CoreData → List Note → (name : ℕ) → Option Method
+callee core ns name = do
+  i ← called core ns name
+  slice_get core.methods i.1
+
+-- The index of the receiver, and so the number of the arguments.
+abbrev pub receiver_index : List Note → ℕ
+receiver_index ns = length ns - 1
+
+-- The right side is of the entity of the left one.
+abbrev pub same_read : Ty → List Condition
+same_read left = reads 1 left.0
+
+-- ---- what each rule asks after what was found
+
+abbrev pub get_of : ℕ × FieldInfo → List Condition
+get_of f = asks.Seen 0 f.1.cap ∷ []
+
+abbrev pub get_own_of : ℕ × FieldInfo → List Condition
+get_own_of f = asks.Set f.0 ∷ []
+
+abbrev pub put_of : ℕ × FieldInfo → List Condition
+put_of f = asks.NotFixed f.1.fixed ∷ asks.Under 0 f.1.entity ∷ asks.Fits 0 f.1.cap ∷ asks.Writable 1 f.1.cap ∷ asks.Enters f.1.cap ∷ []
+
+abbrev pub put_own_of : ℕ × FieldInfo → List Condition
+put_own_of f = asks.Typed 0 ∷ asks.SetOnce f.1.fixed f.0 ∷ asks.Under 0 f.1.entity ∷ asks.Fits 0 f.1.cap ∷ []
+
+abbrev pub assign_of : ℕ × Cap → List Condition
+assign_of p = asks.Under 0 p.0 ∷ asks.Fits 0 p.1 ∷ []
+
+abbrev pub call_of : (receiver : ℕ) → Method → List Condition
+call_of o f = asks.Function f.kind ∷ (all_go o f.params ++ asks.Fits o f.receiver ∷ [])
+
+abbrev pub call_recover_of : (receiver : ℕ) → Method → List Condition
+call_recover_of o f =
+    asks.Function f.kind ∷ (all_go o f.params ++ asks.Unfit o f.receiver ∷ asks.Isolated o ∷ asks.Lent f.receiver ∷ arguments_sent 0 f.params)
+
+abbrev pub send_of : (receiver : ℕ) → Method → List Condition
+send_of o f = asks.Behaviour f.kind ∷ all_go o f.params
+
+-- Of methods that are no functions nothing is asked.
+abbrev pub body_of : Method → List Condition
+body_of f = if is_function f.kind then asks.Typed 0 ∷ asks.Under 0 f.result.0 ∷ asks.Below 0 f.result.1 ∷ [] else []
+
+-- What a rule asks of a node x of kind k whose children have these notes, in order. A rule asks nothing of a node that it
+-- is no rule for.
+abbrev pub conditions : CoreData → Slots → List Note → Node → Rule → NodeKind → List Condition
+conditions core slots ns x rule.Local (node.Local s) = asks.Live s ∷ asks.Reached s ∷ []
+conditions core slots ns x rule.Consume (node.Consume s) = asks.Live s ∷ asks.Reached s ∷ []
+conditions core slots ns x rule.Get (node.Field name) = asks.Typed 0 ∷ asks.HasField 0 name ∷ of_found (child_field core ns 0 name) get_of
+conditions core slots ns x rule.GetOwn (node.Field name) = asks.HasOwnField name ∷ of_found (own_field core x name) get_own_of
+conditions core slots ns x rule.Put (node.SetField name) = asks.Typed 0 ∷ asks.Typed 1 ∷ asks.HasField 1 name ∷ of_found (child_field core ns 1 name) put_of
+conditions core slots ns x rule.PutOwn (node.SetField name) = asks.HasOwnField name ∷ of_found (own_field core x name) put_own_of
+conditions core slots ns x rule.Define (node.Define s) = of_found (slot_type core slots x.method s) (goes 0)
+conditions core slots ns x rule.Assign (node.Assign s) = asks.Typed 0 ∷ asks.Variable s ∷ asks.Reached s ∷ of_found (slot_type core slots x.method s) assign_of
+conditions core slots ns x rule.New (node.New k) = of_found (slice_get core.methods k) (λ f. all_go (length ns) f.params)
+conditions core slots ns x rule.Spawn (node.Spawn k) = of_found (slice_get core.methods k) (λ f. all_go (length ns) f.params)
+conditions core slots ns x rule.Call (node.Call name) =
+    asks.Typed (receiver_index ns) ∷ asks.HasMethod name ∷ of_found (callee core ns name) (call_of (receiver_index ns))
+conditions core slots ns x rule.CallRecover (node.Call name) =
+    asks.Typed (receiver_index ns) ∷ asks.HasMethod name ∷ of_found (callee core ns name) (call_recover_of (receiver_index ns))
+conditions core slots ns x rule.Send (node.Call name) =
+    asks.Typed (receiver_index ns) ∷ asks.HasMethod name ∷ of_found (callee core ns name) (send_of (receiver_index ns))
+conditions core slots ns x rule.Builtin (node.Call name) = asks.Counted (receiver_index ns) 0 ∷ asks.Typed 0 ∷ asks.Printable 0 ∷ asks.Readable 0 ∷ []
+conditions core slots ns x rule.Arith (node.Binary o) = both_read u64
+conditions core slots ns x rule.Compare (node.Binary o) = both_read u64
+conditions core slots ns x rule.Equal (node.Binary o) = asks.Typed 0 ∷ asks.Comparable 0 ∷ asks.Readable 0 ∷ of_found (type_at ns 0) same_read
+conditions core slots ns x rule.Join (node.Binary o) = both_read string
+conditions core slots ns x rule.Logic (node.Binary o) = both_read bool
+conditions core slots ns x rule.Logic node.Not = reads 0 bool
+conditions core slots ns x rule.Lazy node.And = both_read bool
+conditions core slots ns x rule.Lazy node.Or = both_read bool
+conditions core slots ns x rule.Identity (node.Same v) = asks.Typed 0 ∷ asks.Typed 1 ∷ []
+conditions core slots ns x rule.If node.If = reads 0 bool
+conditions core slots ns x rule.While node.While = reads 0 bool ++ asks.KeepsLive ∷ asks.KeepsSet ∷ []
+conditions core slots ns x rule.Recover (node.Recover k) = asks.Typed 0 ∷ asks.Lifted k ∷ []
+conditions core slots ns x rule.Body node.Body = of_found (slice_get core.methods x.method) body_of
+conditions core slots ns x r k = []

@@ -1,0 +1,120 @@
+-- Whether what a rule asks holds, and the first of it that does not.
+use Rattle.std.specs.Prelude.{◌≡◌, ℕ, Bool, true, false, ◌||◌, not, List, [], ◌∷◌, Option, Some, None, nat_eq, slice_get, if◌then◌else◌}
+use Rattle.pc_ann.specs.declared.annotation.Ann.{Ann}
+use Rattle.pc_ann.specs.declared.annotation.Note.{Note}
+use Rattle.pc_ann.specs.declared.annotation.Rule.{Rule}
+use Rattle.pc_ann.specs.Masks.{has, within, same}
+use Rattle.pc_caps.specs.Order.{is_below}
+use Rattle.pc_caps.specs.Tables.{fits, view, taken, may_write, sendable, sendable_form}
+use Rattle.pc_core.specs.CoreData.{CoreData}
+use Rattle.pc_core.specs.declared.nodes.Node.{Node}
+use Rattle.pc_lists.specs.Options.{◌>>=◌}
+use Rattle.pc_sub.specs.Sub.{is_sub}
+use Rattle.pc_check.specs.Inference.{rules_for}
+use Rattle.pc_rules.specs.Parts.{Ty, Masks, Slots, readable, slot_of, reachable, through_notes, notes_of}
+use Rattle.pc_rules.specs.Values.{is_var}
+use Rattle.pc_rules.specs.Fields.{own_field}
+use Rattle.pc_rules.specs.Calls.{is_function, is_behaviour, is_isolated, is_lent}
+use Rattle.pc_rules.specs.Children.{type_at}
+use Rattle.pc_rules.specs.Control.{recovered}
+use Rattle.pc_conditions.specs.Conditions.{u64, bool, string, child_field, callee, conditions}
+use Rattle.pc_conditions.specs.Chosen.{chosen}
+use Rattle.pc_conditions.specs.declared.condition.Condition.{Condition}
+use Rattle.pc_conditions.specs.declared.reason.Reason.{Reason}
+use Rattle.pc_conditions.specs.declared.condition.Condition.TheVariants as asks
+
+-- ---- whether it holds
+
+-- It is there, and has this property.
+abbrev pub on : {A : Type 0} → Option A → (A → Bool) → Bool
+on None p = false
+on (Some a) p = p a
+
+abbrev pub is_there : {A : Type 0} → Option A → Bool
+is_there None = false
+is_there (Some a) = true
+
+-- A U64 or a Bool, and besides a String.
+abbrev pub is_printable : Ty → Bool
+is_printable v = nat_eq v.0 u64 || nat_eq v.0 bool
+
+abbrev pub is_comparable : Ty → Bool
+is_comparable v = nat_eq v.0 u64 || (nat_eq v.0 bool || nat_eq v.0 string)
+
+-- The condition holds of node x, whose children have these notes, with these masks before it.
+abbrev pub holds_of : CoreData → Slots → List Note → Node → Masks → Condition → Bool
+holds_of core slots ns x m (asks.Typed i) = is_there (type_at ns i)
+holds_of core slots ns x m (asks.Under i e) = on (type_at ns i) (λ v. is_sub core v.0 e)
+holds_of core slots ns x m (asks.Fits i k) = on (type_at ns i) (λ v. fits v.1 k)
+holds_of core slots ns x m (asks.Below i f) = on (type_at ns i) (λ v. is_below v.1 f)
+holds_of core slots ns x m (asks.IsA i e) = on (type_at ns i) (λ v. nat_eq v.0 e)
+holds_of core slots ns x m (asks.Comparable i) = on (type_at ns i) is_comparable
+holds_of core slots ns x m (asks.Printable i) = on (type_at ns i) is_printable
+holds_of core slots ns x m (asks.Readable i) = on (type_at ns i) (λ v. readable v.1)
+holds_of core slots ns x m (asks.Live s) = has m.0 s
+holds_of core slots ns x m (asks.Reached s) = on (slot_of core slots x.method s) (reachable x)
+holds_of core slots ns x m (asks.Variable s) = on (slot_of core slots x.method s) (λ i. is_var i.0.kind)
+holds_of core slots ns x m (asks.HasField i name) = is_there (child_field core ns i name)
+holds_of core slots ns x m (asks.HasOwnField name) = is_there (own_field core x name)
+holds_of core slots ns x m (asks.Seen i k) = on (type_at ns i) (λ v. is_there (view v.1 k))
+holds_of core slots ns x m (asks.NotFixed b) = not b
+holds_of core slots ns x m (asks.Writable i k) = on (type_at ns i) (λ v. is_there (taken v.1 k))
+holds_of core slots ns x m (asks.Enters k) = on (type_at ns 0) (λ v. on (type_at ns 1) (λ o. may_write o.1 v.1 k))
+holds_of core slots ns x m (asks.Set i) = on (through_notes ns m) (λ n. has n.1 i)
+holds_of core slots ns x m (asks.SetOnce b i) = on (through_notes ns m) (λ n. not b || not (has n.1 i))
+holds_of core slots ns x m (asks.HasMethod name) = is_there (callee core ns name)
+holds_of core slots ns x m (asks.Function k) = is_function k
+holds_of core slots ns x m (asks.Behaviour k) = is_behaviour k
+holds_of core slots ns x m (asks.Counted n k) = nat_eq n k
+holds_of core slots ns x m (asks.Unfit i k) = on (type_at ns i) (λ v. not (fits v.1 k))
+holds_of core slots ns x m (asks.Isolated i) = on (type_at ns i) (λ v. is_isolated v.1)
+holds_of core slots ns x m (asks.Lent k) = is_lent k
+holds_of core slots ns x m (asks.Sent i k) = on (type_at ns i) (λ v. sendable_form v.1 || sendable k)
+holds_of core slots ns x m asks.KeepsLive = on (slice_get ns 1) (λ t. within m.0 t.live_after)
+holds_of core slots ns x m asks.KeepsSet = on (slice_get ns 1) (λ t. same t.set_after m.1)
+holds_of core slots ns x m (asks.Lifted k) = on (type_at ns 0) (λ v. is_there (recovered k v.1))
+
+-- ---- the first that does not hold
+
+abbrev pub first_false : (Condition → Bool) → List Condition → Option Condition
+first_false holds [] = None
+first_false holds (c ∷ cs) = if holds c then first_false holds cs else Some c
+
+-- The first thing that a rule asks of node x and that does not hold.
+abbrev pub failing : CoreData → Slots → List Note → Node → Masks → Rule → Option Condition
+failing core slots ns x m r = first_false (holds_of core slots ns x m) (conditions core slots ns x r x.kind)
+
+-- What shows that a rule says nothing of node n, with these masks before it, because of a condition: the rule is looked at,
+-- all that it asks before the condition holds, and the condition does not.
+pub record Because (core : CoreData) (ann : Ann) (n : ℕ) (m : Masks) (r : Rule) (c : Condition) : Type 0 where
+  pub at : Node
+  pub is_at : slice_get core.nodes n ≡ Some at
+  pub children : List Note
+  pub are_children : notes_of ann.notes at.children ≡ Some children
+  pub is_chosen : chosen core children at r at.kind ≡ true
+  pub first : failing core ann.slots children at m r ≡ Some c
+
+-- ---- all rules for a node
+
+-- Why a rule says nothing, if it is looked at.
+abbrev pub failure : CoreData → Slots → List Note → Node → Masks → Rule → Option Condition
+failure core slots ns x m r = if chosen core ns x r x.kind then failing core slots ns x m r else None
+
+abbrev pub reason_of : Rule → Option Condition → List Reason → List Reason
+reason_of r None more = more
+reason_of r (Some c) more = record { rule = r; condition = c } ∷ more
+
+-- Of these rules, in order, those that are looked at and ask something that does not hold, each with the first of it.
+abbrev pub reasons_among : CoreData → Slots → List Note → Node → Masks → List Rule → List Reason
+reasons_among core slots ns x m [] = []
+reasons_among core slots ns x m (r ∷ rs) = reason_of r (failure core slots ns x m r) (reasons_among core slots ns x m rs)
+
+-- Of the rules for node x.
+abbrev pub reasons : CoreData → Slots → List Note → Node → Masks → List Reason
+reasons core slots ns x m = reasons_among core slots ns x m (rules_for x.kind)
+
+-- The same in an annotation, which has the notes of the children. There is none where one of them has no note.
+abbrev pub reasons_at : CoreData → Ann → Node → Masks → Option (List Reason)
+reasons_at core ann x m = do
+  ns ← notes_of ann.notes x.children
+  Some (reasons core ann.slots ns x m)

@@ -1,0 +1,4 @@
+pub mod Conditions
+pub mod Chosen
+pub mod Failing
+pub mod Laws

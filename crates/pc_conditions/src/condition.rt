@@ -1,0 +1,70 @@
+//! What a rule asks of a node, one thing at a time.
+
+use pc_caps::{Cap, Form};
+use pc_core::MethodKind;
+
+/// One thing that a rule asks of a node. A child is named by its index among the node's children; of a call the arguments
+/// come first, and then the receiver.
+#[derive(Clone, Copy, Debug, PartialEq, Eq)]
+pub enum Condition {
+    /// The child has a type.
+    Typed(usize),
+    /// Its entity is below this one.
+    Under(usize, u32),
+    /// Its form fits this capability.
+    Fits(usize, Cap),
+    /// Its form is below this one.
+    Below(usize, Form),
+    /// It is of this entity.
+    IsA(usize, u32),
+    /// It is a U64, a Bool or a String.
+    Comparable(usize),
+    /// It is a U64 or a Bool.
+    Printable(usize),
+    /// Its form is readable.
+    Readable(usize),
+    /// The slot of this index is live.
+    Live(u32),
+    /// The slot is reachable: no `recover` stands between it and the node, or its capability is sendable.
+    Reached(u32),
+    /// The slot is a `var`.
+    Variable(u32),
+    /// The child's entity has a field of this name.
+    HasField(usize, u32),
+    /// The own entity has a field of this name.
+    HasOwnField(u32),
+    /// Through the child a field of this capability is seen in some form.
+    Seen(usize, Cap),
+    /// The field is a `var`: its `fixed` is this.
+    NotFixed(bool),
+    /// Through the child a field of this capability is written at all.
+    Writable(usize, Cap),
+    /// The first child may be written into a field of this capability of the second.
+    Enters(Cap),
+    /// The own field of this index is set after the children.
+    Set(u32),
+    /// The own field of this index is a `var`, by its `fixed`, or is not set after the children.
+    SetOnce(bool, u32),
+    /// The receiver's entity has a method of this name.
+    HasMethod(u32),
+    /// A method of this kind is a function.
+    Function(MethodKind),
+    /// A method of this kind is a behaviour.
+    Behaviour(MethodKind),
+    /// There are as many arguments as parameters.
+    Counted(usize, usize),
+    /// The child's form does not fit this capability.
+    Unfit(usize, Cap),
+    /// Its form is `iso` or `trn`.
+    Isolated(usize),
+    /// A receiver of this capability is one that can be lent: `ref` or `box`.
+    Lent(Cap),
+    /// The child has a sendable form, or goes to a parameter of this sendable capability.
+    Sent(usize, Cap),
+    /// The loop's body keeps live what is live before the loop.
+    KeepsLive,
+    /// The loop's body leaves the set fields as they are before the loop.
+    KeepsSet,
+    /// The lifted form of the body fits the written capability, if there is one.
+    Lifted(Option<Cap>),
+}

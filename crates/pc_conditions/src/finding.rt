@@ -1,0 +1,41 @@
+//! Why each rule for a node says nothing.
+ghost use Rattle.std.specs.Prelude.{◌≡◌, IfOk};
+ghost use Rattle.pc_conditions.specs.Failing as spec;
+
+use crate::asking::failing;
+use crate::chosen::chosen;
+use crate::condition::Condition;
+use crate::reason::Reason;
+use crate::site::Site;
+use pc_ann::Rule;
+use pc_caps::List;
+use pc_check::rules_for;
+use std::alloc::{AllocError, Global};
+
+// Why the rule says nothing, if it is looked at.
+fn failure(site: &Site, rule: Rule) -> Option<Condition>
+    ensures { result ≡ spec.failure site.now.core.now site.now.slots.now site.now.children.now site.now.node.now (site.now.live, site.now.set) rule }
+{
+    if chosen(site, rule) {
+        failing(site, rule)
+    } else {
+        None
+    }
+}
+
+/// Why no rule says anything of the node: of the rules for it, in their order, each that is looked at and asks something that
+/// does not hold, with the first thing that it asks and that does not.
+pub fn reasons(alloc: Global, site: &Site) -> Result<List<Reason>, AllocError>
+    ensures { IfOk result (λ found. found ≡ spec.reasons site.now.core.now site.now.slots.now site.now.children.now site.now.node.now (site.now.live, site.now.set)) }
+{
+    let mut found = List::new(alloc);
+    for rule in rules_for(&site.node.kind) {
+        if let Some(condition) = failure(site, *rule) {
+            found.push(Reason {
+                rule: *rule,
+                condition,
+            })?;
+        }
+    }
+    Ok(found)
+}
