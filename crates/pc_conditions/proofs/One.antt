@@ -6,7 +6,7 @@ use Rattle.pc_lists.specs.Options.{◌>>=◌}
 use Rattle.pc_lists.specs.Places.{Each}
 use Rattle.pc_lists.proofs.Bools.{false_true}
 use Rattle.pc_lists.proofs.Options.{bind_is}
-use Rattle.pc_ann.specs.Masks.{has}
+use Rattle.pc_masks.specs.Masks.{has}
 use Rattle.pc_ann.specs.declared.annotation.Ann.{Ann}
 use Rattle.pc_ann.specs.declared.annotation.Note.{Note}
 use Rattle.pc_ann.specs.declared.annotation.Rule.{Rule}

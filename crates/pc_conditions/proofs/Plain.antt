@@ -2,7 +2,7 @@
 use Rattle.std.specs.Prelude.{◌≡◌, ℕ, Bool, true, false, ◌&&◌, ◌||◌, not, List, [], ◌∷◌, Option, Some, None, nat_eq, slice_get, if◌then◌else◌, refl}
 use Rattle.pc_lists.specs.Options.{◌>>=◌}
 use Rattle.pc_lists.proofs.Bools.{false_true}
-use Rattle.pc_ann.specs.Masks.{has, within, same, with_number}
+use Rattle.pc_masks.specs.Masks.{has, within, same, with_number}
 use Rattle.pc_ann.specs.declared.annotation.Note.{Note}
 use Rattle.pc_ann.specs.declared.annotation.Rule.{Rule}
 use Rattle.pc_ann.specs.declared.annotation.Rule.TheVariants as rule

@@ -3,7 +3,7 @@ use Rattle.std.specs.Prelude.{◌≡◌, ℕ, Bool, true, false, ◌||◌, not, 
 use Rattle.pc_ann.specs.declared.annotation.Ann.{Ann}
 use Rattle.pc_ann.specs.declared.annotation.Note.{Note}
 use Rattle.pc_ann.specs.declared.annotation.Rule.{Rule}
-use Rattle.pc_ann.specs.Masks.{has, within, same}
+use Rattle.pc_masks.specs.Masks.{has, within, same}
 use Rattle.pc_caps.specs.Order.{is_below}
 use Rattle.pc_caps.specs.Tables.{fits, view, taken, may_write, sendable, sendable_form}
 use Rattle.pc_core.specs.CoreData.{CoreData}

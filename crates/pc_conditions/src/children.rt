@@ -6,9 +6,10 @@ ghost use Rattle.pc_rules.specs.Parts as parts;
 ghost use Rattle.pc_conditions.specs.Conditions.{callee as callee_is, receiver_index as receiver_is};
 ghost use Rattle.std.specs.Option.{option_copied};
 
-use pc_ann::{Mask, Note};
+use pc_ann::Note;
 use pc_caps::Form;
 use pc_core::{Core, Method};
+use pc_masks::Mask;
 
 /// The note of the child of this index.
 pub(crate) fn note_at(children: &[Note], index: usize) -> Option<Note>

@@ -5,8 +5,9 @@ ghost use Rattle.pc_rules.specs.Parts.{last_child as last_child_is, last_note as
 ghost use Rattle.pc_conditions.specs.Conditions.{child_field as child_field_is};
 
 use crate::children::type_at;
-use pc_ann::{Mask, Note};
+use pc_ann::Note;
 use pc_core::{Core, FieldInfo, Node, NodeKind};
+use pc_masks::Mask;
 use pc_rules::{constructs, full};
 
 // A field of an entity by its name, with its index.

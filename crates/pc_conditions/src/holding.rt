@@ -1,6 +1,6 @@
 //! Whether a condition holds.
 ghost use Rattle.std.specs.Prelude.{◌≡◌};
-ghost use Rattle.pc_ann.specs.Masks.{within, same};
+ghost use Rattle.pc_masks.specs.Masks.{within, same};
 ghost use Rattle.pc_caps.specs.Tables.{may_write as may_write_is};
 ghost use Rattle.pc_rules.specs.Calls as calls;
 ghost use Rattle.pc_rules.specs.Control.{recovered as recovered_is};
@@ -13,9 +13,10 @@ use crate::condition::Condition;
 use crate::fields::{child_field, own_field};
 use crate::site::Site;
 use crate::slots::{is_var, reachable, slot_of};
-use pc_ann::{Mask, Note};
+use pc_ann::Note;
 use pc_caps::{Cap, Form, below, fits, lift, may_write, sendable, sendable_form, taken, view};
 use pc_core::Slot;
+use pc_masks::Mask;
 use pc_sub::is_sub;
 
 // Whether a value of this form may be read.

@@ -1,8 +1,9 @@
 //! A node and what stands around it.
 
-use pc_ann::{Mask, Note};
+use pc_ann::Note;
 use pc_caps::Cap;
 use pc_core::{Core, Node};
+use pc_masks::Mask;
 
 /// A node of a core, and what the rules look at there.
 #[derive(Drop)]

@@ -3,7 +3,8 @@ ghost use Rattle.std.specs.Prelude.{◌≡◌, ◌++◌, [], ℕ, IfOk, OnOk, Li
 ghost use Rattle.pc_core.specs.CoreData.{CoreData};
 ghost use Rattle.pc_semantics.specs.Configurations.{Configuration};
 ghost use Rattle.pc_semantics.specs.Runs as run;
-ghost use Rattle.pc_semantics.specs.Text.{lines, line_end, end_of};
+ghost use Rattle.pc_lists.specs.Texts.{line_end};
+ghost use Rattle.pc_semantics.specs.Text.{lines, end_of};
 ghost use Rattle.pc_run.specs.Ends.{NeverLacks};
 ghost use Rattle.pc_run.specs.Underway.{Reached};
 ghost use Rattle.pc_outcomes.specs.Plays.{IsPlay, ended};
