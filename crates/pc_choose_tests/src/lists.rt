@@ -1,0 +1,71 @@
+//! Lists of seeds.
+ghost use Rattle.std.specs.Prelude.{◌≡◌};
+
+use pc_caps::List;
+use pc_choose::choose;
+use pc_core::Core;
+use pc_machine::start;
+use pc_test_inputs::core_of;
+use std::alloc::Global;
+
+// The list of a seed of a core.
+fn list_of_core(alloc: Global, core: &Core, seed: u64) -> Option<List<u32>> {
+    match start(alloc, core) {
+        Ok(mut machine) => choose(alloc, &mut machine, seed).ok(),
+        Err(_) => None,
+    }
+}
+
+// The list of a seed of a program.
+fn list_of(alloc: Global, program: &[u8], seed: u64) -> Option<List<u32>> {
+    match core_of(alloc, program) {
+        Some(core) => list_of_core(alloc, &core, seed),
+        None => None,
+    }
+}
+
+// Whether the list of a seed is this one.
+fn is_list(alloc: Global, program: &[u8], seed: u64, wanted: &[u32]) -> bool {
+    match list_of(alloc, program, seed) {
+        Some(list) => list.as_slice() == wanted,
+        None => false,
+    }
+}
+
+// How many steps the list of a seed has, and the actor of the last one.
+fn end_of(alloc: Global, program: &[u8], seed: u64) -> Option<(usize, u32)> {
+    match list_of(alloc, program, seed) {
+        Some(list) => list.as_slice().last().map(|last| (list.len(), *last)),
+        None => None,
+    }
+}
+
+const PRINTS: &[u8] = b"actor Main\n  new create(env: Env) => env.out.print(\"\")\n";
+
+// Main has 10 steps, of which the 9th sends, and the stream one. At seed 0 a round begins with Main, the only able actor, and
+// no higher one is in it; the next begins with the stream. Seed 1 draws the place 0 and the count 63, then the place 0 and the
+// count 44; each time one actor alone is able.
+const PRINTS_LIST: [u32; 11] = [1, 1, 1, 1, 1, 1, 1, 1, 1, 1, 0];
+
+#[test]
+fn the_lists_of_a_small_program_are_those_by_hand(rt: HostRuntime) {
+    assert!(rt; is_list(rt.alloc(), PRINTS, 0, &PRINTS_LIST));
+    assert!(rt; is_list(rt.alloc(), PRINTS, 1, &PRINTS_LIST));
+}
+
+const CHAIN: &[u8] =
+    b"actor Chain\n  new create() => Chain\nactor Main\n  new create(env: Env) => Chain\n";
+
+// Each actor takes its six steps in a turn of its own, and makes the next one: 95,000 turns.
+#[test]
+fn a_list_of_short_turns_ends_before_its_turn_95001(rt: HostRuntime) {
+    assert!(rt; end_of(rt.alloc(), CHAIN, 0) == Some((570_000, 95_000)));
+}
+
+const ENDLESS: &[u8] = b"actor Main\n  new create(env: Env) =>\n    while true do None end\n";
+
+#[test]
+fn a_list_of_a_program_that_never_ends_has_1000000_steps(rt: HostRuntime) {
+    assert!(rt; end_of(rt.alloc(), ENDLESS, 0) == Some((1_000_000, 1)));
+    assert!(rt; end_of(rt.alloc(), ENDLESS, 7) == Some((1_000_000, 1)));
+}
