@@ -1,6 +1,6 @@
 //! Bodies, with all their nodes, and long ones.
 use crate::program::{KnownRow, METHOD, Written, program_of};
-use crate::rows::{Row, place_of_difference};
+use crate::rows::{Row, is_node_at, place_of_difference};
 use pc_caps::List;
 use pc_core::Node;
 use pc_emit::{EmitStop, emit, emit_added};
@@ -125,6 +125,12 @@ const THIRD_ROWS: [Row; 20] = [
     ("body", 0, &[18], 0, (300, 304)),
 ];
 
+const NUMBER_ROWS: [Row; 3] = [
+    ("number", 7, &[], 0, (0, 1)),
+    ("seq", 0, &[0], 0, (0, 1)),
+    ("body", 0, &[1], 0, (300, 304)),
+];
+
 // The nodes of an added `create`, behind the initial value 7.
 const ADDED_ROWS: [Row; 6] = [
     ("number", 7, &[], 0, (0, 1)),
@@ -193,9 +199,11 @@ fn a_recover_and_a_group(rt: HostRuntime) {
     assert!(rt; stands(rt.alloc(), &THIRD, THIRD_TEXT, &THIRD_ROWS) == Ok((Some(19), 20)));
 }
 
+// A text that spells nothing leaves a method without a body, and one that spells a number gives it one.
 #[test]
 fn no_body(rt: HostRuntime) {
     assert!(rt; stands(rt.alloc(), &THIRD, b"", &[]) == Ok((None, 0)));
+    assert!(rt; stands(rt.alloc(), &THIRD, b"7", &NUMBER_ROWS) == Ok((Some(2), 3)));
 }
 
 // The nodes of the added `create` behind those that are there, and the number of its body.
@@ -243,42 +251,139 @@ fn long_text(alloc: Global, row: Long) -> Result<Vec<u8>, AllocError> {
     Ok(text)
 }
 
-fn body_of(alloc: Global, text: &[u8]) -> Result<Option<u32>, EmitStop> {
-    let mut nodes: List<Node> = List::new(alloc);
-    nodes_of(alloc, &THIRD, text, &mut nodes)
+// A place, and the node that stands there.
+type Spot = (u32, Row);
+
+// Whether these nodes stand at their places.
+fn stand_at(nodes: &[Node], spots: &[Spot]) -> bool {
+    for (place, row) in spots {
+        if !is_node_at(nodes, *place, THIRD.number, row) {
+            return false;
+        }
+    }
+    true
 }
 
-// The body of a long text.
-fn long_body(alloc: Global, row: Long) -> Result<Option<u32>, EmitStop> {
+// The body of a text, how many nodes there are, and whether these are among them.
+fn body_of(
+    alloc: Global,
+    text: &[u8],
+    spots: &[Spot],
+) -> Result<(Option<u32>, usize, bool), EmitStop> {
+    let mut nodes: List<Node> = List::new(alloc);
+    let body = nodes_of(alloc, &THIRD, text, &mut nodes)?;
+    Ok((body, nodes.len(), stand_at(nodes.as_slice(), spots)))
+}
+
+// The same of a long text.
+fn long_body(
+    alloc: Global,
+    row: Long,
+    spots: &[Spot],
+) -> Result<(Option<u32>, usize, bool), EmitStop> {
     let text = long_text(alloc, row)?;
-    body_of(alloc, &text)
+    body_of(alloc, &text, spots)
 }
 
 // The term `1` and so many operators have two nodes each and one more, with a sequence and a body around them.
+const OPERATORS: [Spot; 8] = [
+    (0, ("number", 1, &[], 0, (0, 1))),
+    (1, ("number", 1, &[], 0, (2, 3))),
+    (2, ("+", 0, &[0, 1], 0, (0, 3))),
+    (4, ("+", 0, &[2, 3], 0, (0, 5))),
+    (199_995, ("number", 1, &[], 0, (199_996, 199_997))),
+    (199_996, ("+", 0, &[199_994, 199_995], 0, (0, 199_997))),
+    (199_997, ("seq", 0, &[199_996], 0, (0, 199_997))),
+    (199_998, ("body", 0, &[199_997], 0, (300, 304))),
+];
+
 #[test]
 fn a_long_chain_of_operators(rt: HostRuntime) {
-    assert!(rt; long_body(rt.alloc(), (b"1", b"+1", 99_998, b"")) == Ok(Some(199_998)));
+    let body = long_body(rt.alloc(), (b"1", b"+1", 99_998, b""), &OPERATORS);
+    assert!(rt; body == Ok((Some(199_998), 199_999, true)));
 }
 
 #[test]
 fn a_chain_of_operators_that_is_too_long(rt: HostRuntime) {
-    assert!(rt; long_body(rt.alloc(), (b"1", b"+1", 99_999, b"")) == Err(EmitStop::Full));
+    assert!(rt; long_body(rt.alloc(), (b"1", b"+1", 99_999, b""), &[]) == Err(EmitStop::Full));
 }
+
+const CALLS: [Spot; 6] = [
+    (0, ("number", 1, &[], 0, (0, 1))),
+    (1, ("call", 2, &[0], 0, (0, 5))),
+    (2, ("call", 2, &[1], 0, (0, 9))),
+    (49_998, ("call", 2, &[49_997], 0, (0, 199_993))),
+    (49_999, ("seq", 0, &[49_998], 0, (0, 199_993))),
+    (50_000, ("body", 0, &[49_999], 0, (300, 304))),
+];
 
 #[test]
 fn a_long_chain_of_calls(rt: HostRuntime) {
-    assert!(rt; long_body(rt.alloc(), (b"1", b".m()", 49_998, b"")) == Ok(Some(50_000)));
+    let body = long_body(rt.alloc(), (b"1", b".m()", 49_998, b""), &CALLS);
+    assert!(rt; body == Ok((Some(50_000), 50_001, true)));
 }
 
 // Each arm has six nodes but the first, which has five, and the missing `else` two.
 const ARMS: Long = (b"if 1 then 1 ", b"elseif 1 then 1 ", 30_000, b"end");
 
+// The conditions and branches of all arms come first, then the missing `else`, and then each `if` with its sequence, from the
+// last arm on.
+const ARM_NODES: [Spot; 11] = [
+    (0, ("number", 1, &[], 0, (3, 4))),
+    (1, ("seq", 0, &[0], 0, (3, 4))),
+    (3, ("seq", 0, &[2], 0, (10, 11))),
+    (120_000, ("number", 1, &[], 0, (480_003, 480_004))),
+    (120_003, ("seq", 0, &[120_002], 0, (480_010, 480_011))),
+    (120_005, ("seq", 0, &[120_004], 0, (480_012, 480_015))),
+    (
+        120_006,
+        ("if", 0, &[120_001, 120_003, 120_005], 0, (479_996, 480_015)),
+    ),
+    (120_007, ("seq", 0, &[120_006], 0, (479_996, 480_015))),
+    (180_006, ("if", 0, &[1, 3, 180_005], 0, (0, 480_015))),
+    (180_007, ("seq", 0, &[180_006], 0, (0, 480_015))),
+    (180_008, ("body", 0, &[180_007], 0, (300, 304))),
+];
+
 #[test]
 fn a_long_chain_of_arms(rt: HostRuntime) {
-    assert!(rt; long_body(rt.alloc(), ARMS) == Ok(Some(180_008)));
+    let body = long_body(rt.alloc(), ARMS, &ARM_NODES);
+    assert!(rt; body == Ok((Some(180_008), 180_009, true)));
 }
+
+const ITEMS: [Spot; 4] = [
+    (0, ("number", 1, &[], 0, (0, 1))),
+    (1, ("number", 1, &[], 0, (2, 3))),
+    (99_998, ("number", 1, &[], 0, (199_996, 199_997))),
+    (100_000, ("body", 0, &[99_999], 0, (300, 304))),
+];
+
+// How many children the sequence of a long text has, and the last of them.
+fn items_of(
+    alloc: Global,
+    row: Long,
+    place: usize,
+) -> Result<Option<(usize, Option<u32>)>, EmitStop> {
+    let text = long_text(alloc, row)?;
+    let mut nodes: List<Node> = List::new(alloc);
+    let _body = nodes_of(alloc, &THIRD, &text, &mut nodes)?;
+    Ok(
+        nodes.get(place).map(|node| (
+            node.children.len(),
+            node.children.as_slice().last().copied(),
+        )),
+    )
+}
+
+const SEQUENCE: Long = (b"1", b";1", 99_998, b"");
 
 #[test]
 fn a_long_sequence(rt: HostRuntime) {
-    assert!(rt; long_body(rt.alloc(), (b"1", b";1", 99_998, b"")) == Ok(Some(100_000)));
+    let body = long_body(rt.alloc(), SEQUENCE, &ITEMS);
+    assert!(rt; body == Ok((Some(100_000), 100_001, true)));
+}
+
+#[test]
+fn a_long_sequence_has_all_its_items(rt: HostRuntime) {
+    assert!(rt; items_of(rt.alloc(), SEQUENCE, 99_999) == Ok(Some((99_999, Some(99_998)))));
 }

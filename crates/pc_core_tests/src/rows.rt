@@ -79,6 +79,14 @@ fn is_row(node: &Node, method: u32, row: &Row) -> bool {
         && (node.span.start, node.span.end) == row.4
 }
 
+/// Whether the node at a place is this one of this method.
+pub fn is_node_at(nodes: &[Node], place: u32, method: u32, row: &Row) -> bool {
+    match nodes.get(place as usize) {
+        Some(node) => is_row(node, method, row),
+        None => false,
+    }
+}
+
 /// The first place at which the nodes are not these of this method, or how many there are.
 pub fn place_of_difference(nodes: &[Node], method: u32, rows: &[Row]) -> usize {
     for place in 0..rows.len() {

@@ -24,17 +24,27 @@ pub(crate) fn program(alloc: Global) -> Option<Core> {
     core_of(alloc, ONE_OBJECT)
 }
 
-/// What a judge says of two pieces.
+// Whether a fault that a call answers is answered by the next one too.
+fn keeps(before: &Result<(), StreamFault>, after: &Result<(), StreamFault>) -> bool {
+    before.is_ok() || *after == *before
+}
+
+/// What a judge says of two pieces in the end, if each fault that it answers to a piece is answered from then on.
 pub(crate) fn judge_pieces(
     alloc: Global,
     core: &Core,
     first: &[u8],
     second: &[u8],
-) -> Result<(), StreamFault> {
+) -> Option<Result<(), StreamFault>> {
     let mut stream = Stream::start(alloc, core);
-    let _ = stream.feed(first, &mut Rules);
-    let _ = stream.feed(second, &mut Rules);
-    stream.end()
+    let of_first = stream.feed(first, &mut Rules);
+    let of_second = stream.feed(second, &mut Rules);
+    let end = stream.end();
+    if keeps(&of_first, &of_second) && keeps(&of_second, &end) {
+        Some(end)
+    } else {
+        None
+    }
 }
 
 // Whether what was asked is this node of the derivation.

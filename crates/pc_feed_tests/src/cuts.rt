@@ -12,7 +12,7 @@ use std::test::Fail;
 // Where a text is cut so that it is not accepted, if anywhere.
 fn refused_cut(alloc: Global, core: &Core, bytes: &[u8]) -> Option<usize> {
     for cut in 0..bytes.len() {
-        if judge_pieces(alloc, core, &bytes[..cut], &bytes[cut..]).is_err() {
+        if judge_pieces(alloc, core, &bytes[..cut], &bytes[cut..]) != Some(Ok(())) {
             return Some(cut);
         }
     }
@@ -122,7 +122,7 @@ const VARIANTS2: [Variant; 8] = [
 fn has_fault(alloc: Global, core: &Core, bytes: &[u8], fault: StreamFault) -> bool {
     for nth in 0..bytes.len() / 11 {
         let cut = 11 * nth;
-        if judge_pieces(alloc, core, &bytes[..cut], &bytes[cut..]) != Err(fault) {
+        if judge_pieces(alloc, core, &bytes[..cut], &bytes[cut..]) != Some(Err(fault)) {
             return false;
         }
     }
@@ -166,7 +166,7 @@ fn a_variant_of_version_2_cut_at_each_11th_byte_has_its_fault(rt: HostRuntime) {
 // What a judge says of the program's derivation in one piece.
 fn judged(alloc: Global, text: &[u8]) -> Option<Result<(), StreamFault>> {
     let core = program(alloc)?;
-    Some(judge_pieces(alloc, &core, text, b""))
+    judge_pieces(alloc, &core, text, b"")
 }
 
 #[test]

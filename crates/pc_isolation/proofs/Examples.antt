@@ -127,6 +127,7 @@ waiting_is_seen = record {
   iso_read = λ quiet. (alone cap.Iso whole (task.Get 1) quiet).iso refl whole refl 1 (touches whole false) (whole_read cap.Iso) refl;
   val_written = λ quiet. (alone cap.Val whole (task.Put 2) quiet).val refl whole refl 1 (touches whole true) (whole_written cap.Val) refl refl;
   val_read = quiet cap.Val refl whole (task.Get 1) val_alone;
+  part_inside = part_in_it;
   part_read = quiet cap.Iso refl part (task.Get 1) part_alone;
-  part_inside = λ isolated. isolated.untouched 1 0 0 part part_in_it 1 (touches part false) (part_is_read cap.Iso) refl;
+  part_touched = λ isolated. isolated.untouched 1 0 0 part part_in_it 1 (touches part false) (part_is_read cap.Iso) refl;
 }

@@ -16,7 +16,7 @@ use Rattle.pc_semantics.specs.declared.frames.Task.TheVariants as task
 use Rattle.pc_semantics.specs.Configurations.{Configuration, own_address}
 use Rattle.pc_semantics.specs.Programs.{n, program, entity, constructor_of, node_of}
 use Rattle.pc_semantics.specs.Safety.{Quiet}
-use Rattle.pc_isolation.specs.Isolated.{Isolated}
+use Rattle.pc_isolation.specs.Isolated.{Inside, Isolated}
 
 -- Class C has a field `n` declared `C ref`, and a behaviour of Main, method 1, takes a C of this capability. Node 1 reads `n`, and
 -- node 2 writes it.
@@ -51,10 +51,12 @@ about_to a t = record {
 }
 
 -- An `iso` argument that is about to be read is not let alone, nor is a `val` one that is about to be written. A `val` one that is
--- about to be read is. If a part of an `iso` argument is about to be read, the argument itself is let alone, but not what is inside.
+-- about to be read is. A part of an `iso` argument is inside it; if that is about to be read, the argument itself is let alone, but
+-- what is inside is not.
 pub record WaitingIsSeen : Type 0 where
   pub iso_read : Quiet (taking cap.Iso) (about_to whole (task.Get 1)) → ⊥
   pub val_written : Quiet (taking cap.Val) (about_to whole (task.Put 2)) → ⊥
   pub val_read : Quiet (taking cap.Val) (about_to whole (task.Get 1))
+  pub part_inside : Inside (taking cap.Iso) (about_to part (task.Get 1)) 1 0 0 part
   pub part_read : Quiet (taking cap.Iso) (about_to part (task.Get 1))
-  pub part_inside : Isolated (taking cap.Iso) (about_to part (task.Get 1)) → ⊥
+  pub part_touched : Isolated (taking cap.Iso) (about_to part (task.Get 1)) → ⊥

@@ -11,6 +11,8 @@ use std::alloc::{AllocError, Global};
 /// How a constructor came to its end.
 #[derive(Clone, Copy)]
 pub struct Ended {
+    /// How many steps there were.
+    pub steps: u32,
     /// How the last step ended.
     pub last: Outcome,
     /// Whether it is at its Return, with one value on the stack, and the slots behind its parameter hold what they are to.
@@ -44,16 +46,21 @@ fn step(alloc: Global, core: &Core, heap: &mut Heap, frame: &mut Frame) -> Optio
     }
 }
 
-// How the last step ends of those up to the Return, or to the first that does not move.
-fn last_outcome(alloc: Global, core: &Core, heap: &mut Heap, frame: &mut Frame) -> Option<Outcome> {
+// How many steps there are up to the Return, or to the first that does not move, and how the last one ends.
+fn last_outcome(
+    alloc: Global,
+    core: &Core,
+    heap: &mut Heap,
+    frame: &mut Frame,
+) -> Option<(u32, Outcome)> {
     let mut last = Outcome::Skipped;
-    for _ in 0..20_000 {
+    for before in 0..20_000 {
         if !is_inside(frame) {
-            return Some(last);
+            return Some((before, last));
         }
         last = step(alloc, core, heap, frame)?;
         if last != Outcome::Moved {
-            return Some(last);
+            return Some((before + 1, last));
         }
     }
     None
@@ -85,9 +92,13 @@ fn run(
     frame: &mut Frame,
     wanted: &[Held<'_>],
 ) -> Option<Ended> {
-    let last = last_outcome(alloc, core, heap, frame)?;
+    let (steps, last) = last_outcome(alloc, core, heap, frame)?;
     let is_done = is_at_return(frame) && slots_hold(frame, wanted);
-    Some(Ended { last, is_done })
+    Some(Ended {
+        steps,
+        last,
+        is_done,
+    })
 }
 
 // So many slots, of which the first holds an object.

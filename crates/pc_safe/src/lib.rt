@@ -5,12 +5,13 @@
 //! is named. `accepted_is_safe` does the same, and promises that the core is safe: over every list of actors no two
 //! race, waiting messages are let alone, and no step lacks anything. `derivable_is_safe` says this of every core of
 //! which some annotation is valid. `entities` of `pc_noted_receivers` is shown here too: what a valid annotation notes of receivers
-//! is held by every run.
+//! is held by every run. Both runs stop with a `SafeFault`, which is the `StepsFault` of `pc_list_steps`.
 #![tactic(auto)]
 
 mod runs;
 mod safe;
 
+pub use pc_list_steps::StepsFault as SafeFault;
 pub use pc_noted_receivers::entities;
 pub use runs::accepted_runs;
 pub use safe::{accepted_is_safe, derivable_is_safe};

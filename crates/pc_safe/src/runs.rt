@@ -8,7 +8,7 @@ ghost use Rattle.pc_list_steps.specs.Ends.{RunEnds};
 
 use pc_ann::Ann;
 use pc_core::Core;
-use pc_list_steps::{StepsFault, take_steps};
+use pc_list_steps::{StepsFault as SafeFault, take_steps};
 use pc_machine::{Machine, start};
 use pc_types::accepted_never_lacks;
 use std::alloc::Global;
@@ -27,7 +27,7 @@ pub fn accepted_runs<'p>(
     core: &'p Core,
     ann: &Ann,
     actors: &[u32],
-) -> Result<Machine<'p>, StepsFault<'p>>
+) -> Result<Machine<'p>, SafeFault<'p>>
     requires valid { Valid core.now ann.now }
     requires few { length actors.now ≤ list_limit }
 

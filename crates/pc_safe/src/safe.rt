@@ -9,7 +9,7 @@ ghost use Rattle.pc_list_steps.specs.Ends.{RunEnds};
 use crate::runs::accepted_runs;
 use pc_ann::Ann;
 use pc_core::Core;
-use pc_list_steps::StepsFault;
+use pc_list_steps::StepsFault as SafeFault;
 use pc_machine::Machine;
 use pc_regions::valid_is_safe;
 use std::alloc::Global;
@@ -28,7 +28,7 @@ pub fn accepted_is_safe<'p>(
     core: &'p Core,
     ann: &Ann,
     actors: &[u32],
-) -> Result<Machine<'p>, StepsFault<'p>>
+) -> Result<Machine<'p>, SafeFault<'p>>
     requires valid { Valid core.now ann.now }
     requires few { length actors.now ≤ list_limit }
 
