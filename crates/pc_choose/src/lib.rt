@@ -1,4 +1,4 @@
-//! Schedules that the machine chooses: for each seed a list of steps, repeatable and fair. `docs/choosing.md` says how it is
+//! Schedules that the machine chooses: for each seed a list of steps, repeatable and fair. `docs/schedules.md` says how it is
 //! chosen, `specs/Choice.antt` and `specs/Lists.antt` define it.
 //!
 //! Proved: a `Chooser` takes the step of the actor whose turn it is, and `choose` gives the list of a seed. That there is exactly one list of each seed, how long it is and how it ends, and

@@ -1,4 +1,4 @@
-//! The tokens of a source text. `docs/tokens.md` says what they are, `specs/Pieces.antt` defines it.
+//! The tokens of a source text. `docs/grammar.md` says what they are, `specs/Pieces.antt` defines it.
 //!
 //! Proved: `lex` is the token list of the definition, where there is one within the limits, and else the first fault
 //! with its byte; a text has one list or one first fault, and not both.

@@ -1,5 +1,5 @@
 //! The outcomes of a program: what the plays of some seeds print and how they end, each different one once.
-//! `docs/choosing.md` says what an outcome is.
+//! `docs/schedules.md` says what an outcome is.
 //!
 //! Proved: `outcomes` gives the table of the seeds below a count: each entry has the outcome and the steps of its first seed and
 //! the number of seeds with this outcome, every seed's outcome is in it, no two are equal, and first seeds ascend; or it names

@@ -1,5 +1,5 @@
 //! Plays: a machine that chooses its steps by a seed, from the start of a program to the end of its list.
-//! `docs/choosing.md` says what is chosen.
+//! `docs/schedules.md` says what is chosen.
 //!
 //! Proved: `play` writes what the run of the seed's list writes, with the same answers and faults as `run` of `pc_run`; it
 //! keeps no list. `play_through` takes the steps alone, and leaves the machine and how far it came.

@@ -1,6 +1,6 @@
 //! A program with a valid annotation is safe: over every list of actors no two actors race, what waits in messages is let alone,
 //! and no step lacks anything (`valid_is_safe`). The public call does nothing, and its contract is a law of `specs/Laws.antt`, in
-//! words of the machine alone; the rest stands in `proofs/`, and `docs/regions.md` tells it with pictures and examples.
+//! words of the machine alone; the rest stands in `proofs/`, and `docs/safety.md` tells it with pictures and examples.
 //!
 //! The way of the proof:
 //! - Each object is in a region, and a region stands in one way: open for an actor, held at one place, a child of another, loose,
