@@ -1,12 +1,14 @@
 """Every command and every answer on a page, run and compared.
 
-- A line of a block of code that begins with `./rcap ` is run, with what it is redirected to. It ends with status 0 and
-  says nothing on standard error, or as the comment behind it says: `# 1: the line`, or `# 1` alone.
+- A block after `<!-- file NAME -->` is written as that file, and one after `<!-- line N of NAME -->` replaces that line.
+- The lines of a block of code are run in order, if one of them begins with `./rcap ` or if it is of shell commands that make
+  files. A line that begins with `./rcap ` ends with status 0 and says nothing on standard error, or as the comment after it
+  says: `# 1: the line`, or `# 1` alone.
 - A block after `<!-- output of COMMAND -->` is what the command writes. A line `..` stands for any lines.
-- A row with a file or words, a status and a line is what the program answers. A row with a text and a source `written by`
-  a command is a source of which `check` says that text.
+- A row with a file or words, a status and a line is what the program answers. A row with a text and a source `written by` a
+  command is a source of which `check` says that text.
 
-All are run in a folder of their own, beside the examples."""
+All of a page is run in a folder of its own, beside the examples, from its first line to its last."""
 
 import os
 import pathlib
@@ -18,12 +20,18 @@ import tempfile
 import pages
 
 # How many commands the pages have at least.
-LEAST = 40
+LEAST = 120
 
 SECONDS = 600
 
-# What a command's line has behind it: the status, and the line on standard error.
+# What comes after a command on its line: the status, and the line on standard error.
 COMMENT = re.compile(r"\s+# (\d+)(?:: (.*))?$")
+
+# Commands that begin a line of a block and are not run: they build, or their words stand for others.
+NOT_RUN = re.compile(r"\./rcap (WORDS|COMMAND|--prove|--version|--help)")
+
+# Commands of a shell that a block may have besides: they make the files that the others name.
+SHELL = re.compile(r"(echo|printf|sed|head|cat|seq|:|\{) ")
 
 # What the launcher says before the program's own line.
 LAUNCHER_LINE = re.compile(r"^rcap: .*\n", re.MULTILINE)
@@ -46,6 +54,16 @@ class Folder:
         )
         line = LAUNCHER_LINE.sub("", ran.stderr.decode(errors="replace"))
         return ran.returncode, ran.stdout.decode(errors="replace"), line.rstrip("\n")
+
+    def write(self, name, lines):
+        """Writes a file."""
+        (self.path / name).write_text("\n".join(lines) + "\n")
+
+    def replace(self, name, number, line):
+        """Replaces a line of a file."""
+        lines = (self.path / name).read_text().splitlines()
+        lines[number - 1] = line
+        self.write(name, lines)
 
     def close(self):
         shutil.rmtree(self.path, ignore_errors=True)
@@ -72,21 +90,29 @@ def run_line(folder, line):
     return None
 
 
-def run_blocks(page, folder, results):
-    """Runs the commands of a page's blocks, and returns how many they are."""
+def run_block(block, where, folder, results):
+    """Runs a block of a page, and returns how many commands it has."""
+    if block.mark == "file":
+        folder.write(block.said, block.lines)
+        return 0
+    if block.mark == "line":
+        number, name = block.said.split(" of ")
+        results.check(len(block.lines) == 1, f"{where}: one line", len(block.lines))
+        folder.replace(name, int(number), block.lines[0])
+        return 0
+    if block.mark == "output":
+        status, out, error = folder.run(block.said)
+        is_right = status == 0 and is_like(block.lines, out.splitlines())
+        results.check(is_right, f"{where}: output of {block.said}", f"status {status}: {error} {out[:400]}")
+        return 1
+    if not all(line == "" or line.startswith("./rcap ") or SHELL.match(line) for line in block.lines):
+        return 0
     ran = 0
-    for block in pages.blocks(page):
-        where = f"{page.name}:{block.line}"
-        if block.output_of:
-            _, out, _ = folder.run(block.output_of)
+    for line in block.lines:
+        if line and not NOT_RUN.match(line):
+            wrong = run_line(folder, line)
             ran += 1
-            results.check(is_like(block.lines, out.splitlines()), f"{where}: output of {block.output_of}", out[:400])
-            continue
-        for line in block.lines:
-            if line.startswith("./rcap ") and not re.match(r"\./rcap (WORDS|COMMAND|--prove)", line):
-                wrong = run_line(folder, line)
-                ran += 1
-                results.check(wrong is None, f"{where}: {line}", wrong)
+            results.check(wrong is None, f"{where}: {line}", wrong)
     return ran
 
 
@@ -99,16 +125,15 @@ def run_row(row, folder):
         command = words[1] if "Words" in cells else f"check {words[1]}"
         status, out, error = folder.run(f"./rcap {command}")
         wanted = WORDS.search(line)
-        seen = out.rstrip("\n") if "on standard output" in line and "with `" not in line else error
+        seen = out.rstrip("\n") if "on standard output" in line else error
         is_right = status == int(cells["Status"]) and wanted is not None and seen == wanted[1]
         return command, None if is_right else f"status {status}: {seen}"
     if words and "`check`" in cells:
-        wanted = WORDS.search(cells["`check`"])
         status, _, error = folder.run(f"./rcap check {words[1]}")
-        is_right = error == wanted[1] if cells["`check`"].startswith("`") else status == 0 and cells["`check`"].startswith("accepts")
+        is_right = status == 0 and error == "" and cells["`check`"].startswith("accepts")
         return f"check {words[1]}", None if is_right else f"status {status}: {error}"
     maker = WORDS.search(next((text for title, text in cells.items() if title.endswith("written by")), ""))
-    if maker:
+    if maker and ">" in maker[1]:
         command = maker[1].replace("\\|", "|")
         name = re.findall(r"> ?(\S+\.pony)", command)[-1]
         folder.run(command)
@@ -118,24 +143,19 @@ def run_row(row, folder):
     return None
 
 
-def run_rows(page, folder, results):
-    """Runs what the rows of a page's tables say, and returns how many commands they are."""
-    ran = 0
-    for row in pages.rows(page):
-        said = run_row(row, folder)
-        if said is not None:
-            ran += 1
-            results.check(said[1] is None, f"{page.name}:{row.line}: {said[0]}", said[1])
-    return ran
-
-
 def run(found, results):
     """Runs all commands of the pages, and returns how many they are."""
     ran = 0
     for page in found:
         folder = Folder()
         try:
-            ran += run_blocks(page, folder, results) + run_rows(page, folder, results)
+            for block in pages.blocks(page):
+                ran += run_block(block, f"{page.name}:{block.line}", folder, results)
+            for row in pages.rows(page):
+                said = run_row(row, folder)
+                if said is not None:
+                    ran += 1
+                    results.check(said[1] is None, f"{page.name}:{row.line}: {said[0]}", said[1])
         finally:
             folder.close()
     return ran

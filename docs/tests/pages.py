@@ -1,4 +1,4 @@
-"""The pages, and what is in them: blocks of code with the line before them, and the rows of tables."""
+"""The pages, and what is in them: blocks of code with the comment before them, and the rows of tables."""
 
 import dataclasses
 import pathlib
@@ -6,17 +6,22 @@ import re
 
 TOP = pathlib.Path(__file__).resolve().parents[2]
 
-# A comment that says of the block after it which command writes it.
-OUTPUT_OF = re.compile(r"<!-- output of (.*\S) -->$")
+# What a comment says of the block after it: which command writes it, that it is a file, or that it is a line of a file.
+MARKS = {
+    "output": re.compile(r"<!-- output of (.*\S) -->$"),
+    "file": re.compile(r"<!-- file (\S+) -->$"),
+    "line": re.compile(r"<!-- line (\d+ of \S+) -->$"),
+}
 
 
 @dataclasses.dataclass
 class Block:
-    """A block of code: the number of its first line, its lines, and the command whose output it is, if it is one."""
+    """A block of code: the number of its first line, its lines, and what the comment before it says of it."""
 
     line: int
     lines: list
-    output_of: str | None
+    mark: str | None
+    said: str | None
 
 
 @dataclasses.dataclass
@@ -45,31 +50,42 @@ def all_pages():
     return [Page(name, (TOP / name).read_text().splitlines()) for name in names if (TOP / name).exists()]
 
 
+def mark_of(line):
+    """What a comment says of the block after it: the mark and its words, or nothing."""
+    for mark, form in MARKS.items():
+        said = form.match(line)
+        if said:
+            return mark, said[1]
+    return None, None
+
+
 def blocks(page):
     """The blocks of code of a page, fenced and indented."""
-    found, block, output_of, fence = [], None, None, None
+    found, block, fence = [], None, None
+    mark, said = None, None
+
+    def begin(number):
+        nonlocal mark, said
+        found.append(Block(number, [], mark, said))
+        mark, said = None, None
+        return found[-1]
+
     for number, line in enumerate([*page.lines, ""], 1):
-        is_code = line.startswith("    ") and not re.match(r"\s*[-*\d]", line) or (line == "" and block is not None)
         if fence is not None:
             if line.strip() == fence:
                 fence, block = None, None
             else:
                 block.lines.append(line)
         elif line.startswith("```"):
-            fence, block = "```", Block(number + 1, [], output_of)
-            found.append(block)
-            output_of = None
-        elif line.startswith("    ") and (block is not None or is_code):
-            if block is None:
-                block = Block(number, [], output_of)
-                found.append(block)
-                output_of = None
+            fence, block = "```", begin(number + 1)
+        elif line.startswith("    ") and (block is not None or not re.match(r"\s*([-*]|\d+\.) ", line)):
+            block = block or begin(number)
             block.lines.append(line[4:])
-        elif line != "":
-            said = OUTPUT_OF.match(line)
-            block, output_of = None, said[1] if said else None
-        elif block is not None:
+        elif line == "" and block is not None:
             block.lines.append("")
+        elif line != "":
+            block = None
+            mark, said = mark_of(line)
     for it in found:
         while it.lines and it.lines[-1] == "":
             it.lines.pop()
@@ -78,7 +94,7 @@ def blocks(page):
 
 def cells_of(line):
     """The cells of a line of a table."""
-    return [it.strip() for it in re.split(r"(?<!\\)\|", line.strip().strip("|"))]
+    return [it.strip() for it in re.split(r"(?<!\\)\|", line.strip().removeprefix("|").removesuffix("|"))]
 
 
 def rows(page):
@@ -92,3 +108,8 @@ def rows(page):
         elif not re.fullmatch(r"[|\s:-]+", line):
             found.append(Row(number, dict(zip(titles, cells_of(line)))))
     return found
+
+
+def table(page, *titles):
+    """The rows of the tables of a page whose columns begin with these titles."""
+    return [row for row in rows(page) if list(row.cells)[: len(titles)] == list(titles)]
