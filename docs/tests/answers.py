@@ -20,7 +20,7 @@ import tempfile
 import pages
 
 # How many commands the pages have at least.
-LEAST = 120
+LEAST = 110
 
 SECONDS = 600
 

@@ -1,30 +1,76 @@
-"""The forms of pages: their lengths and number, their links, and phrases that are not wanted."""
+"""The forms of pages: their lengths and number, their links and paths, and phrases that are not wanted."""
 
 import re
+import subprocess
 
 import pages
 
 README_LINES = 120
-PAGES = 23
+PAGES = 22
+COLUMNS = 120
 
-# What reads as translated, and what to write in its place.
+# What reads as translated, and what to write in its place. A blank in a phrase may be a line's end on the page.
 PHRASES = {
     r"\bbehind\b": "after",
     r"\bexactly where\b": "exactly when, iff",
-    r"\b(is|are|was|were|be) told\b|\btells? (its|their) bytes\b": "reported, known, named",
+    r"\btold\b|\btells? (its|their) bytes\b": "reported, known, named",
     r"\bwant of memory\b": "out of memory",
     r"\bso many\b": "the number",
-    r"\btakes? no memory\b": "does not allocate",
+    r"\b(takes? no|wants?) memory\b": "does not allocate, allocates",
     r"\bwrong bod(y|ies)\b": "mutant",
     r"\bit is so that\b|\bis so where\b": "say what happens",
     r"\bwhich is had by\b": "say how",
-    r"\bgo(es)? behind the others\b": "are appended",
     r"\bthat follow one another\b": "adjacent",
     r"\bask for a command\b": "name a command",
     r"\bno call goes wrong\b": "no call panics, overflows, truncates or misuses memory",
+    r"\bstands? (there|at|in|on|before|after|beside|alone|outside|around|nowhere|elsewhere)\b": "is",
+    r"\bas (many|often) as there are\b": "the number",
 }
 
+CODE = re.compile(r"`[^`\n]*`")
 LINK = re.compile(r"\]\(([^)#\s]*)(?:#([^)\s]*))?\)")
+
+# What is a path: a file by its ending, or anything in one of the folders at the top.
+FILE = re.compile(r"[\w./-]*\w\.(antt|rt|py|md|pony|sched|c|txt|edit)")
+IN_FOLDER = re.compile(r"(crates|bench|launcher|tools|docs|examples)/[\w./-]*")
+DEFINITIONS = re.compile(r"(?:crates/)?(?:pc_\w+/)?specs/\w+")
+CRATE = re.compile(r"pc_\w+")
+
+# Paths that stand for any, or are made.
+NO_PATHS = re.compile(r"NAME|FILE|FUNCTION|PATH|crates/pc_cli/out|examples/nothing\.pony")
+
+
+def tracked():
+    """The files of the repository."""
+    listed = subprocess.run(["git", "ls-files", "-co", "--exclude-standard"], cwd=pages.TOP, capture_output=True, text=True, check=True)
+    return [name for name in listed.stdout.splitlines() if (pages.TOP / name).exists()]
+
+
+def made_by(page):
+    """The files that a page writes or makes."""
+    made = {block.said for block in pages.blocks(page) if block.mark == "file"}
+    return made | set(re.findall(r">> ?(\S+)|> (\S+\.\w+)", page.text()) and re.findall(r"> ?(\w[\w.-]*\.\w+)", page.text()))
+
+
+def bad_paths(page, files, crates):
+    """The paths and crates that a page names and that are not there."""
+    made, found = made_by(page), []
+    for number, line in enumerate(page.lines, 1):
+        for word in re.findall(r"`([^`]+)`", line):
+            if NO_PATHS.search(word) or word in made:
+                continue
+            if FILE.fullmatch(word) or IN_FOLDER.fullmatch(word):
+                path = word.rstrip("/")
+                is_there = any(it == path or it.endswith("/" + path) or it.startswith(path + "/") for it in files)
+            elif DEFINITIONS.fullmatch(word):
+                is_there = any(it.endswith(f"/{word}.antt") or f"/{word}/" in it for it in files)
+            elif CRATE.fullmatch(word):
+                is_there = word in crates
+            else:
+                continue
+            if not is_there:
+                found.append(f"{page.name}:{number}: {word}")
+    return found
 
 
 def anchors(page):
@@ -49,23 +95,38 @@ def bad_links(page):
     return found
 
 
-def bad_phrases(name, lines):
-    """The places of phrases that are not wanted."""
+def bad_phrases(name, text):
+    """The places of phrases that are not wanted, outside of what is in backticks."""
+    prose = CODE.sub(lambda code: "`" + " " * (len(code[0]) - 2) + "`", text)
     found = []
-    for number, line in enumerate(lines, 1):
-        for phrase, better in PHRASES.items():
-            for said in re.finditer(phrase, line, re.IGNORECASE):
-                found.append(f"{name}:{number}: {said[0]!r} ({better})")
+    for phrase, better in PHRASES.items():
+        for said in re.finditer(phrase.replace(" ", r"\s+"), prose, re.IGNORECASE):
+            found.append(f"{name}:{prose.count(chr(10), 0, said.start()) + 1}: {said[0]!r} ({better})")
     return found
+
+
+def long_lines(page):
+    """The lines of prose of a page that are longer than a screen is wide: none of a table, of code, or with a link."""
+    code = {block.line + at for block in pages.blocks(page) for at in range(len(block.lines))}
+    return [
+        number
+        for number, line in enumerate(page.lines, 1)
+        if len(line) > COLUMNS and number not in code and not line.startswith(("|", "<!--", "#")) and "](" not in line and "`" not in line
+    ]
 
 
 def look(found, results):
     """Looks at each page by itself."""
+    files = tracked()
+    crates = {line.split(":")[0].strip() for line in (pages.TOP / "crates.txt").read_text().splitlines()}
     for page in found:
-        links = bad_links(page)
-        results.check(not links, f"{page.name}: links", ", ".join(links))
-        phrases = bad_phrases(page.name, page.lines)
-        results.check(not phrases, f"{page.name}: phrases", "; ".join(phrases))
+        for what, bad in (
+            ("links", bad_links(page)),
+            ("paths", bad_paths(page, files, crates)),
+            ("phrases", bad_phrases(page.name, page.text())),
+            ("lines are wrapped", long_lines(page)),
+        ):
+            results.check(not bad, f"{page.name}: {what}", "; ".join(map(str, bad)))
 
 
 def look_at_all(found, results):
@@ -74,8 +135,7 @@ def look_at_all(found, results):
     results.check(len(readme.lines) <= README_LINES, f"README.md: at most {README_LINES} lines", len(readme.lines))
     docs = [it for it in found if it.name.startswith("docs/")]
     results.check(len(docs) <= PAGES, f"docs: at most {PAGES} pages", len(docs))
-    help_text = (pages.TOP / "launcher" / "help.txt").read_text().splitlines()
-    phrases = bad_phrases("launcher/help.txt", help_text)
+    phrases = bad_phrases("launcher/help.txt", (pages.TOP / "launcher" / "help.txt").read_text())
     results.check(not phrases, "launcher/help.txt: phrases", "; ".join(phrases))
     linked = {path.split("/")[-1] for path, _ in LINK.findall(readme.text())}
     missing = [it.name for it in docs if it.name.split("/")[-1] not in linked]
