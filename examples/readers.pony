@@ -1,5 +1,5 @@
-// Two actors that read one object and write what they read. Which of their steps may change places is told in
-// docs/swapping.md.
+// Two actors that read one object and write what they read. Which of their steps may be exchanged is said in
+// docs/steps.md.
 class C
   let n: U64 = 5
 

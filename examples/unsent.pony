@@ -1,5 +1,5 @@
-// A post office: letters go through a desk, and nobody ever asks the desk to stop. What `sends` tells of it stands in
-// docs/sends.md.
+// A post office: letters go through a desk, and nobody ever asks the desk to stop. What `sends` reports of it is in
+// docs/steps.md.
 interface tag Reader
   be letter(text: String)
 

@@ -36,6 +36,9 @@ IN_FOLDER = re.compile(r"(crates|bench|launcher|tools|docs|examples)/[\w./-]*")
 DEFINITIONS = re.compile(r"(?:crates/)?(?:pc_\w+/)?specs/\w+")
 CRATE = re.compile(r"pc_\w+")
 
+# Where comments cite pages.
+CITING = ("bench/", "examples/", "launcher/", "tools/")
+
 # Paths that stand for any, or are made.
 NO_PATHS = re.compile(r"NAME|FILE|FUNCTION|PATH|crates/pc_cli/out|examples/nothing\.pony")
 
@@ -48,8 +51,8 @@ def tracked():
 
 def made_by(page):
     """The files that a page writes or makes."""
-    made = {block.said for block in pages.blocks(page) if block.mark == "file"}
-    return made | set(re.findall(r">> ?(\S+)|> (\S+\.\w+)", page.text()) and re.findall(r"> ?(\w[\w.-]*\.\w+)", page.text()))
+    written = {block.said for block in pages.blocks(page) if block.mark == "file"}
+    return written | set(re.findall(r"> ?(\w[\w-]*\.\w+)", page.text()))
 
 
 def bad_paths(page, files, crates):
@@ -115,6 +118,17 @@ def long_lines(page):
     ]
 
 
+def bad_citations(files):
+    """The pages that comments cite and that are not there."""
+    found = []
+    for name in files:
+        if name.startswith(CITING):
+            for page in re.findall(r"docs/[\w-]+\.md", (pages.TOP / name).read_text(errors="replace")):
+                if page not in files:
+                    found.append(f"{name}: {page}")
+    return found
+
+
 def look(found, results):
     """Looks at each page by itself."""
     files = tracked()
@@ -137,6 +151,8 @@ def look_at_all(found, results):
     results.check(len(docs) <= PAGES, f"docs: at most {PAGES} pages", len(docs))
     phrases = bad_phrases("launcher/help.txt", (pages.TOP / "launcher" / "help.txt").read_text())
     results.check(not phrases, "launcher/help.txt: phrases", "; ".join(phrases))
+    cited = bad_citations(tracked())
+    results.check(not cited, "pages that comments cite", "; ".join(cited))
     linked = {path.split("/")[-1] for path, _ in LINK.findall(readme.text())}
     missing = [it.name for it in docs if it.name.split("/")[-1] not in linked]
     results.check(not missing, "README.md links to each page", ", ".join(missing))
