@@ -1,7 +1,8 @@
-"""The forms of pages: their lengths and number, their links and paths, and phrases that are not wanted."""
+"""The forms of pages: their lengths and number, their links, paths and names, and phrases that are not wanted."""
 
+import os
+import pathlib
 import re
-import subprocess
 
 import pages
 
@@ -36,6 +37,15 @@ IN_FOLDER = re.compile(r"(crates|bench|launcher|tools|docs|examples)/[\w./-]*")
 DEFINITIONS = re.compile(r"(?:crates/)?(?:pc_\w+/)?specs/\w+")
 CRATE = re.compile(r"pc_\w+")
 
+# A name of a definition, a type or a function: with `_`, or with a capital letter.
+NAME = re.compile(r"[A-Za-z]\w*(?:_\w+|[a-z][A-Z]\w*)|[A-Z][a-z]\w+")
+
+# Names of the language that are not here, and of programs that are made.
+OTHER_NAMES = {"Array", "Work3"}
+
+# Folders of what is built and kept.
+NO_FOLDERS = {".git", "__pycache__", "out"}
+
 # Where comments cite pages.
 CITING = ("bench/", "examples/", "launcher/", "tools/")
 
@@ -43,16 +53,35 @@ CITING = ("bench/", "examples/", "launcher/", "tools/")
 NO_PATHS = re.compile(r"NAME|FILE|FUNCTION|PATH|crates/pc_cli/out|examples/nothing\.pony")
 
 
-def tracked():
-    """The files of the repository."""
-    listed = subprocess.run(["git", "ls-files", "-co", "--exclude-standard"], cwd=pages.TOP, capture_output=True, text=True, check=True)
-    return [name for name in listed.stdout.splitlines() if (pages.TOP / name).exists()]
+def all_files():
+    """The files of the repository, without what is built."""
+    found = []
+    for folder, folders, names in os.walk(pages.TOP):
+        folders[:] = sorted(set(folders) - NO_FOLDERS)
+        found += [str((pathlib.Path(folder) / name).relative_to(pages.TOP)) for name in names]
+    return found
 
 
 def made_by(page):
     """The files that a page writes or makes."""
     written = {block.said for block in pages.blocks(page) if block.mark == "file"}
     return written | set(re.findall(r"> ?(\w[\w-]*\.\w+)", page.text()))
+
+
+def words_of(files):
+    """All words of the files that are no pages."""
+    texts = ((pages.TOP / name).read_text(errors="replace") for name in files if not name.endswith(".md"))
+    return {word for text in texts for word in re.findall(r"\w+", text)}
+
+
+def bad_names(page, words):
+    """The names on a page that nothing has."""
+    return [
+        f"{page.name}:{number}: {name}"
+        for number, line in enumerate(page.lines, 1)
+        for name in re.findall(r"`(?:\w+::)?(\w+)`", line)
+        if NAME.fullmatch(name) and name not in words and name not in OTHER_NAMES
+    ]
 
 
 def bad_paths(page, files, crates):
@@ -131,12 +160,14 @@ def bad_citations(files):
 
 def look(found, results):
     """Looks at each page by itself."""
-    files = tracked()
+    files = all_files()
+    words = words_of(files)
     crates = {line.split(":")[0].strip() for line in (pages.TOP / "crates.txt").read_text().splitlines()}
     for page in found:
         for what, bad in (
             ("links", bad_links(page)),
             ("paths", bad_paths(page, files, crates)),
+            ("names", bad_names(page, words)),
             ("phrases", bad_phrases(page.name, page.text())),
             ("lines are wrapped", long_lines(page)),
         ):
@@ -151,7 +182,7 @@ def look_at_all(found, results):
     results.check(len(docs) <= PAGES, f"docs: at most {PAGES} pages", len(docs))
     phrases = bad_phrases("launcher/help.txt", (pages.TOP / "launcher" / "help.txt").read_text())
     results.check(not phrases, "launcher/help.txt: phrases", "; ".join(phrases))
-    cited = bad_citations(tracked())
+    cited = bad_citations(all_files())
     results.check(not cited, "pages that comments cite", "; ".join(cited))
     linked = {path.split("/")[-1] for path, _ in LINK.findall(readme.text())}
     missing = [it.name for it in docs if it.name.split("/")[-1] not in linked]
