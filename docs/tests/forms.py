@@ -162,7 +162,7 @@ def look(found, results):
     """Looks at each page by itself."""
     files = all_files()
     words = words_of(files)
-    crates = {line.split(":")[0].strip() for line in (pages.TOP / "crates.txt").read_text().splitlines()}
+    crates = {name.split("/")[1] for name in files if re.match(r"crates/pc_\w+/", name)}
     for page in found:
         for what, bad in (
             ("links", bad_links(page)),
@@ -182,6 +182,10 @@ def look_at_all(found, results):
     results.check(len(docs) <= PAGES, f"docs: at most {PAGES} pages", len(docs))
     phrases = bad_phrases("launcher/help.txt", (pages.TOP / "launcher" / "help.txt").read_text())
     results.check(not phrases, "launcher/help.txt: phrases", "; ".join(phrases))
+    crates = next(it for it in found if it.name == "crates/README.md")
+    lines = (pages.TOP / "crates.txt").read_text().splitlines()
+    unnamed = [name for name in (line.split(":")[0] for line in lines if ":" in line) if f"`{name}`" not in crates.text()]
+    results.check(not unnamed, "crates/README.md names each crate", ", ".join(unnamed))
     cited = bad_citations(all_files())
     results.check(not cited, "pages that comments cite", "; ".join(cited))
     linked = {path.split("/")[-1] for path, _ in LINK.findall(readme.text())}
