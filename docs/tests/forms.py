@@ -40,8 +40,8 @@ CRATE = re.compile(r"pc_\w+")
 # A name of a definition, a type or a function: with `_`, or with a capital letter.
 NAME = re.compile(r"[A-Za-z]\w*(?:_\w+|[a-z][A-Z]\w*)|[A-Z][a-z]\w+")
 
-# Names of the language that are not here, and of programs that are made.
-OTHER_NAMES = {"Array", "Work3"}
+# Names of the language that are not here, of programs that are made, and of tools.
+OTHER_NAMES = {"Array", "Work3", "callgrind_annotate"}
 
 # Folders of what is built and kept.
 NO_FOLDERS = {".git", "__pycache__", "out"}
@@ -184,7 +184,7 @@ def look_at_all(found, results):
     results.check(not phrases, "launcher/help.txt: phrases", "; ".join(phrases))
     crates = next(it for it in found if it.name == "crates/README.md")
     lines = (pages.TOP / "crates.txt").read_text().splitlines()
-    unnamed = [name for name in (line.split(":")[0] for line in lines if ":" in line) if f"`{name}`" not in crates.text()]
+    unnamed = [name for name in (line.split(":")[0] for line in lines if line.startswith("pc_")) if f"`{name}`" not in crates.text()]
     results.check(not unnamed, "crates/README.md names each crate", ", ".join(unnamed))
     cited = bad_citations(all_files())
     results.check(not cited, "pages that comments cite", "; ".join(cited))
