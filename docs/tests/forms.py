@@ -47,7 +47,7 @@ OTHER_NAMES = {"Array", "Work3", "callgrind_annotate"}
 NO_FOLDERS = {".git", "__pycache__", "out"}
 
 # Where comments cite pages.
-CITING = ("bench/", "examples/", "launcher/", "tools/")
+CITING = ("bench/", "crates/", "examples/", "launcher/", "tools/")
 
 # Paths that stand for any, or are made.
 NO_PATHS = re.compile(r"NAME|FILE|FUNCTION|PATH|crates/pc_cli/out|examples/nothing\.pony")
@@ -69,9 +69,10 @@ def made_by(page):
 
 
 def words_of(files):
-    """All words of the files that are no pages."""
+    """All words of the files that are no pages, and the names of mutants."""
     texts = ((pages.TOP / name).read_text(errors="replace") for name in files if not name.endswith(".md"))
-    return {word for text in texts for word in re.findall(r"\w+", text)}
+    words = {word for text in texts for word in re.findall(r"\w+", text)}
+    return words | {pathlib.Path(name).stem for name in files if name.endswith(".edit")}
 
 
 def bad_names(page, words):
