@@ -1,0 +1,29 @@
+-- What a command answers where no file or sink fails and memory suffices.
+use Rattle.std.specs.Prelude.{ℕ, ◌≡◌, ◌⊎◌, [], ◌++◌}
+use Rattle.pc_lists.specs.Texts.{Text}
+
+-- The exit status, the text on out and the line on err.
+pub record Verdict : Type 0 where
+  pub status : ℕ
+  pub out : Text
+  pub err : Text
+
+-- Done, with this text on out.
+abbrev pub done : Text → Verdict
+done text = record { status = 0; out = text; err = [] }
+
+-- Refused, with this line on err and nothing on out.
+abbrev pub refused : ℕ → Text → Verdict
+refused status line = record { status = status; out = []; err = line }
+
+-- Stopped, with this text on out and this line on err.
+abbrev pub stopped : ℕ → Text → Text → Verdict
+stopped status text line = record { status = status; out = text; err = line }
+
+-- The same, with this text first on out.
+abbrev pub headed : Text → Verdict → Verdict
+headed text v = record { status = v.status; out = text ++ v.out; err = v.err }
+
+-- The status of a command that went through all its stages: 0, or 12 where a text ended the run.
+abbrev pub IsAccepting : ℕ → Type 0
+IsAccepting status = (status ≡ 0) ⊎ (status ≡ 12)
