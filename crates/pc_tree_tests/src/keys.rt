@@ -15,7 +15,7 @@ const TEXTS: [&[u8]; 23] = [
     b"class C fun m() => this.a?",
     b"class C let f: U64 = this.a?",
     b"class C fun m() => let a: U64 = this.a?",
-    b"class C fun m() => 0 this.a?",
+    b"class C fun m() => 0; this.a?",
     b"class C fun m() => not this.a?",
     b"class C fun m() => 1 + this.a?",
     b"class C fun m() => this.a?.b",
