@@ -1,55 +1,33 @@
--- From what the inference answers to the stages of a source.
-use Rattle.std.proofs.Common.{◌≡◌, ◌≤◌, ℕ, List, length, Some, Ok, Err, refl, sym, subst, arith}
+-- What the stages of a source give: its core, and that the core fits together.
+use Rattle.std.proofs.Common.{◌≡◌, ◌≤◌, ℕ, List, length, Ok, refl, sym, subst, arith}
 use Rattle.pc_core.specs.CoreData.{CoreData}
-use Rattle.pc_check.specs.Faults.{Refuses}
-use Rattle.pc_check.specs.declared.fault.CheckFault.{CheckFault}
-use Rattle.pc_check.specs.declared.fault.CheckFault.TheVariants as fault
+use Rattle.pc_core.specs.Formed.{Formed}
 use Rattle.pc_ann.specs.declared.annotation.Ann.{Ann}
-use Rattle.pc_rules.specs.Valid.{Valid}
 use Rattle.pc_deriv.specs.Faults.{IsText}
 use Rattle.pc_deriv.specs.Limits.{slot_limit, node_limit}
 use Rattle.pc_deriv.specs.Text.{deriv_text}
 use Rattle.pc_deriv.specs.declared.version.Version.TheVariants as version
-use Rattle.pc_core.specs.Formed.{Formed}
-use Rattle.pc_run.specs.Ends.{NeverLacks}
-use Rattle.pc_types.specs.Laws.{AcceptedNeverLacks}
-use Rattle.pc_text_order.specs.Laws.{TokensAscend}
 use Rattle.pc_elab.specs.Cores.{CoresAreFormed as FilesAreFormed}
-use Rattle.pc_top.specs.After.After.{goes}
-use Rattle.pc_top.specs.Accepting.{AcceptedStage, Typing}
-use Rattle.pc_top.specs.Accepting.Typing.{typed, declared, no_rule, unset}
+use Rattle.pc_text_order.specs.Laws.{TokensAscend}
+use Rattle.pc_regions.specs.Laws.{ValidIsSafe}
+use Rattle.pc_rules.specs.Valid.{Valid}
+use Rattle.pc_run.specs.Ends.{NeverLacks}
+use Rattle.pc_semantics.specs.Safety.{Safe}
+use Rattle.pc_types.specs.Laws.{AcceptedNeverLacks}
 use Rattle.pc_lists.specs.Texts.{Text}
-use Rattle.pc_top.specs.CoreFaults.{IsCoreRefusal, IsSmall, node_start}
-use Rattle.pc_top.specs.CoreOf.{CoreOf, CoresAreFormed}
-use Rattle.pc_top.specs.Named.{Reading, whole, longer}
-use Rattle.pc_top.specs.Source.{SourceStage}
-use Rattle.pc_top.specs.Source.Length.{fits}
-use Rattle.pc_top.specs.Source.Lexing.{lexed}
-use Rattle.pc_top.specs.Source.Parsing.{parsed}
-use Rattle.pc_top.specs.Source.Elaborating.{elaborated}
-use Rattle.pc_top.specs.Source.TextStage.{has_core}
-use Rattle.pc_top.specs.Stages.{StageStops}
-use Rattle.pc_top.specs.Verdict.{refused}
-use Rattle.pc_top.specs.declared.accepting.Accepted.{Accepted}
-use Rattle.pc_top.specs.declared.source.Source.{Source}
-use Rattle.pc_top.specs.declared.stop.Stop.{Stop}
-use Rattle.pc_top.specs.declared.stop.Stop.TheVariants.{Refused, File, Sink, Memory}
-
-refused_at : (name : Text) (source : Source) (f : CheckFault) (status : ℕ) (line : Text) → Refuses source.core f → IsCoreRefusal name source f (Refused status line)
-    → Typing name source (Err (refused status line))
-refused_at name source (fault.Decl d) status line r h = rw (h.1, h.2) (declared d r)
-refused_at name source (fault.NoRule n l s ann) status line r h =
-    let at : node_start (Some r.0.at) ≡ r.0.at.span.start = refl in
-    rw (h.1, h.2, r.0.is_at) (no_rule ann n r.0)
-refused_at name source (fault.Unset m ann) status line r h = rw (h.1, h.2, r.0.is_method) (unset ann m r.0)
-refused_at name source fault.Memory status line r h = absurd (h.0 refl)
-
--- where the inference stops
-pub core_stops : (name : Text) (source : Source) (f : CheckFault) (s : Stop) → Refuses source.core f → IsCoreRefusal name source f s → StageStops (Typing name source) s
-core_stops name source f (Refused status line) r h = refused_at name source f status line r h
-core_stops name source f (File n) r h = h
-core_stops name source f Sink r h = h
-core_stops name source f Memory r h = tt
+use Rattle.pc_refusals.specs.Accepting.{AcceptedStage, Typing}
+use Rattle.pc_refusals.specs.Accepting.Typing.{typed}
+use Rattle.pc_refusals.specs.After.After.{goes}
+use Rattle.pc_refusals.specs.Named.{Reading, whole, longer}
+use Rattle.pc_refusals.specs.Source.{SourceStage}
+use Rattle.pc_refusals.specs.Source.Length.{fits}
+use Rattle.pc_refusals.specs.Source.Lexing.{lexed}
+use Rattle.pc_refusals.specs.Source.Parsing.{parsed}
+use Rattle.pc_refusals.specs.Source.Elaborating.{elaborated}
+use Rattle.pc_refusals.specs.Source.TextStage.{has_core}
+use Rattle.pc_refusals.specs.declared.source.Source.{Source}
+use Rattle.pc_refusals.specs.declared.typing.Accepted.{Accepted}
+use Rattle.pc_top.specs.CoreOf.{CoreOf, CoresAreFormed, IsSmall}
 
 -- a source that all stages let pass
 pub source_says : {name : Text} {r : Reading} {s : Source} → SourceStage name r (Ok s) → (r ≡ whole s.bytes) × CoreOf s.bytes s.core
@@ -89,6 +67,12 @@ pub accepted_lacks_nothing : CoresAreFormed → AcceptedNeverLacks → {name : T
 accepted_lacks_nothing formed never {a = a} h =
     let s = accepted_source h in
     never a.source.core a.ann (source_formed formed s.0).0 s.1
+
+-- It is safe.
+pub accepted_core_safe : CoresAreFormed → ValidIsSafe → {name : Text} {r : Reading} {a : Accepted} → AcceptedStage name r (Ok a) → Safe a.source.core
+accepted_core_safe formed safe {a = a} h =
+    let s = accepted_source h in
+    safe a.source.core a.ann (source_formed formed s.0).0 s.1
 
 -- A small core has small annotations.
 pub small_notes : (core : CoreData) (ann : Ann) → IsSmall core → Valid core ann → (length ann.slots ≤ slot_limit) × (length ann.notes ≤ node_limit)

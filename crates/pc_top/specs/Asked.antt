@@ -2,34 +2,12 @@
 use Rattle.std.specs.Prelude.{ℕ, ◌≡◌, Option, Some, None, List, IfSome, IsTrue}
 use Rattle.pc_args.specs.Numbers.{IsSeed, IsSize}
 use Rattle.pc_lists.specs.Texts.{Text}
-use Rattle.pc_args.specs.Asked.{Asked, check, judge, run, show, make, swap, trace, sends, upgrade, command_of}
-use Rattle.pc_top.specs.Check.{IsCheck}
-use Rattle.pc_top.specs.Commands.{files_of, infers}
+use Rattle.pc_args.specs.Asked.{Asked, make, command_of}
+use Rattle.pc_refusals.specs.Named.{Files, FailedAmong}
+use Rattle.pc_refusals.specs.Verdict.{Verdict}
+use Rattle.pc_top.specs.Commands.{IsVerdictOf, files_of, infers, source_of}
+use Rattle.pc_top.specs.Commands.Make.{made_text}
 use Rattle.pc_top.specs.CoreOf.{IsDerivable, IsUnderivable, HasSafeCore}
-use Rattle.pc_top.specs.Judge.{IsJudge}
-use Rattle.pc_top.specs.Lines.{usage_line}
-use Rattle.pc_top.specs.Make.{IsMake, made_text}
-use Rattle.pc_top.specs.Named.{Files, named, FailedAmong}
-use Rattle.pc_top.specs.Run.{IsRun}
-use Rattle.pc_top.specs.Sends.{IsSends}
-use Rattle.pc_top.specs.Show.{IsShow}
-use Rattle.pc_top.specs.Swap.{IsSwap}
-use Rattle.pc_top.specs.Trace.{IsTrace}
-use Rattle.pc_top.specs.Upgrade.{IsUpgrade}
-use Rattle.pc_top.specs.Verdict.{Verdict, refused}
-
--- Words that the command line does not take are refused with status 2.
-abbrev pub IsVerdictOf : Files → Option Asked → Verdict → Type 0
-IsVerdictOf files None v = v ≡ refused 2 usage_line
-IsVerdictOf files (Some (check source)) v = IsCheck (named files source) v
-IsVerdictOf files (Some (judge source derivation)) v = IsJudge (named files source) (named files derivation) v
-IsVerdictOf files (Some (run source schedule)) v = IsRun (named files source) (named files schedule) v
-IsVerdictOf files (Some (show source)) v = IsShow (named files source) v
-IsVerdictOf files (Some (make seed size)) v = IsMake seed size v
-IsVerdictOf files (Some (swap source schedule place)) v = IsSwap (named files source) (named files schedule) place v
-IsVerdictOf files (Some (trace source schedule)) v = IsTrace (named files source) (named files schedule) v
-IsVerdictOf files (Some (sends source)) v = IsSends (named files source) v
-IsVerdictOf files (Some (upgrade source derivation)) v = IsUpgrade (named files source) (named files derivation) v
 
 -- The verdict on the words: a status, a text on out and a line on err.
 abbrev pub IsVerdict : Files → List Text → Verdict → Type 0
@@ -49,19 +27,16 @@ FailedIn files words name = FailedOf files (command_of words) name
 abbrev pub OfMade : (Text → Type 0) → Text → Text → Type 0
 OfMade Holds seed size = (a b : ℕ) × IsSeed seed a × IsSize size b × Holds (made_text a b)
 
--- This holds of the source of a command that has to have a derivation: of a file where it is told, or of the program that the
--- command makes.
+-- This holds of what a file tells, if a command has one whose core has to have a derivation.
+abbrev pub OfFile : (Text → Type 0) → (Text → Option Text) → Option Text → Type 0
+OfFile Holds told None = Unit {0}
+OfFile Holds told (Some source) = IfSome (told source) Holds
+
+-- This holds of the source of a command that has to have a derivation: of its file where it is told, and of the program that
+-- `make` makes.
 abbrev pub OfSource : (Text → Type 0) → (Text → Option Text) → Option Asked → Type 0
 OfSource Holds told None = ⊥
-OfSource Holds told (Some (check source)) = IfSome (told source) Holds
-OfSource Holds told (Some (judge source derivation)) = IfSome (told source) Holds
-OfSource Holds told (Some (run source schedule)) = IfSome (told source) Holds
-OfSource Holds told (Some (show source)) = Unit {0}
-OfSource Holds told (Some (make seed size)) = OfMade Holds seed size
-OfSource Holds told (Some (swap source schedule place)) = IfSome (told source) Holds
-OfSource Holds told (Some (trace source schedule)) = IfSome (told source) Holds
-OfSource Holds told (Some (sends source)) = IfSome (told source) Holds
-OfSource Holds told (Some (upgrade source derivation)) = IfSome (told source) Holds
+OfSource Holds told (Some asked) = OfFile Holds told (source_of asked) × ((seed size : Text) → asked ≡ make seed size → OfMade Holds seed size)
 
 -- It has a core with a derivation.
 abbrev pub Accepts : (Text → Option Text) → List Text → Type 0

@@ -1,7 +1,44 @@
--- What each command reads.
-use Rattle.std.specs.Prelude.{Bool, true, false, List, [], ◌∷◌, Option, Some, None}
+-- What each command is: a row of each table here, and a file with its definition.
+use Rattle.std.specs.Prelude.{ℕ, ◌≡◌, ◌⊎◌, Bool, true, false, List, [], ◌∷◌, Option, Some, None, IfSome}
+use Rattle.std.specs.Io.KnownBytes.{Appends}
 use Rattle.pc_lists.specs.Texts.{Text}
 use Rattle.pc_args.specs.Asked.{Asked, check, judge, make, run, sends, show, swap, trace, upgrade}
+use Rattle.pc_args.specs.Numbers.{IsSeed, IsSize}
+use Rattle.pc_io.specs.Change.{Change}
+use Rattle.pc_refusals.specs.Lines.{usage_line}
+use Rattle.pc_refusals.specs.Named.{Files, named}
+use Rattle.pc_refusals.specs.Verdict.{Verdict, refused}
+use Rattle.pc_top.specs.Commands.Check.{IsCheck, WritesDerivation}
+use Rattle.pc_top.specs.Commands.Judge.{IsJudge, accepted_text}
+use Rattle.pc_top.specs.Commands.Make.{IsMake, WritesMade}
+use Rattle.pc_top.specs.Commands.Run.{IsRun, WritesRun}
+use Rattle.pc_top.specs.Commands.Sends.{IsSends, WritesSends}
+use Rattle.pc_top.specs.Commands.Show.{IsShow, WritesTree}
+use Rattle.pc_top.specs.Commands.Swap.{IsPlace, IsSwap, WritesSwap}
+use Rattle.pc_top.specs.Commands.Trace.{IsTrace, WritesTrace}
+use Rattle.pc_top.specs.Commands.Upgrade.{IsUpgrade, WritesUpgraded}
+pub mod Check
+pub mod Judge
+pub mod Make
+pub mod Run
+pub mod Sends
+pub mod Show
+pub mod Swap
+pub mod Trace
+pub mod Upgrade
+
+-- Its verdict. Words that the command line does not take are refused with status 2.
+abbrev pub IsVerdictOf : Files → Option Asked → Verdict → Type 0
+IsVerdictOf files None v = v ≡ refused 2 usage_line
+IsVerdictOf files (Some (check source)) v = IsCheck (named files source) v
+IsVerdictOf files (Some (judge source derivation)) v = IsJudge (named files source) (named files derivation) v
+IsVerdictOf files (Some (run source schedule)) v = IsRun (named files source) (named files schedule) v
+IsVerdictOf files (Some (show source)) v = IsShow (named files source) v
+IsVerdictOf files (Some (make seed size)) v = IsMake seed size v
+IsVerdictOf files (Some (swap source schedule place)) v = IsSwap (named files source) (named files schedule) place v
+IsVerdictOf files (Some (trace source schedule)) v = IsTrace (named files source) (named files schedule) v
+IsVerdictOf files (Some (sends source)) v = IsSends (named files source) v
+IsVerdictOf files (Some (upgrade source derivation)) v = IsUpgrade (named files source) (named files derivation) v
 
 -- The files that a command reads, in this order.
 abbrev pub files_of : Asked → List Text
@@ -38,3 +75,19 @@ infers (swap source schedule place) = true
 infers (trace source schedule) = true
 infers (sends source) = true
 infers (upgrade source derivation) = false
+
+-- What stands on out where it went through all its stages, of files that tell their bytes. `swap` and `trace` write nothing where a
+-- text ended the run.
+abbrev pub OnOutOf : (Text → Option Text) → Option Asked → Change → Type 0
+OnOutOf told None out = ⊥
+OnOutOf told (Some (check source)) out = IfSome (told source) (WritesDerivation out)
+OnOutOf told (Some (judge source derivation)) out = Appends out.before out.now accepted_text
+OnOutOf told (Some (run source schedule)) out = IfSome (told source) (λ bytes. IfSome (told schedule) (WritesRun out bytes))
+OnOutOf told (Some (show source)) out = IfSome (told source) (WritesTree out)
+OnOutOf told (Some (make seed size)) out = (a b : ℕ) × IsSeed seed a × IsSize size b × WritesMade out a b
+OnOutOf told (Some (swap source schedule place)) out =
+    IfSome (told source) (λ bytes. IfSome (told schedule) (λ text. (n : ℕ) × IsPlace place n × (WritesSwap out bytes text n ⊎ Appends out.before out.now [])))
+OnOutOf told (Some (trace source schedule)) out =
+    IfSome (told source) (λ bytes. IfSome (told schedule) (λ text. WritesTrace out bytes text ⊎ Appends out.before out.now []))
+OnOutOf told (Some (sends source)) out = IfSome (told source) (WritesSends out)
+OnOutOf told (Some (upgrade source derivation)) out = IfSome (told source) (λ bytes. IfSome (told derivation) (WritesUpgraded out bytes))

@@ -9,8 +9,8 @@ use Rattle.pc_rules.specs.Valid.{Derivable}
 use Rattle.pc_semantics.specs.Safety.{Safe}
 use Rattle.pc_token.specs.declared.kinds.Token.{Token}
 use Rattle.pc_tree.specs.Tree as t
-use Rattle.pc_top.specs.CoreFaults.{IsSmall}
-use Rattle.pc_top.specs.Source.{source_limit}
+use Rattle.pc_deriv.specs.Limits.{slot_limit, node_limit}
+use Rattle.pc_refusals.specs.Source.{source_limit}
 
 -- The core of a source: the one that stands for the file that its tokens spell. The source, the tokens and the file's levels
 -- are within their limits.
@@ -21,6 +21,10 @@ pub record CoreOf (bytes : List ℕ) (core : CoreData) : Type 0 where
   pub lexed : TokenList bytes tokens
   pub parsed : IsFileAnswer tokens (spelled file)
   pub stands : Stands file core
+
+-- The core is so small that its annotations have a text.
+abbrev pub IsSmall : CoreData → Type 0
+IsSmall core = (length core.slots ≤ slot_limit) × (length core.nodes ≤ node_limit)
 
 -- The core of a source fits together, and is so small that its annotations have a text.
 abbrev pub CoresAreFormed : Type 0

@@ -2,26 +2,18 @@
 use Rattle.std.specs.Prelude.{ℕ, ◌≡◌, ◌↔◌, Some, List, IsTrue}
 use Rattle.pc_args.specs.Numbers.{IsSeed, IsSize}
 use Rattle.pc_lists.specs.Texts.{Text}
-use Rattle.pc_args.specs.Asked.{Asked, check, judge, run, show, make, swap, trace, sends, upgrade, command_of}
+use Rattle.pc_args.specs.Asked.{Asked, check, make, swap, command_of}
 use Rattle.pc_top.specs.Asked.{IsVerdict}
 use Rattle.pc_top.specs.Commands.{infers, source_of}
 use Rattle.pc_top.specs.CoreOf.{IsDerivable, IsUnderivable}
-use Rattle.pc_top.specs.Make.{made_text}
-use Rattle.pc_top.specs.Named.{Files}
-use Rattle.pc_top.specs.Swap.{IsPlace}
-use Rattle.pc_top.specs.Verdict.{Verdict}
+use Rattle.pc_top.specs.Commands.Make.{made_text}
+use Rattle.pc_refusals.specs.Named.{Files}
+use Rattle.pc_top.specs.Commands.Swap.{IsPlace}
+use Rattle.pc_refusals.specs.Verdict.{Verdict}
 
--- The number among the words is one that the command takes. Of `make` this is said where it is spoken of.
+-- The number among the words of `swap` is one that it takes. Of `make` this is said where it is spoken of.
 abbrev pub HasNumber : Asked → Type 0
-HasNumber (check source) = Unit {0}
-HasNumber (judge source derivation) = Unit {0}
-HasNumber (run source schedule) = Unit {0}
-HasNumber (show source) = Unit {0}
-HasNumber (make seed size) = Unit {0}
-HasNumber (swap source schedule place) = (n : ℕ) × IsPlace place n
-HasNumber (trace source schedule) = Unit {0}
-HasNumber (sends source) = Unit {0}
-HasNumber (upgrade source derivation) = Unit {0}
+HasNumber asked = (source schedule place : Text) → asked ≡ swap source schedule place → (n : ℕ) × IsPlace place n
 
 -- The words ask for this, and this verdict is theirs. The source of the command tells these bytes, and no reading of it failed.
 pub record ReadsSource (files : Files) (words : List Text) (asked : Asked) (source bytes : Text) (v : Verdict) : Type 0 where

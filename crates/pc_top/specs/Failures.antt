@@ -4,12 +4,12 @@ use Rattle.std.specs.Io.KnownBytes.{Appends, Keeps}
 use Rattle.pc_lists.specs.Texts.{Text}
 use Rattle.pc_io.specs.Change.{Change}
 use Rattle.pc_io.specs.Sink.{Rose, GrowsByPrefix}
-use Rattle.pc_top.specs.Answer.{Answer}
+use Rattle.pc_refusals.specs.Answer.{Answer}
 use Rattle.pc_top.specs.Asked.{FailedIn, IsVerdict}
-use Rattle.pc_top.specs.Ends.{TellsPart}
-use Rattle.pc_top.specs.Lines.{unread_line}
-use Rattle.pc_top.specs.Named.{Files}
-use Rattle.pc_top.specs.Verdict.{Verdict}
+use Rattle.pc_refusals.specs.Ends.{TellsPart}
+use Rattle.pc_refusals.specs.Lines.{unread_line}
+use Rattle.pc_refusals.specs.Named.{Files}
+use Rattle.pc_refusals.specs.Verdict.{Verdict}
 
 -- A verdict's status is at most 8, or it is 12 or 15.
 abbrev pub NoVerdictIsAFailure : Type 0

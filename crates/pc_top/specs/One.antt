@@ -4,8 +4,8 @@ use Rattle.pc_lists.specs.Texts.{Text}
 use Rattle.pc_args.specs.Asked.{Asked, command_of}
 use Rattle.pc_top.specs.Asked.{IsVerdict}
 use Rattle.pc_top.specs.Commands.{files_of}
-use Rattle.pc_top.specs.Named.{Files, AllTold}
-use Rattle.pc_top.specs.Verdict.{Verdict}
+use Rattle.pc_refusals.specs.Named.{Files, AllTold}
+use Rattle.pc_refusals.specs.Verdict.{Verdict}
 
 -- The files that the words name tell their bytes.
 abbrev pub TellsOf : (Text → Option Text) → Option Asked → Type 0

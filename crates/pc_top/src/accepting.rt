@@ -1,24 +1,14 @@
 //! Sources whose core has a derivation: the stages of `check` but for the text, which other commands go through too.
 ghost use Rattle.std.specs.Prelude.{◌≡◌, ◌≤◌, ℕ, List as Sequence};
-ghost use Rattle.pc_top.specs.Accepting.{AcceptedStage, Typing};
-ghost use Rattle.pc_top.specs.Named.{file_at, text_as};
-ghost use Rattle.pc_top.specs.Source.{source_limit};
-ghost use Rattle.pc_top.specs.Stages.{PartEnds, StageEnds};
+ghost use Rattle.pc_refusals.specs.Accepting.{AcceptedStage};
+ghost use Rattle.pc_refusals.specs.Inner.Stages.{PartEnds};
+ghost use Rattle.pc_refusals.specs.Named.{file_at, text_as};
+ghost use Rattle.pc_refusals.specs.Source.{source_limit};
 
-use crate::core_faults::refuse_core;
-use crate::source::{Source, read_source, take_source};
-use crate::stop::Stop;
-use pc_ann::Ann;
-use pc_check::check;
+use crate::source::{read_source, take_source};
 use pc_io::{Bytes, Files};
+use pc_refusals::{Accepted, Stop, type_source};
 use std::alloc::Global;
-
-/// A source that all stages let pass, with its core's valid annotation.
-#[derive(Drop)]
-pub struct Accepted {
-    pub source: Source,
-    pub ann: Ann,
-}
 
 /// Reads the source of this name and goes through its stages, and then looks for its core's annotation.
 pub fn accept_source<F: Files>(alloc: Global, files: &mut F, name: &str) -> Result<Accepted, Stop>
@@ -36,14 +26,4 @@ pub fn accept_text(alloc: Global, name: &str, bytes: Bytes) -> Result<Accepted, 
 {
     let source = take_source(alloc, name, bytes)?;
     type_source(alloc, name, source)
-}
-
-// The source of this name, with its core's annotation.
-fn type_source(alloc: Global, name: &str, source: Source) -> Result<Accepted, Stop>
-    ensures { StageEnds (Typing name.now source) result }
-{
-    match check(alloc, &source.core) {
-        Ok(ann) => Ok(Accepted { source, ann }),
-        Err(fault) => Err(refuse_core(alloc, name, &source, &fault)),
-    }
 }

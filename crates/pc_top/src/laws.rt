@@ -5,7 +5,7 @@ ghost use Rattle.pc_top.specs.Exact.{StatusesAreExact};
 ghost use Rattle.pc_top.specs.Failures.{FailuresAreTold, NoVerdictIsAFailure};
 ghost use Rattle.pc_top.specs.OnOut.{WrittenIsAccepted};
 ghost use Rattle.pc_top.specs.One.{VerdictIsOne};
-ghost use Rattle.pc_top.specs.Sends.{TablesTell};
+ghost use Rattle.pc_top.specs.Commands.Sends.{TablesTell};
 
 use pc_check::{
     nothing_is_derivable_with_a_declaration_that_fails, nothing_is_derivable_with_a_field_unset,

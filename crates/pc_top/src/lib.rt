@@ -10,34 +10,11 @@
 #![tactic(auto)]
 
 mod accepting;
-mod check;
-mod core_faults;
-mod derivation;
-mod faults;
-mod finish;
-mod judge;
+mod commands;
 mod laws;
-mod lines;
-mod make;
-mod names;
-mod place;
-mod reading;
-mod refusal;
-mod run;
-mod schedule;
-mod sending;
-mod sent_lines;
-mod show;
+mod scheduled;
 mod source;
-mod stop;
-mod swapping;
 mod top;
-mod traced_lines;
-mod tracing;
-mod tree;
-mod upgrade;
-mod words;
-mod writing;
 
 pub use laws::{
     cores_of_sources_are_formed, derivable_sources_are_safe, failures_are_told,

@@ -1,39 +1,22 @@
-//! The source's stages, which every command goes through first: its length, its tokens, its tree and its core.
+//! The source's stages: its length, its tokens, its tree and its core.
 ghost use Rattle.std.specs.Prelude.{◌≡◌, ◌≤◌, ℕ, List as Sequence, length};
 ghost use Rattle.pc_elab.specs.Cores.{Spelled};
 ghost use Rattle.pc_lex.specs.Limits.{bytes_limit};
 ghost use Rattle.pc_tree.specs.View.{file_view};
-ghost use Rattle.pc_top.specs.Named.{file_at, text_as};
-ghost use Rattle.pc_top.specs.Source.{CoreStage, Elaborating, Lexing, SourceStage, source_limit};
-ghost use Rattle.pc_top.specs.Stages.{PartEnds, StageEnds};
+ghost use Rattle.pc_refusals.specs.Inner.Stages.{PartEnds, StageEnds};
+ghost use Rattle.pc_refusals.specs.Named.{file_at, text_as};
+ghost use Rattle.pc_refusals.specs.Source.{CoreStage, Elaborating, SourceStage, source_limit};
 
-use crate::faults::refuse_fault;
-use crate::lines::make_longer_line;
-use crate::names::refuse_name;
-use crate::reading::read_file;
-use crate::stop::Stop;
-use crate::tree::read_tree;
-use pc_caps::List;
 use pc_core::Core;
 use pc_elab::elaborate;
 use pc_io::{Bytes, Files};
-use pc_lex::lex;
 use pc_names::collect;
+use pc_refusals::{
+    SOURCE_LIMIT, Source, Stop, make_longer_line, read_file, read_tokens, read_tree, refuse_name,
+};
 use pc_text_order::tokens_are_in_order;
-use pc_token::Token;
 use pc_tree::File;
 use std::alloc::Global;
-
-/// How many bytes a source may have.
-pub const SOURCE_LIMIT: u32 = 1_048_576;
-
-/// A source that all stages let pass.
-#[derive(Drop)]
-pub struct Source {
-    /// Its bytes, in which refusals name places.
-    pub bytes: Bytes,
-    pub core: Core,
-}
 
 /// Reads the source of this name and goes through its stages.
 pub fn read_source<F: Files>(alloc: Global, files: &mut F, name: &str) -> Result<Source, Stop>
@@ -83,16 +66,5 @@ fn elaborate_tree(alloc: Global, name: &str, bytes: &[u8], file: &File) -> Resul
     match elaborate(alloc, file, &names) {
         Ok(core) => Ok(core),
         Err(fault) => Err(refuse_name(alloc, name, bytes, fault)),
-    }
-}
-
-/// The tokens of the source of this name with these bytes.
-pub fn read_tokens(alloc: Global, name: &str, bytes: &[u8]) -> Result<List<Token>, Stop>
-    requires { length bytes.now ≤ bytes_limit }
-    ensures { StageEnds (Lexing name.now bytes.now) result }
-{
-    match lex(alloc, bytes) {
-        Ok(tokens) => Ok(tokens),
-        Err(fault) => Err(refuse_fault(alloc, name, bytes, fault)),
     }
 }

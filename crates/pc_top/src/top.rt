@@ -1,34 +1,25 @@
 //! The top call.
 ghost use Rattle.std.specs.Prelude.{◌≡◌, ◌≤◌};
-ghost use Rattle.pc_top.specs.Answer.{Answer};
+ghost use Rattle.pc_refusals.specs.Answer.{Answer};
+ghost use Rattle.pc_refusals.specs.Complete.{Completes};
+ghost use Rattle.pc_refusals.specs.Inner.Answering.{Ends};
+ghost use Rattle.pc_refusals.specs.Named.{files_change};
+ghost use Rattle.pc_refusals.specs.Verdict.{IsAccepting};
 ghost use Rattle.pc_top.specs.Asked.{Accepts, FailedIn, IsMadeSafe, IsVerdict, HasNoDerivation};
 ghost use Rattle.pc_args.specs.Asked.{command_of, texts};
-ghost use Rattle.pc_top.specs.Complete.{Completes};
 ghost use Rattle.pc_io.specs.Change.{change};
-ghost use Rattle.pc_top.specs.Ends.{Ends};
-ghost use Rattle.pc_top.specs.Named.{files_change};
+ghost use Rattle.pc_top.specs.Inner.Asking.{AsksSo};
 ghost use Rattle.pc_top.specs.OnOut.{OnOut, Swaps, Traces};
-ghost use Rattle.pc_top.specs.Referee.{Asks, AsksSo};
-ghost use Rattle.pc_top.specs.Verdict.{IsAccepting};
+ghost use Rattle.pc_top.specs.Referee.{Asks};
 
-use crate::check::run_check;
-use crate::finish::finish;
-use crate::judge::run_judge;
+use crate::commands::run_command;
 use crate::laws::{
     derivable_sources_are_safe, refused_sources_have_no_derivation, tables_tell_of_every_run,
 };
-use crate::make::run_make;
-use crate::run::run_program;
-use crate::sending::run_sends;
-use crate::show::run_show;
-use crate::stop::Stop;
-use crate::swapping::run_swap;
-use crate::tracing::run_trace;
-use crate::upgrade::run_upgrade;
-use crate::words::refuse_words;
-use pc_args::{Command, WordsFault, read_words};
+use pc_args::{WordsFault, read_words};
 use pc_io::{Files, Sink};
 use pc_referee::Referee;
+use pc_refusals::{Stop, finish, refuse_words};
 use std::alloc::Global;
 
 /// Does what the words after the program's name ask for, and answers the exit status.
@@ -119,27 +110,7 @@ fn run_words<F: Files, O: Sink, R: Referee>(
     ensures asks { AsksSo (F.bytes files.old) (command_of (texts words.now)) (R.asked referee.old) (R.asked referee.new) result }
 {
     match read_words(alloc, words) {
-        Ok(Command::Check { source }) => run_check(alloc, files, out, source),
-        Ok(Command::Judge { source, derivation }) => {
-            run_judge(alloc, files, out, source, derivation, referee)
-        }
-        Ok(Command::Run { source, schedule }) => run_program(alloc, files, out, source, schedule),
-        Ok(Command::Show { source }) => run_show(alloc, files, out, source),
-        Ok(Command::Make { seed, size }) => run_make(alloc, out, seed, size),
-        Ok(
-            Command::Swap {
-                source,
-                schedule,
-                place,
-            },
-        ) => run_swap(alloc, files, out, source, schedule, place),
-        Ok(Command::Trace { source, schedule }) => {
-            run_trace(alloc, files, out, source, schedule)
-        }
-        Ok(Command::Sends { source }) => run_sends(alloc, files, out, source),
-        Ok(Command::Upgrade { source, derivation }) => {
-            run_upgrade(alloc, files, out, source, derivation)
-        }
+        Ok(command) => run_command(alloc, command, files, out, referee),
         Err(WordsFault::Refused) => Err(refuse_words(alloc)),
         Err(WordsFault::Memory) => Err(Stop::Memory),
     }

@@ -1,8 +1,8 @@
 use Rattle.std.proofs.lemmas.Result.{err_from_is_err_and}
-use Rattle.pc_top.specs.Accepting.{Typing}
-use Rattle.pc_top.specs.Named.{file_at}
-use Rattle.pc_top.specs.Source.{SourceStage, source_limit}
-use Rattle.pc_top.proofs.Parts.{ends_behind, stops_behind}
+use Rattle.pc_refusals.specs.Accepting.{Typing}
+use Rattle.pc_refusals.specs.Named.{file_at}
+use Rattle.pc_refusals.specs.Source.{SourceStage, source_limit}
+use Rattle.pc_refusals.proofs.Parts.{ends_behind, stops_behind}
 use Rattle.pc_top.proofs.accepting.accept_source.Goals as goal
 
 pub returns-in_err-source-clause-stage : goal.returns-in_err-source-clause-stage

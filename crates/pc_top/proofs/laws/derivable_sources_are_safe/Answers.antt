@@ -1,4 +1,4 @@
-use Rattle.pc_top.proofs.Accepted.{derivable_safe}
+use Rattle.pc_top.proofs.Verdicts.{derivable_safe}
 use Rattle.pc_top.proofs.laws.derivable_sources_are_safe.Goals as goal
 
 pub returns : goal.returns

@@ -13,5 +13,9 @@ returns c =
       misused = c.cores_are_one.ensures.apart;
       name_fault = c.names_are_one.ensures.fault;
       body_fault = c.cores_are_one.ensures.fault;
-    }) c.cores_of_sources_are_formed.ensures c.nothing_is_derivable_without_a_rule.ensures c.nothing_is_derivable_with_a_field_unset.ensures
-    c.nothing_is_derivable_with_a_declaration_that_fails.ensures
+    }) (record {
+      formed = c.cores_of_sources_are_formed.ensures;
+      ruleless = c.nothing_is_derivable_without_a_rule.ensures;
+      setless = c.nothing_is_derivable_with_a_field_unset.ensures;
+      failing = c.nothing_is_derivable_with_a_declaration_that_fails.ensures;
+    })

@@ -1,4 +1,4 @@
-use Rattle.pc_top.proofs.Sent.{tables_tell}
+use Rattle.pc_top.proofs.Rooms.Sends.Tells.{tables_tell}
 use Rattle.pc_top.proofs.laws.tables_tell_of_every_run.Goals as goal
 
 pub returns : goal.returns

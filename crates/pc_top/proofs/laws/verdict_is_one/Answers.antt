@@ -1,4 +1,4 @@
-use Rattle.pc_top.proofs.One.{verdict_one}
+use Rattle.pc_top.proofs.Verdicts.{verdict_one}
 use Rattle.pc_top.proofs.laws.verdict_is_one.Goals as goal
 
 pub returns : goal.returns
@@ -15,15 +15,17 @@ returns c =
         name_fault = c.names_are_one.ensures.fault;
         body_fault = c.cores_are_one.ensures.fault;
       };
-      formed = c.cores_of_sources_are_formed.ensures;
+      refusing = record {
+        formed = c.cores_of_sources_are_formed.ensures;
+        ruleless = c.nothing_is_derivable_without_a_rule.ensures;
+        setless = c.nothing_is_derivable_with_a_field_unset.ensures;
+        failing = c.nothing_is_derivable_with_a_declaration_that_fails.ensures;
+      };
       fits = c.no_fault_where_declarations_fit.ensures;
       valid = c.one_annotation_is_valid.ensures;
-      ruleless = c.nothing_is_derivable_without_a_rule.ensures;
-      setless = c.nothing_is_derivable_with_a_field_unset.ensures;
       node = c.faults_are_one.ensures.node;
       constructor = c.faults_are_one.ensures.constructor;
       kind = c.faults_are_one.ensures.kind;
-      failing = c.nothing_is_derivable_with_a_declaration_that_fails.ensures;
       annotation = c.annotations_are_one.ensures;
       text_fault = c.faults_are_one-2.ensures.one;
       apart = c.faults_are_one-2.ensures.apart;

@@ -1,5 +1,5 @@
 use Rattle.pc_tree.specs.View.{file_view}
-use Rattle.pc_top.specs.Source.Elaborating.{elaborated}
+use Rattle.pc_refusals.specs.Source.Elaborating.{elaborated}
 use Rattle.pc_top.proofs.Facts.{names_stop, members_stop}
 use Rattle.pc_top.proofs.source.elaborate_tree.Goals as goal
 

@@ -1,6 +1,7 @@
 use Rattle.std.proofs.lemmas.Result.{err_from_is_err_and}
 use Rattle.pc_tree.specs.View.{file_view}
-use Rattle.pc_top.proofs.Facts.{tokens_stop, tree_goes, tree_stops, lexed_end, tree_spelled, elaborating_ends}
+use Rattle.pc_refusals.proofs.Spelling.{lexed_end}
+use Rattle.pc_top.proofs.Facts.{tokens_stop, tree_goes, tree_stops, tree_spelled, elaborating_ends}
 use Rattle.pc_top.proofs.source.read_core.Goals as goal
 
 pub returns-in_err-tokens : goal.returns-in_err-tokens

@@ -1,10 +1,10 @@
 use Rattle.std.proofs.lemmas.Result.{err_from_is_err_and}
-use Rattle.pc_top.specs.After.After.{stops}
-use Rattle.pc_top.specs.Named.{file_at}
-use Rattle.pc_top.specs.Source.{SourceStage, source_limit}
-use Rattle.pc_top.specs.Source.Length.{is_longer}
+use Rattle.pc_refusals.specs.After.After.{stops}
+use Rattle.pc_refusals.specs.Named.{file_at}
+use Rattle.pc_refusals.specs.Source.{SourceStage, source_limit}
+use Rattle.pc_refusals.specs.Source.Length.{is_longer}
 use Rattle.pc_top.proofs.Facts.{core_given, core_stopped}
-use Rattle.pc_top.proofs.Parts.{not_read}
+use Rattle.pc_refusals.proofs.Parts.{not_read}
 use Rattle.pc_top.proofs.source.read_source.Goals as goal
 
 pub returns-in_err-bytes-clause-stage : goal.returns-in_err-bytes-clause-stage

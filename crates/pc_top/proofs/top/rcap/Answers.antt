@@ -1,14 +1,10 @@
-use Rattle.pc_top.specs.Asked.{IsVerdict, FailedIn}
 use Rattle.pc_args.specs.Asked.{command_of, texts}
 use Rattle.pc_io.specs.Change.{change}
-use Rattle.pc_top.specs.Named.{files_change}
-use Rattle.pc_top.proofs.Accepted.{accepted_safe, answer_accepts}
-use Rattle.pc_top.proofs.Answers.{answer_of, completes}
-use Rattle.pc_top.proofs.Refereed.{asks_answer}
-use Rattle.pc_top.proofs.Refused.{answer_refuses}
-use Rattle.pc_top.proofs.Swaps.{answer_swaps}
-use Rattle.pc_top.proofs.Written.{answer_writes}
-use Rattle.pc_top.proofs.Accesses.{answer_traces}
+use Rattle.pc_refusals.specs.Named.{files_change}
+use Rattle.pc_refusals.proofs.Answers.{answer_of, completes}
+use Rattle.pc_top.specs.Asked.{IsVerdict, FailedIn}
+use Rattle.pc_top.proofs.Asking.{asks_answer}
+use Rattle.pc_top.proofs.Verdicts.{accepted_safe, answer_accepts, answer_refuses, answer_swaps, answer_traces, answer_writes}
 use Rattle.pc_top.proofs.top.rcap.Goals as goal
 
 pub returns-clause-answers : goal.returns-clause-answers
@@ -39,7 +35,7 @@ returns-clause-writes g c =
     let files = files_change (g.F.Files.bytes c.args.files.now) (g.F.Files.faults c.args.files.now) (g.F.Files.faults c.run_words-ended.new.files) (g.F.Files.taken c.run_words-ended.new.files) in
     let out = change (g.O.Sink.written c.args.out.now) (g.O.Sink.written c.run_words-ended.new.out) (g.O.Sink.faults c.args.out.now) (g.O.Sink.faults c.run_words-ended.new.out) in
     let err = change (g.E.Sink.written c.args.err.now) (g.E.Sink.written c.finish.new.err) (g.E.Sink.faults c.args.err.now) (g.E.Sink.faults c.finish.new.err) in
-    answer_writes c.tables_tell_of_every_run.ensures files (texts c.args.words.now) out err _ (returns-clause-answers g c)
+    answer_writes files (texts c.args.words.now) out err _ (returns-clause-answers g c) c.tables_tell_of_every_run.ensures
 
 pub returns-clause-swaps : goal.returns-clause-swaps
 returns-clause-swaps g c =

@@ -1,0 +1,15 @@
+pub mod Answers
+pub mod Derivations
+pub mod Ending
+pub mod Judged
+pub mod LastStages
+pub mod Lengths
+pub mod OneSource
+pub mod Parts
+pub mod Places
+pub mod Scheduled
+pub mod Spelling
+pub mod Statuses
+pub mod Stops
+pub mod TwoFiles
+pub mod Typed

@@ -1,0 +1,19 @@
+-- From what the reading of a schedule answers to its stages.
+use Rattle.std.proofs.Common.{◌≡◌, ◌≤◌, List, Ok, refl}
+use Rattle.pc_sched.specs.Limits.{turn_limit}
+use Rattle.pc_sched.specs.Schedules.{TurnList, total}
+use Rattle.pc_sched.specs.declared.turns.Turn.{Turn}
+use Rattle.pc_lists.specs.Texts.{Text}
+use Rattle.pc_refusals.specs.After.After.{goes}
+use Rattle.pc_refusals.specs.Named.{Reading, whole}
+use Rattle.pc_refusals.specs.Schedule.{ScheduleStage}
+use Rattle.pc_refusals.specs.Schedule.Scheduling.{scheduled}
+use Rattle.pc_refusals.specs.Source.Length.{fits}
+
+-- The schedule was read whole, and its words are these turns.
+pub schedule_says : {name : Text} {r : Reading} {turns : List Turn} → ScheduleStage name r (Ok turns) → (bytes : Text) × (r ≡ whole bytes) × TurnList bytes turns
+schedule_says (goes (fits {bytes = b} l) (scheduled t)) = (b, refl, t)
+
+-- The turns of a schedule are not too many.
+pub few_turns : {name : Text} {r : Reading} {turns : List Turn} → ScheduleStage name r (Ok turns) → total turns ≤ turn_limit
+few_turns (goes (fits l) (scheduled t)) = t.1

@@ -1,0 +1,32 @@
+-- Two files that are read one after the other.
+use Rattle.std.proofs.Common.{◌≡◌, ◌≤◌, ℕ, Option, Ok, inr}
+use Rattle.std.specs.Prelude.{Result}
+use Rattle.pc_lists.specs.Texts.{Text}
+use Rattle.pc_refusals.specs.Inner.Stages.{PartGives, PartStops}
+use Rattle.pc_refusals.specs.Inner.TwoFiles.{BothGive, OneStops}
+use Rattle.pc_refusals.specs.Named.{Files, Named, Reading, file_at, files_change, longer, named}
+use Rattle.pc_refusals.specs.Verdict.{Verdict}
+use Rattle.pc_refusals.specs.declared.stop.Stop.{Stop}
+use Rattle.pc_refusals.proofs.Parts.{gives_from_start, gives_later, stops_from_start}
+
+-- The first file, a, gave x. Then the second, b, was read.
+module _ {T U : Type 0} (first second : ℕ) (One : Reading → Result T Verdict → Type 0) (Two : Reading → Result U Verdict → Type 0) (a b : Text)
+    (told later : Text → Option Text) (before mid now : Text → ℕ) (taken last_taken second_taken : ℕ) (x : T) (never : One longer (Ok x) → ⊥) (given : PartGives first One (file_at told before mid taken a) x)
+    (same : later b ≡ told b) (risen : before b ≤ mid b) (rises : mid b ≤ now b) where
+  abbrev files : Files
+  files = files_change told before now last_taken
+
+  -- the second, by how much of it is said to be taken
+  abbrev behind : Named
+  behind = file_at told before now second_taken b
+
+  still : PartGives first One (named files a) x
+  still = gives_later first One (file_at told before mid taken a) (now a) last_taken x never given
+
+  -- b was refused or not read
+  pub second_stops : (s : Stop) → PartStops second Two (file_at later mid now second_taken b) s → OneStops first second One Two (named files a) behind s
+  second_stops s h = inr (x, still, stops_from_start second Two behind (later b) (mid b) s same risen rises h)
+
+  -- b gave y
+  pub second_gives : (y : U) → PartGives second Two (file_at later mid now second_taken b) y → BothGive first second One Two (named files a) behind x y
+  second_gives y h = (still, gives_from_start second Two behind (later b) (mid b) y same risen rises h)

@@ -1,0 +1,30 @@
+-- From what the inference answers to the stage of a core's annotation.
+use Rattle.std.proofs.Common.{◌≡◌, Option, Err, sym, subst}
+use Rattle.std.specs.Prelude.{codes}
+use Rattle.pc_check.specs.Faults.{Refuses}
+use Rattle.pc_check.specs.declared.fault.CheckFault.{CheckFault}
+use Rattle.pc_check.specs.declared.fault.CheckFault.TheVariants as fault
+use Rattle.pc_core.specs.declared.declarations.Method.{Method}
+use Rattle.pc_core.specs.declared.nodes.Node.{Node}
+use Rattle.pc_lists.specs.Texts.{Text}
+use Rattle.pc_refusals.specs.Accepting.{Typing}
+use Rattle.pc_refusals.specs.Accepting.Typing.{declared, no_rule, unset}
+use Rattle.pc_refusals.specs.CoreFaults.{method_start, node_start}
+use Rattle.pc_refusals.specs.Inner.Refusals.{IsCoreStop}
+use Rattle.pc_refusals.specs.Inner.Stages.{StageStops}
+use Rattle.pc_refusals.specs.Refusal.{offset_line}
+use Rattle.pc_refusals.specs.Verdict.{refused}
+use Rattle.pc_refusals.specs.declared.source.Source.{Source}
+use Rattle.pc_refusals.specs.declared.stop.Stop.{Stop}
+use Rattle.pc_refusals.proofs.Stops.{memory_stops, refusal_stops}
+
+-- where the inference stops
+pub core_stops : (name : Text) (source : Source) (f : CheckFault) (s : Stop) → Refuses source.core f → IsCoreStop name source f s → StageStops (Typing name source) s
+core_stops name source (fault.Decl d) s r h = refusal_stops (Typing name source) 1 _ s (declared d r) h
+core_stops name source (fault.NoRule n l m ann) s r h =
+    refusal_stops (Typing name source) 1 _ s
+    (subst (λ (o : Option Node). Typing name source (Err (refused 1 (offset_line name source.bytes (node_start o) (codes "no rule"))))) (sym r.0.is_at) (no_rule ann n r.0)) h
+core_stops name source (fault.Unset m ann) s r h =
+    refusal_stops (Typing name source) 1 _ s
+    (subst (λ (o : Option Method). Typing name source (Err (refused 1 (offset_line name source.bytes (method_start o) (codes "field not set"))))) (sym r.0.is_method) (unset ann m r.0)) h
+core_stops name source fault.Memory s r h = memory_stops (Typing name source) s h

@@ -1,0 +1,60 @@
+-- The stages of a derivation: its length, its text, and whether it is valid for a source.
+use Rattle.std.specs.Prelude.{ℕ, ◌+◌, Result, Ok, Err, codes}
+use Rattle.pc_ann.specs.declared.annotation.Ann.{Ann}
+use Rattle.pc_rules.specs.Valid.{Valid}
+use Rattle.pc_deriv.specs.Faults.{IsText, IsFault}
+use Rattle.pc_deriv.specs.declared.fault.DerivFault.{DerivFault}
+use Rattle.pc_deriv.specs.declared.fault.DerivFault.TheVariants as deriv
+use Rattle.pc_judge.specs.Faults.{FirstFault}
+use Rattle.pc_judge.specs.declared.faults.JudgeFault.{JudgeFault}
+use Rattle.pc_judge.specs.declared.faults.JudgeFault.TheVariants as fault
+use Rattle.pc_lists.specs.Texts.{Text}
+use Rattle.pc_refusals.specs.After.{After}
+use Rattle.pc_refusals.specs.CoreFaults.{decl_offset, decl_text}
+use Rattle.pc_refusals.specs.Lines.{bad_line, many_line, shape_line, slot_line, node_line, unset_line}
+use Rattle.pc_refusals.specs.Named.{Named, Reading}
+use Rattle.pc_refusals.specs.Refusal.{offset_line}
+use Rattle.pc_refusals.specs.Source.{Length}
+use Rattle.pc_refusals.specs.Verdict.{Verdict, refused}
+use Rattle.pc_refusals.specs.declared.source.Source.{Source}
+
+-- how many bytes a derivation may have
+abbrev pub derivation_limit : ℕ
+derivation_limit = 33554432
+
+-- A derivation is read in parts, of which only the last one is counted in `taken`. Where the file is longer, that one begins
+-- behind all bytes that a derivation may have.
+abbrev pub in_parts : Named → Named
+in_parts file = record file { taken = derivation_limit + file.taken }
+
+-- The text of the derivation: 5 at the first line that is not of its form, and 8 where its first line asks for too many. Out of
+-- memory is no fault of a text; its status is 11, and it has no line.
+abbrev pub text_status : DerivFault → ℕ
+text_status (deriv.BadLine n) = 5
+text_status deriv.TooMany = 8
+text_status deriv.Memory = 11
+
+abbrev pub text_line : Text → DerivFault → Text
+text_line name (deriv.BadLine n) = bad_line name n
+text_line name deriv.TooMany = many_line name
+text_line name deriv.Memory = codes ""
+
+pub data Deriving (name bytes : Text) : Result Ann Verdict → Type 0 where
+  reads : {ann : Ann} → IsText bytes ann → Deriving name bytes (Ok ann)
+  garbled : (f : DerivFault) → IsFault bytes f → Deriving name bytes (Err (refused (text_status f) (text_line name f)))
+
+-- The stages of the derivation: the annotation of its text.
+abbrev pub DerivationStage : Text → Reading → Result Ann Verdict → Type 0
+DerivationStage name reading = After (Length derivation_limit name reading) (Deriving name)
+
+-- The annotation: 6 at its first fault. That of a declaration is named in the source.
+abbrev pub judge_line : Text → Text → Source → JudgeFault → Text
+judge_line source_name name source (fault.Decl f) = offset_line source_name source.bytes (decl_offset source.core f) (decl_text f)
+judge_line source_name name source fault.Shape = shape_line name
+judge_line source_name name source (fault.Slot n) = slot_line name n
+judge_line source_name name source (fault.Node n) = node_line name n
+judge_line source_name name source (fault.Unset m) = unset_line name m
+
+pub data Judging (source_name name : Text) (source : Source) (ann : Ann) : Result (Unit {0}) Verdict → Type 0 where
+  holds : Valid source.core ann → Judging source_name name source ann (Ok tt)
+  fails : (f : JudgeFault) → FirstFault source.core ann f → Judging source_name name source ann (Err (refused 6 (judge_line source_name name source f)))

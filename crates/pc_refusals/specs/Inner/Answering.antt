@@ -1,0 +1,46 @@
+-- How a command ended: by the text that it answers, or by what became of out.
+use Rattle.std.specs.Prelude.{ℕ, ◌≡◌, ◌⊎◌, [], Result, Err, MatchResult}
+use Rattle.std.specs.Io.KnownBytes.{Appends, Keeps}
+use Rattle.pc_io.specs.Change.{Change}
+use Rattle.pc_io.specs.Sink.{Rose}
+use Rattle.pc_lists.specs.Texts.{Text}
+use Rattle.pc_refusals.specs.Ends.{TellsPart}
+use Rattle.pc_refusals.specs.Inner.Stages.{Wrote}
+use Rattle.pc_refusals.specs.Verdict.{Verdict, done, refused}
+use Rattle.pc_refusals.specs.declared.stop.Stop.{Stop}
+use Rattle.pc_refusals.specs.declared.stop.Stop.TheVariants.{Refused, File, Sink, Memory}
+
+-- ---- a command that answers a text
+
+-- Why it answered none: the verdict is a refusal, the faults of a name rose, or memory ran out.
+abbrev pub AnswerStops : (Verdict → Type 0) → (Text → Type 0) → Stop → Type 0
+AnswerStops V Failed (Refused status line) = V (refused status line)
+AnswerStops V Failed (File name) = Failed name
+AnswerStops V Failed Sink = ⊥
+AnswerStops V Failed Memory = Unit {0}
+
+-- The verdict is done with the text, or it stopped.
+abbrev pub AnswersText : (Verdict → Type 0) → (Text → Type 0) → Result Text Stop → Type 0
+AnswersText V Failed answer = MatchResult answer (λ text. V (done text)) (AnswerStops V Failed)
+
+-- ---- a command that writes
+
+-- The verdict's text went to out, and the rest of it is this.
+abbrev pub Tells : (Verdict → Type 0) → Change → ℕ → Text → Type 0
+Tells V out status line = (v : Verdict) × V v × (v.status ≡ status) × (v.err ≡ line) × Appends out.before out.now v.out
+
+abbrev pub CommandStops : (Verdict → Type 0) → (Text → Type 0) → Change → Stop → Type 0
+CommandStops V Failed out (Refused status line) = Tells V out status line
+CommandStops V Failed out (File name) = Failed name × Keeps out.before out.now
+CommandStops V Failed out Sink = Rose out.faults_before out.faults_now × TellsPart V out
+CommandStops V Failed out Memory = Keeps out.before out.now ⊎ TellsPart V out
+
+abbrev pub Ends : (Verdict → Type 0) → (Text → Type 0) → Change → Result (Unit {0}) Stop → Type 0
+Ends V Failed out result = MatchResult result (λ _. Tells V out 0 []) (CommandStops V Failed out)
+
+-- ---- from the one to the other
+
+-- The answer's text was written, or it had none: the end is its stop, and out is as before.
+abbrev pub Puts : Result Text Stop → Change → Result (Unit {0}) Stop → Type 0
+Puts answer out result =
+    MatchResult answer (λ text. Wrote text out result) (λ s. (result ≡ Err s) × (out.now ≡ out.before))

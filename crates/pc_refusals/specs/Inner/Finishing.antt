@@ -1,0 +1,26 @@
+-- How the writing of the line of a command that ended has ended.
+use Rattle.std.specs.Prelude.{ℕ, ◌≡◌, ◌⊎◌, Result, MatchResult}
+use Rattle.std.specs.Io.KnownBytes.{Appends, Keeps}
+use Rattle.pc_io.specs.Change.{Change}
+use Rattle.pc_io.specs.Sink.{Rose, GrowsByPrefix}
+use Rattle.pc_lists.specs.Texts.{Text}
+use Rattle.pc_refusals.specs.Lines.{unread_line}
+use Rattle.pc_refusals.specs.declared.stop.Stop.{Stop}
+use Rattle.pc_refusals.specs.declared.stop.Stop.TheVariants.{Refused, File, Sink, Memory}
+
+-- How the writing of a line ended.
+abbrev pub LineEnds : Change → (status wanted : ℕ) → Text → Type 0
+LineEnds err status wanted line =
+    ((status ≡ wanted) × Appends err.before err.now line)
+    ⊎ ((status ≡ 10) × Rose err.faults_before err.faults_now × GrowsByPrefix err.before err.now line)
+    ⊎ ((status ≡ 11) × Keeps err.before err.now)
+
+abbrev pub StopFinishes : Change → ℕ → Stop → Type 0
+StopFinishes err status (Refused wanted line) = LineEnds err status wanted line
+StopFinishes err status (File name) = LineEnds err status 9 (unread_line name)
+StopFinishes err status Sink = (status ≡ 10) × Keeps err.before err.now
+StopFinishes err status Memory = (status ≡ 11) × Keeps err.before err.now
+
+abbrev pub Finishes : Change → ℕ → Result (Unit {0}) Stop → Type 0
+Finishes err status ended =
+    MatchResult ended (λ _. (status ≡ 0) × Keeps err.before err.now) (StopFinishes err status)

@@ -1,0 +1,20 @@
+-- What reading a file answers inside a command.
+use Rattle.std.specs.Prelude.{ℕ, ◌≡◌, ◌<◌, List, Option, Result, MatchResult}
+use Rattle.pc_io.specs.declared.bytes.Bytes.{Bytes}
+use Rattle.pc_lists.specs.Texts.{Text}
+use Rattle.pc_refusals.specs.Lines.{longer_line}
+use Rattle.pc_refusals.specs.Named.{IsReading, whole, longer}
+use Rattle.pc_refusals.specs.declared.stop.Stop.{Stop}
+use Rattle.pc_refusals.specs.declared.stop.Stop.TheVariants.{Refused, File, Sink, Memory}
+
+-- Why no bytes were read: the file is longer, or its name's faults rose, or out of memory.
+abbrev pub NotRead : Text → (limit : ℕ) → Option (List ℕ) → (before now taken : ℕ) → Stop → Type 0
+NotRead name limit told before now taken (Refused status line) =
+    (status ≡ 8) × (line ≡ longer_line name limit) × IsReading limit told before now taken longer
+NotRead name limit told before now taken (File failed) = (failed ≡ name) × (before < now)
+NotRead name limit told before now taken Sink = ⊥
+NotRead name limit told before now taken Memory = Unit {0}
+
+abbrev pub ReadsFile : Text → (limit : ℕ) → Option (List ℕ) → (before now taken : ℕ) → Result Bytes Stop → Type 0
+ReadsFile name limit told before now taken result =
+    MatchResult result (λ b. IsReading limit told before now taken (whole b)) (NotRead name limit told before now taken)

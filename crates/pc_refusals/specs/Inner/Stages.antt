@@ -1,0 +1,50 @@
+-- What the parts of a command answer.
+use Rattle.std.specs.Prelude.{ℕ, Result, Ok, Err, MatchResult}
+use Rattle.std.specs.Io.KnownBytes.{Appends, Keeps}
+use Rattle.pc_io.specs.Sink.{Rose, GrowsByPrefix}
+use Rattle.pc_lists.specs.Texts.{Text}
+use Rattle.pc_io.specs.Change.{Change}
+use Rattle.pc_refusals.specs.Named.{Reading, Named, IsReadingOf, FailedAt}
+use Rattle.pc_refusals.specs.Verdict.{Verdict, refused}
+use Rattle.pc_refusals.specs.declared.stop.Stop.{Stop}
+use Rattle.pc_refusals.specs.declared.stop.Stop.TheVariants.{Refused, File, Sink, Memory}
+
+-- Why a part that reads one file and goes through its stages gave no value: a stage refused, the file's faults
+-- rose, or out of memory.
+abbrev pub PartStops : {T : Type 0} → ℕ → (Reading → Result T Verdict → Type 0) → Named → Stop → Type 0
+PartStops limit Stage file (Refused status line) = (r : Reading) × IsReadingOf file limit r × Stage r (Err (refused status line))
+PartStops limit Stage file (File name) = FailedAt file name
+PartStops limit Stage file Sink = ⊥
+PartStops limit Stage file Memory = Unit {0}
+
+-- The part gave this value.
+abbrev pub PartGives : {T : Type 0} → ℕ → (Reading → Result T Verdict → Type 0) → Named → T → Type 0
+PartGives limit Stage file x = (r : Reading) × IsReadingOf file limit r × Stage r (Ok x)
+
+-- How a part ended.
+abbrev pub PartEnds : {T : Type 0} → ℕ → (Reading → Result T Verdict → Type 0) → Named → Result T Stop → Type 0
+PartEnds limit Stage file result = MatchResult result (PartGives limit Stage file) (PartStops limit Stage file)
+
+-- How stages ended that read no file: with a value, with a refusal, or for lack of memory.
+abbrev pub StageStops : {T : Type 0} → (Result T Verdict → Type 0) → Stop → Type 0
+StageStops Stage (Refused status line) = Stage (Err (refused status line))
+StageStops Stage (File name) = ⊥
+StageStops Stage Sink = ⊥
+StageStops Stage Memory = Unit {0}
+
+abbrev pub StageEnds : {T : Type 0} → (Result T Verdict → Type 0) → Result T Stop → Type 0
+StageEnds Stage result = MatchResult result (λ x. Stage (Ok x)) (StageStops Stage)
+
+-- The same of a stage whose value is seen in another way.
+abbrev pub StageEndsAs : {S T : Type 0} → (S → T) → (Result T Verdict → Type 0) → Result S Stop → Type 0
+StageEndsAs view Stage result = MatchResult result (λ x. Stage (Ok (view x))) (StageStops Stage)
+
+-- How the writing of a text ended.
+abbrev pub WriteStops : Text → Change → Stop → Type 0
+WriteStops text out (Refused status line) = ⊥
+WriteStops text out (File name) = ⊥
+WriteStops text out Sink = Rose out.faults_before out.faults_now × GrowsByPrefix out.before out.now text
+WriteStops text out Memory = Keeps out.before out.now
+
+abbrev pub Wrote : Text → Change → Result (Unit {0}) Stop → Type 0
+Wrote text out result = MatchResult result (λ _. Appends out.before out.now text) (WriteStops text out)

@@ -1,0 +1,17 @@
+//! The refusal of words.
+ghost use Rattle.pc_refusals.specs.Inner.Refusals.{IsRefusal};
+ghost use Rattle.pc_refusals.specs.Lines.{usage_line};
+
+use crate::lines::make_usage_line;
+use crate::stop::Stop;
+use std::alloc::Global;
+
+/// The refusal of words that ask for nothing, or give no numbers if numbers are asked for.
+pub fn refuse_words(alloc: Global) -> Stop
+    ensures { IsRefusal 2 usage_line result }
+{
+    match make_usage_line(alloc) {
+        Ok(line) => Stop::Refused { status: 2, line },
+        Err(_) => Stop::Memory,
+    }
+}

@@ -1,0 +1,38 @@
+-- What the laws of the crates below say, which the laws of verdicts rest on.
+use Rattle.pc_check.specs.Laws.{NoneWithoutRule, NoneWithUnset, NoneWithFault, OneNode, OneConstructor, OneKindOfFault}
+use Rattle.pc_deriv.specs.Laws.{OneAnnotation, NoFaultOfText, OneFault as OneTextFault}
+use Rattle.pc_judge.specs.Faults.{OneFirst, NotValid}
+use Rattle.pc_sched_lines.specs.Lines.{LinesAreOne}
+use Rattle.pc_rules.specs.Statements.{OneValid}
+use Rattle.pc_sched.specs.Laws.{OneList, NotBoth, OneFault}
+use Rattle.pc_sub.specs.Declarations.{NoFaultWhereFit}
+use Rattle.pc_swap.specs.Laws.{KeptAreNotApart}
+use Rattle.pc_refusals.proofs.OneSource.{SourceLaws}
+use Rattle.pc_top.specs.CoreOf.{CoresAreFormed}
+
+-- For that a source that is refused with 1 has no derivation.
+pub record Refusing : Type 0 where
+  pub formed : CoresAreFormed
+  pub ruleless : NoneWithoutRule
+  pub setless : NoneWithUnset
+  pub failing : NoneWithFault
+
+-- For that there is one verdict.
+pub record Laws : Type 0 where
+  pub source : SourceLaws
+  pub refusing : Refusing
+  pub fits : NoFaultWhereFit
+  pub valid : OneValid
+  pub node : OneNode
+  pub constructor : OneConstructor
+  pub kind : OneKindOfFault
+  pub annotation : OneAnnotation
+  pub text_fault : OneTextFault
+  pub apart : NoFaultOfText
+  pub first : OneFirst
+  pub not_valid : NotValid
+  pub turns : OneList
+  pub not_both : NotBoth
+  pub word : OneFault
+  pub kept : KeptAreNotApart
+  pub line : LinesAreOne

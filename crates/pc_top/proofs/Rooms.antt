@@ -1,0 +1,33 @@
+-- The rooms, one for each command.
+use Rattle.pc_args.specs.Asked.{Asked, check, judge, make, run, sends, show, swap, trace, upgrade}
+use Rattle.pc_refusals.specs.Named.{Files}
+use Rattle.pc_top.proofs.Room.{Room}
+use Rattle.pc_top.proofs.Rooms.Check.{check_room}
+use Rattle.pc_top.proofs.Rooms.Judge.{judge_room}
+use Rattle.pc_top.proofs.Rooms.Make.{make_room}
+use Rattle.pc_top.proofs.Rooms.Run.{run_room}
+use Rattle.pc_top.proofs.Rooms.Sends.{sends_room}
+use Rattle.pc_top.proofs.Rooms.Show.{show_room}
+use Rattle.pc_top.proofs.Rooms.Swap.{swap_room}
+use Rattle.pc_top.proofs.Rooms.Trace.{trace_room}
+use Rattle.pc_top.proofs.Rooms.Upgrade.{upgrade_room}
+pub mod Check
+pub mod Judge
+pub mod Make
+pub mod Run
+pub mod Sends
+pub mod Show
+pub mod Swap
+pub mod Trace
+pub mod Upgrade
+
+pub room_of : (files : Files) (asked : Asked) → Room files asked
+room_of files (check source) = check_room files source
+room_of files (judge source derivation) = judge_room files source derivation
+room_of files (run source schedule) = run_room files source schedule
+room_of files (show source) = show_room files source
+room_of files (make seed size) = make_room files seed size
+room_of files (swap source schedule place) = swap_room files source schedule place
+room_of files (trace source schedule) = trace_room files source schedule
+room_of files (sends source) = sends_room files source
+room_of files (upgrade source derivation) = upgrade_room files source derivation

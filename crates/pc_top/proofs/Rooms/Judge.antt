@@ -1,0 +1,66 @@
+-- The room of `judge`, and what the referee was asked of.
+use Rattle.std.proofs.Common.{◌≡◌, ℕ, Option, Ok, Err, refl, sym, subst, arith}
+use Rattle.std.specs.Prelude.{Result}
+use Rattle.std.specs.Io.KnownBytes.{Appends}
+use Rattle.pc_lists.specs.Texts.{Text}
+use Rattle.pc_args.specs.Asked.{judge}
+use Rattle.pc_referee.specs.Asked.{Pairs}
+use Rattle.pc_refusals.specs.Derivation.{in_parts}
+use Rattle.pc_refusals.specs.Inner.Answering.{Puts}
+use Rattle.pc_refusals.specs.Inner.Derivations.{NotDone}
+use Rattle.pc_refusals.specs.Inner.Stages.{PartGives, PartStops, Wrote}
+use Rattle.pc_refusals.specs.Named.{Files, Named, named}
+use Rattle.pc_refusals.specs.Referee.{JudgedFile}
+use Rattle.pc_refusals.specs.Source.{SourceStage, source_limit}
+use Rattle.pc_refusals.specs.Verdict.{Verdict}
+use Rattle.pc_refusals.specs.declared.source.Source.{Source}
+use Rattle.pc_refusals.specs.declared.stop.Stop.{Stop}
+use Rattle.pc_refusals.specs.declared.stop.Stop.TheVariants.{Refused, File, Sink, Memory}
+use Rattle.pc_refusals.proofs.Statuses.{IsOther, source_other}
+use Rattle.pc_io.specs.Change.{Change}
+use Rattle.pc_top.specs.Commands.Judge.{accepted_text}
+use Rattle.pc_top.specs.Inner.Asking.{JudgeAsks}
+use Rattle.pc_top.specs.Referee.{JudgedAll}
+use Rattle.pc_top.proofs.Accepted.{source_whole}
+use Rattle.pc_top.proofs.Deriving.{source_says}
+use Rattle.pc_top.proofs.DerivingRoom.{derivation_room}
+use Rattle.pc_top.proofs.Room.{Room}
+
+pub judge_room : (files : Files) (source derivation : Text) → Room files (judge source derivation)
+judge_room files source derivation =
+    derivation_room (λ ann. accepted_text) files (judge source derivation) source (named files source) (in_parts (named files derivation)) refl refl refl (λ v is. is)
+    (λ unfailed told. (told.0, unfailed source, told.1.0, unfailed derivation))
+    (λ v out e o d. subst (λ (w : Verdict). Appends out.before out.now w.out) d.done_with o)
+
+-- ---- what the referee was asked of
+
+other_not_zero : (status : ℕ) → IsOther status → status ≡ 0 → ⊥
+other_not_zero status l z = let low = l.0 in omega (arith, low, z)
+
+-- where the source was refused
+pub source_not_done : (name : Text) (file : Named) (s : Stop) → PartStops source_limit (SourceStage name) file s → NotDone s
+source_not_done name file (Refused status line) h = other_not_zero status (source_other h.2)
+source_not_done name file (File n) h = tt
+source_not_done name file Sink h = tt
+source_not_done name file Memory h = tt
+
+-- the source that was read, and its derivation
+pub judged_all : (file : Named) (told later : Option Text) (s : Source) (before after : Option Pairs) → later ≡ told → PartGives source_limit (SourceStage file.name) file s → JudgedFile s.core later before after
+    → JudgedAll file.told told before after
+judged_all file told later s before after e g h =
+    let judged = subst (λ (o : Option Text). JudgedFile s.core o before after) e h in
+    record { bytes = s.bytes; of_file = (source_whole file g.0 s g.1 g.2).1; core = s.core; core_of = (source_says g.2).1; judged = judged }
+
+-- where out failed
+wrote_not_done : (text : Text) (out : Change) (s : Stop) → Wrote text out (Err s) → NotDone s
+wrote_not_done text out (Refused status line) h = absurd h
+wrote_not_done text out (File n) h = tt
+wrote_not_done text out Sink h = tt
+wrote_not_done text out Memory h = tt
+
+-- and where the answer was written
+pub asks_put : (source derivation : Option Text) (before after : Option Pairs) (out : Change) (answer : Result Text Stop) (result : Result (Unit {0}) Stop)
+    → JudgeAsks source derivation before after answer → Puts answer out result → JudgeAsks source derivation before after result
+asks_put source derivation before after out (Ok text) (Ok x) h w = h
+asks_put source derivation before after out (Ok text) (Err s) h w = wrote_not_done text out s w
+asks_put source derivation before after out (Err s) result h w = subst (λ (r : Result (Unit {0}) Stop). JudgeAsks source derivation before after r) (sym w.0) h

@@ -1,0 +1,79 @@
+-- From what the parts of `make` answer to how it ends.
+use Rattle.std.proofs.Common.{◌≡◌, ◌≤◌, ◌<◌, ℕ, length, Option, Ok, Err, inl, inr, refl, sym, subst, arith}
+use Rattle.std.specs.Prelude.{Result}
+use Rattle.std.specs.Io.KnownBytes.{Appends}
+use Rattle.std.proofs.KnownBytes.{Appends-kept, Appends-trans}
+use Rattle.std.proofs.Math.Seq.{take-length}
+use Rattle.pc_gen.specs.Schedule.{schedule}
+use Rattle.pc_io.specs.Change.{Change, change}
+use Rattle.pc_io.specs.Sink.{GrowsByPrefix}
+use Rattle.pc_io.proofs.Prefixes.{grows_more, grows_on, rose_before}
+use Rattle.pc_run.specs.Ends.{NeverLacks}
+use Rattle.pc_run.specs.Spreading.{spread}
+use Rattle.pc_lists.specs.Texts.{Text}
+use Rattle.pc_refusals.specs.Ends.{TellsPart}
+use Rattle.pc_refusals.specs.Inner.Answering.{Ends, CommandStops}
+use Rattle.pc_top.specs.Commands.Make.{MadeRun, made_line, made_name}
+use Rattle.pc_refusals.specs.Named.{FailedAt, text_as}
+use Rattle.pc_top.specs.Commands.Run.{Ran}
+use Rattle.pc_refusals.specs.Inner.Stages.{WriteStops}
+use Rattle.pc_refusals.specs.Verdict.{Verdict, headed}
+use Rattle.pc_refusals.specs.declared.typing.Accepted.{Accepted}
+use Rattle.pc_refusals.specs.declared.stop.Stop.{Stop}
+use Rattle.pc_refusals.specs.declared.stop.Stop.TheVariants.{Refused, File, Sink, Memory}
+use Rattle.pc_top.proofs.Rooms.Run.Ends.{has_verdict}
+
+-- a text that stands in no file is read without a failure
+pub never_failed : (name text n : Text) → FailedAt (text_as name text) n → ⊥
+never_failed name text n f = let rose : 0 < 0 = f.1 in omega (arith, rose)
+
+-- ---- the line and the run
+
+module _ (seed size : ℕ) (accepted : Accepted) (safe : NeverLacks accepted.source.core) where
+  abbrev line : Text
+  line = made_line seed size accepted
+
+  abbrev Runs : Verdict → Type 0
+  Runs = Ran made_name accepted.source.core (spread (schedule size))
+
+  -- the run's text, or a part of it, behind the line
+  behind : (out : Change) (mid : Option Text) (v : Verdict) → Runs v → Appends out.before mid line → GrowsByPrefix mid out.now v.out → TellsPart (MadeRun seed size accepted) out
+  behind out mid v r w p =
+      (headed line v, (v, r, refl), grows_on out.before mid out.now line v.out w p)
+
+  -- a part of the line
+  line_part : (out : Change) → GrowsByPrefix out.before out.now line → TellsPart (MadeRun seed size accepted) out
+  line_part out p =
+      let v = has_verdict made_name accepted.source.core (spread (schedule size)) safe in
+      (headed line v.0, (v.0, v.1, refl), grows_more out.before out.now line v.0.out p)
+
+  -- the whole line
+  line_whole : (out : Change) → Appends out.before out.now line → TellsPart (MadeRun seed size accepted) out
+  line_whole out w =
+      let v = has_verdict made_name accepted.source.core (spread (schedule size)) safe in
+      (headed line v.0, (v.0, v.1, refl), grows_more out.before out.now line v.0.out (length line, subst (λ (t : Text). Appends out.before out.now t) (sym (take-length line)) w))
+
+  -- the line was not written
+  unwritten : (out : Change) (s : Stop) → WriteStops line out s → CommandStops (MadeRun seed size accepted) (λ n. ⊥) out s
+  unwritten out (Refused status text) w = absurd w
+  unwritten out (File n) w = absurd w
+  unwritten out Sink w = (w.0, line_part out w.1)
+  unwritten out Memory w = inl w
+
+  pub line_stops : (out : Change) (text : Text) (s : Stop) → text ≡ line → WriteStops text out s → CommandStops (MadeRun seed size accepted) (λ n. ⊥) out s
+  line_stops out text s e w = unwritten out s (subst (λ (t : Text). WriteStops t out s) e w)
+
+  -- the line was written, and then the run ended so
+  module _ (out : Change) (mid : Option Text) (g : ℕ) (later : out.faults_before ≤ g) (written : Appends out.before mid line) where
+    run_stops : (s : Stop) → CommandStops Runs (λ n. ⊥) (change mid out.now g out.faults_now) s → CommandStops (MadeRun seed size accepted) (λ n. ⊥) out s
+    run_stops (Refused status text) t = (headed line t.0, (t.0, t.1, refl), t.2, t.3, Appends-trans out.before mid out.now line t.0.out written t.4)
+    run_stops (File n) t = absurd t.0
+    run_stops Sink t =
+        let v = t.1 in
+        (rose_before out.faults_before g out.faults_now later t.0, behind out mid v.0 v.1 written v.2)
+    run_stops Memory (inl k) = inr (line_whole out (Appends-kept out.before mid out.now line written k))
+    run_stops Memory (inr v) = inr (behind out mid v.0 v.1 written v.2)
+
+    pub run_ends : (result : Result (Unit {0}) Stop) → Ends Runs (λ n. ⊥) (change mid out.now g out.faults_now) result → Ends (MadeRun seed size accepted) (λ n. ⊥) out result
+    run_ends (Ok x) t = (headed line t.0, (t.0, t.1, refl), t.2, t.3, Appends-trans out.before mid out.now line t.0.out written t.4)
+    run_ends (Err s) t = run_stops s t

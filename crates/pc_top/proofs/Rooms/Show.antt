@@ -1,0 +1,58 @@
+-- The room of `show`, whose source is not asked for a derivation.
+use Rattle.std.proofs.Common.{◌≡◌, ℕ, List, Ok, refl, sym, ap, subst, ◌∙◌}
+use Rattle.std.specs.Prelude.{IfSome}
+use Rattle.std.specs.Io.KnownBytes.{Appends}
+use Rattle.pc_lists.specs.Texts.{Text}
+use Rattle.pc_args.specs.Asked.{make, show}
+use Rattle.pc_grammar.specs.FileAnswers.{IsFileAnswer, spelled}
+use Rattle.pc_io.specs.Change.{Change}
+use Rattle.pc_lex.specs.Answers.{TokenList}
+use Rattle.pc_print.specs.Printing.{printed}
+use Rattle.pc_token.specs.declared.kinds.Token.{Token}
+use Rattle.pc_tree.specs.Tree as t
+use Rattle.pc_refusals.specs.After.After.{goes}
+use Rattle.pc_refusals.specs.Named.{Files, Named, Reading, IsReadingOf, named, whole}
+use Rattle.pc_refusals.specs.Source.{FileStage, source_limit}
+use Rattle.pc_refusals.specs.Source.Length.{fits}
+use Rattle.pc_refusals.specs.Source.Lexing.{lexed}
+use Rattle.pc_refusals.specs.Source.Parsing.{parsed}
+use Rattle.pc_refusals.specs.Verdict.{Verdict, IsAccepting}
+use Rattle.pc_refusals.proofs.LastStages.{from_status, passed}
+use Rattle.pc_refusals.proofs.OneSource.{one_file, one_from}
+use Rattle.pc_refusals.proofs.Statuses.{IsOther, IsOwn, file_other, other_not_one, other_own, other_refuses}
+use Rattle.pc_top.specs.Commands.Show.{IsShow, Shown, WritesTree}
+use Rattle.pc_top.proofs.Accepted.{of_told}
+use Rattle.pc_top.proofs.Room.{NotOne, Room, looks_for_none, zero_not_one, zero_own}
+
+-- Which statuses its verdicts have.
+statuses : (P : ℕ → Type 0) → ((status : ℕ) → IsOther status → P status) → P 0 → (file : Named) (v : Verdict) → IsShow file v → P v.status
+statuses P other zero file =
+    from_status file source_limit (FileStage file.name) Shown P (λ r w h. other w.status (file_other h)) (λ tree w l. subst P (sym (ap (λ (x : Verdict). x.status) l)) zero)
+
+-- the source was read whole, and its tokens spell this file
+tree_says : {name : Text} {r : Reading} {f : t.File} → FileStage name r (Ok f)
+    → (bytes : Text) × (r ≡ whole bytes) × (tokens : List Token) × TokenList bytes tokens × IsFileAnswer tokens (spelled f)
+tree_says (goes (fits {bytes = b} l) (goes (lexed {ts = ts} h) (parsed p))) = (b, refl, ts, h, p)
+
+show_on_out : (file : Named) (v : Verdict) (out : Change) → IsShow file v → IsAccepting v.status → Appends out.before out.now v.out → IfSome file.told (WritesTree out)
+show_on_out file v out is e o =
+    let p = passed file source_limit (FileStage file.name) Shown v (λ r h. other_refuses v.status (file_other h) e) is in
+    let s = tree_says p.3 in
+    let grew : Appends out.before out.now (printed p.1) = subst (λ (w : Verdict). Appends out.before out.now w.out) p.4 o in
+    let read : IsReadingOf file source_limit (whole s.0) = subst (λ (x : Reading). IsReadingOf file source_limit x) s.1 p.2 in
+    of_told (WritesTree out) file.told s.0 (s.2, s.3, p.1, s.4, grew) read.1
+
+no_make : (source seed size : Text) → show source ≡ make seed size → ⊥
+no_make source seed size e = cc
+
+pub show_room : (files : Files) (source : Text) → Room files (show source)
+show_room files source =
+    let file = named files source in
+    record {
+      one = λ laws unfailed told v w. one_from file source_limit (FileStage source) Shown told.0 (unfailed source) (one_file laws.source source) (λ r x h v w l m. l ∙ sym m) v w;
+      own = λ v is. statuses IsOwn other_own zero_own file v is;
+      accepts = λ v is e. (tt, λ seed size same. absurd (no_make source seed size same));
+      refuses = λ laws v is e. absurd (statuses NotOne other_not_one zero_not_one file v is e);
+      exact = λ sources laws other bytes of told unfailed has i v is u. absurd (looks_for_none (show source) refl i);
+      writes = λ tells v out is e o. show_on_out file v out is e o;
+    }

@@ -1,0 +1,43 @@
+-- From what the exchange of two turns answers to what is told of them.
+use Rattle.std.proofs.Common.{◌≡◌, ◌≤◌, ◌<◌, ◌+◌, ℕ, List, ◌∷◌, ◌++◌, length, Ok, Err, sym, ap, subst, arith}
+use Rattle.std.specs.Prelude.{Result}
+use Rattle.pc_core.specs.CoreData.{CoreData}
+use Rattle.pc_sched_lines.specs.Lines.{IsLine}
+use Rattle.pc_sched.specs.Limits.{turn_limit}
+use Rattle.pc_swap.specs.Swapping.{SwapEnds}
+use Rattle.pc_swap.specs.declared.kept.Kept.{Kept}
+use Rattle.pc_swap.specs.declared.kept.SwapFault.{SwapFault}
+use Rattle.pc_swap.specs.declared.kept.SwapFault.TheVariants as fault
+use Rattle.pc_lists.specs.Texts.{Text}
+use Rattle.pc_refusals.specs.Lines.{too_long_line}
+use Rattle.pc_refusals.specs.Verdict.{refused}
+use Rattle.pc_top.specs.Commands.Swap.{Neighbours, StandAt, Swapping, kept_line}
+use Rattle.pc_top.specs.Commands.Swap.SwapText.{exchanged, stay}
+use Rattle.pc_top.specs.Commands.Swap.Swapping.{tells, too_long}
+use Rattle.pc_top.proofs.Rooms.Swap.Neighbouring.{length_exchanged, turns_at}
+
+module _ (name : Text) (core : CoreData) (list : List ℕ) (place : ℕ) (some : 1 ≤ place) (within : place < length list) where
+  -- what the exchange answers of whatever turns stand there
+  abbrev Swaps : Result (List ℕ) SwapFault → Type 0
+  Swaps result = (front rest : List ℕ) (i j : ℕ) → list ≡ front ++ i ∷ j ∷ rest → place ≡ length front + 1 → SwapEnds core front i j rest result
+
+  there : (result : Result (List ℕ) SwapFault) → Swaps result → (t : Neighbours) × StandAt list place t × SwapEnds core t.front t.i t.j t.rest result
+  there result ends = let t = turns_at list place some within in (t.0, t.1, ends t.0.front t.0.rest t.0.i t.0.j t.1.0 t.1.1)
+
+  pub new_short : (new : List ℕ) → length list ≤ turn_limit → Swaps (Ok new) → length new ≤ turn_limit
+  new_short new few ends =
+      let t = there (Ok new) ends in
+      let same = ap (λ (l : List ℕ). length l) t.2.new_is in
+      let other = length_exchanged list place t.0 t.1 in
+      omega (arith, same, other, few)
+
+  pub new_told : (new text : List ℕ) → Swaps (Ok new) → IsLine new text → Swapping name core list place (Ok text)
+  new_told new text ends line = let t = there (Ok new) ends in tells t.0 text t.1 (exchanged new t.2 line)
+
+  pub kept_told : (reason : Kept) (text : Text) → Swaps (Err (fault.Kept reason)) → text ≡ kept_line reason → Swapping name core list place (Ok text)
+  kept_told reason text ends is = let t = there (Err (fault.Kept reason)) ends in tells t.0 text t.1 (stay reason t.2.0 t.2.1 is)
+
+  pub long_told : (n : ℕ) (line : Text) → Swaps (Err (fault.TooLong n)) → line ≡ too_long_line name n → Swapping name core list place (Err (refused 12 line))
+  long_told n line ends is =
+      let t = there (Err (fault.TooLong n)) ends in
+      subst (λ (l : Text). Swapping name core list place (Err (refused 12 l))) (sym is) (too_long t.0 n t.1 t.2)

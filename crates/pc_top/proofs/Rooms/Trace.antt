@@ -1,0 +1,102 @@
+-- The room of `trace`.
+use Rattle.std.proofs.Common.{◌≡◌, ◌⊎◌, ℕ, List, [], Ok, Err, inl, inr, refl, subst, arith}
+use Rattle.std.specs.Prelude.{IfSome}
+use Rattle.std.specs.Io.KnownBytes.{Appends}
+use Rattle.pc_lists.specs.Texts.{Text}
+use Rattle.pc_args.specs.Asked.{trace}
+use Rattle.pc_core.specs.CoreData.{CoreData}
+use Rattle.pc_io.specs.Change.{Change}
+use Rattle.pc_run.specs.Spreading.{spread}
+use Rattle.pc_trace.specs.declared.touch.Touch.{Touch}
+use Rattle.pc_refusals.specs.Named.{Files, Named, named}
+use Rattle.pc_refusals.specs.Verdict.{EndsWith, Verdict, IsAccepting, done}
+use Rattle.pc_refusals.proofs.LastStages.{ends_cases, ends_one, ends_status}
+use Rattle.pc_refusals.proofs.Statuses.{IsLate}
+use Rattle.pc_top.specs.Commands.Trace.{IsTrace, Traced, Tracing, WritesTrace, trace_text}
+use Rattle.pc_top.specs.Commands.Trace.Tracing.{tells, too_long, too_many}
+use Rattle.pc_top.specs.Shapes.{LastOfTurns, OfTurns}
+use Rattle.pc_top.proofs.Accepted.{both_by}
+use Rattle.pc_top.proofs.Begins.{begins}
+use Rattle.pc_top.proofs.Room.{Room, inferring}
+use Rattle.pc_top.proofs.Rooms.Trace.One.{one_tracing}
+use Rattle.pc_top.proofs.Shapes.{scheduled_one, scheduled_says, turns_late}
+pub mod Crowding
+pub mod One
+pub mod Told
+
+abbrev Last : LastOfTurns
+Last name core list = EndsWith (Tracing name core list)
+
+-- ---- its statuses
+
+refusal_late : {name : Text} {core : CoreData} {list : List ℕ} {v : Verdict} → Tracing name core list (Err v) → IsLate v.status
+refusal_late (too_long n h) = inr (inr (inl refl))
+refusal_late (too_many n h) = inr (inl (omega arith, omega arith))
+
+traced_late : (name : Text) (core : CoreData) (list : List ℕ) (v : Verdict) → Last name core list v → IsLate v.status
+traced_late name core list = ends_status (λ text. text) (Tracing name core list) IsLate (inl refl) (λ w h. refusal_late h)
+
+-- ---- what is on out
+
+told_by : {name : Text} {core : CoreData} {list : List ℕ} {text : Text} → Tracing name core list (Ok text) → (touches : List Touch) × Traced core list touches × (text ≡ trace_text touches)
+told_by (tells touches text h is) = (touches, h, is)
+
+eight_refuses : IsAccepting 8 → ⊥
+eight_refuses (inl e) = omega (arith, e)
+eight_refuses (inr e) = omega (arith, e)
+
+-- where a text ended the run
+cut_by : {name : Text} {core : CoreData} {list : List ℕ} {v : Verdict} → Tracing name core list (Err v) → IsAccepting v.status → (v.status ≡ 12) × (v.out ≡ [])
+cut_by (too_long n h) e = (refl, refl)
+cut_by (too_many n h) e = absurd (eight_refuses e)
+
+-- Out grew by what is told of the run, or by nothing, and then the status is 12.
+abbrev Wrote : Change → ℕ → Text → Text → Type 0
+Wrote out status source schedule = WritesTrace out source schedule ⊎ ((status ≡ 12) × Appends out.before out.now [])
+
+wrote_by : (out : Change) (v : Verdict) (name : Text) (core : CoreData) (list : List ℕ) (source schedule : Text) → IsAccepting v.status → Appends out.before out.now v.out
+    → ((touches : List Touch) → Traced core list touches → Appends out.before out.now (trace_text touches) → WritesTrace out source schedule)
+    → ((text : Text) × Tracing name core list (Ok text) × (v ≡ done text)) ⊎ Tracing name core list (Err v) → Wrote out v.status source schedule
+wrote_by out v name core list source schedule e o by (inl (text, h, is)) =
+    let t = told_by h in
+    let grew : Appends out.before out.now text = subst (λ (w : Verdict). Appends out.before out.now w.out) is o in
+    inl (by t.0 t.1 (subst (λ (x : Text). Appends out.before out.now x) t.2 grew))
+wrote_by out v name core list source schedule e o by (inr h) =
+    let c = cut_by h e in
+    inr (c.0, subst (λ (t : Text). Appends out.before out.now t) c.1 o)
+
+wrote_on_out : (file schedule : Named) (v : Verdict) (out : Change) → IsTrace file schedule v → IsAccepting v.status → Appends out.before out.now v.out
+    → IfSome file.told (λ bytes. IfSome schedule.told (Wrote out v.status bytes))
+wrote_on_out file schedule v out is e o =
+    scheduled_says Last file schedule (Wrote out v.status) v e
+    (λ bytes text core turns of_bytes is_list l.
+    wrote_by out v schedule.name core (spread turns) bytes text e o (λ touches h g. (core, of_bytes, turns, is_list, touches, h, g))
+    (ends_cases (λ (x : Text). x) (Tracing schedule.name core (spread turns)) v l)) is
+
+-- what `trace` wrote, or nothing
+abbrev Grew : Change → Text → Text → Type 0
+Grew out source schedule = WritesTrace out source schedule ⊎ Appends out.before out.now []
+
+grew_by : (out : Change) (status : ℕ) (source schedule : Text) → Wrote out status source schedule → Grew out source schedule
+grew_by out status source schedule (inl w) = inl w
+grew_by out status source schedule (inr w) = inr w.1
+
+-- the same where it is done
+done_by : (out : Change) (status : ℕ) (source schedule : Text) → status ≡ 0 → Wrote out status source schedule → WritesTrace out source schedule
+done_by out status source schedule zero (inl w) = w
+done_by out status source schedule zero (inr w) = let twelve = w.0 in absurd (omega (arith, zero, twelve))
+
+pub trace_done : (file schedule : Named) (v : Verdict) (out : Change) → IsTrace file schedule v → v.status ≡ 0 → Appends out.before out.now v.out
+    → IfSome file.told (λ bytes. IfSome schedule.told (WritesTrace out bytes))
+trace_done file schedule v out is e o =
+    both_by (Wrote out v.status) (WritesTrace out) file.told schedule.told (λ x y. done_by out v.status x y e) (wrote_on_out file schedule v out is (inl e) o)
+
+pub trace_room : (files : Files) (source schedule : Text) → Room files (trace source schedule)
+trace_room files source schedule =
+    let file = named files source in
+    let turns = named files schedule in
+    inferring files (trace source schedule) source refl refl
+    (λ v is. inl (begins (OfTurns Last turns) file (turns_late Last file turns traced_late) v is))
+    (λ laws unfailed told. scheduled_one Last file turns laws told.0 (unfailed source) told.1.0 (unfailed schedule)
+    (λ name core list. ends_one (λ text. text) (Tracing name core list) (one_tracing core list name)))
+    (λ tells v out is e o. both_by (Wrote out v.status) (Grew out) file.told turns.told (λ x y. grew_by out v.status x y) (wrote_on_out file turns v out is e o))

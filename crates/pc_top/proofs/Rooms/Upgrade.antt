@@ -1,0 +1,32 @@
+-- The room of `upgrade`.
+use Rattle.std.proofs.Common.{refl, subst}
+use Rattle.std.specs.Prelude.{IfSome}
+use Rattle.std.specs.Io.KnownBytes.{Appends}
+use Rattle.pc_lists.specs.Texts.{Text}
+use Rattle.pc_args.specs.Asked.{upgrade}
+use Rattle.pc_deriv.specs.Text.{deriv_text}
+use Rattle.pc_deriv.specs.declared.version.Version.TheVariants as version
+use Rattle.pc_io.specs.Change.{Change}
+use Rattle.pc_refusals.specs.Named.{Files, Named, named}
+use Rattle.pc_refusals.specs.Verdict.{Verdict}
+use Rattle.pc_top.specs.Commands.Upgrade.{WritesUpgraded}
+use Rattle.pc_top.proofs.Accepted.{of_source, of_told}
+use Rattle.pc_top.proofs.Deriving.{source_says}
+use Rattle.pc_top.proofs.DerivingRoom.{derivation_room}
+use Rattle.pc_top.proofs.Room.{Room}
+use Rattle.pc_top.proofs.Shapes.{Derives}
+
+upgrade_on_out : (file derivation : Named) (v : Verdict) (out : Change) → Appends out.before out.now v.out → Derives (deriv_text version.Two) file derivation v
+    → IfSome file.told (λ bytes. IfSome derivation.told (WritesUpgraded out bytes))
+upgrade_on_out file derivation v out o d =
+    let core = d.source.core in
+    let grew : Appends out.before out.now (deriv_text version.Two d.ann) = subst (λ (w : Verdict). Appends out.before out.now w.out) d.done_with o in
+    let inner : IfSome derivation.told (WritesUpgraded out d.source.bytes) =
+    of_told (WritesUpgraded out d.source.bytes) derivation.told d.bytes (core, (source_says d.passes).1, d.ann, d.valid, d.is_text, grew) d.of_file in
+    of_source (λ bytes. IfSome derivation.told (WritesUpgraded out bytes)) file d.reading d.source d.is_reading d.passes inner
+
+pub upgrade_room : (files : Files) (source derivation : Text) → Room files (upgrade source derivation)
+upgrade_room files source derivation =
+    derivation_room (deriv_text version.Two) files (upgrade source derivation) source (named files source) (named files derivation) refl refl refl (λ v is. is)
+    (λ unfailed told. (told.0, unfailed source, told.1.0, unfailed derivation))
+    (λ v out e o d. upgrade_on_out (named files source) (named files derivation) v out o d)

@@ -1,0 +1,116 @@
+-- What holds of each verdict, from the rooms of the commands, and what holds of each answer.
+use Rattle.std.proofs.Common.{◌≡◌, ℕ, List, Option, Some, None, inl, sym, ap, subst, ◌∙◌, arith}
+use Rattle.std.specs.Io.KnownBytes.{Appends}
+use Rattle.pc_lists.specs.Texts.{Text}
+use Rattle.pc_args.specs.Asked.{Asked, command_of}
+use Rattle.pc_io.specs.Change.{Change}
+use Rattle.pc_regions.specs.Laws.{ValidIsSafe}
+use Rattle.pc_refusals.specs.Answer.{Answer}
+use Rattle.pc_refusals.specs.Answer.Answer.{told as answer_told, file as answer_file, out_failed, err_failed, file_err_failed, no_memory}
+use Rattle.pc_refusals.specs.Named.{Files, named}
+use Rattle.pc_refusals.specs.Verdict.{Verdict, IsAccepting}
+use Rattle.pc_refusals.proofs.Statuses.{IsOwn}
+use Rattle.pc_top.specs.Asked.{Accepts, FailedIn, HasNoDerivation, HasNoDerivationOf, IsMadeSafe, IsVerdict, OfFile, OfSource, RefusedIsUnderivable}
+use Rattle.pc_top.specs.Commands.{IsVerdictOf, OnOutOf, source_of}
+use Rattle.pc_top.specs.Commands.Make.{made_text}
+use Rattle.pc_top.specs.Commands.Sends.{TablesTell}
+use Rattle.pc_top.specs.CoreOf.{CoresAreFormed, DerivableIsSafe, HasSafeCore, IsDerivable}
+use Rattle.pc_top.specs.Failures.{NoVerdictIsAFailure}
+use Rattle.pc_top.specs.OnOut.{OnOut, Swaps, Traces}
+use Rattle.pc_top.specs.One.{TellsOf, VerdictIsOne}
+use Rattle.pc_top.proofs.Accepted.{accepting, some_by}
+use Rattle.pc_top.proofs.Premises.{Laws, Refusing}
+use Rattle.pc_top.proofs.Room.{two_not_one, two_own, two_refuses}
+use Rattle.pc_top.proofs.Rooms.{room_of}
+use Rattle.pc_top.proofs.Rooms.Swap.{swap_done}
+use Rattle.pc_top.proofs.Rooms.Trace.{trace_done}
+
+-- the status of words that are refused
+two : (v : Verdict) (files : Files) → IsVerdictOf files None v → v.status ≡ 2
+two v files is = ap (λ (x : Verdict). x.status) is
+
+-- ---- one verdict
+
+one_of : Laws → (files : Files) → ((n : Text) → files.now n ≡ files.before n) → (asked : Option Asked) (v w : Verdict) → TellsOf files.told asked → IsVerdictOf files asked v → IsVerdictOf files asked w → v ≡ w
+one_of laws files unfailed None v w t a b = a ∙ sym b
+one_of laws files unfailed (Some asked) v w t a b = (room_of files asked).one laws unfailed t v w a b
+
+pub verdict_one : Laws → VerdictIsOne
+verdict_one laws files words v w n t a b = one_of laws files n (command_of words) v w t a b
+
+-- ---- its status is that of no failure
+
+own_of : (files : Files) (asked : Option Asked) (v : Verdict) → IsVerdictOf files asked v → IsOwn v.status
+own_of files None v is = two_own v.status (two v files is)
+own_of files (Some asked) v is = (room_of files asked).own v is
+
+pub verdicts_own : NoVerdictIsAFailure
+verdicts_own files words v is = own_of files (command_of words) v is
+
+-- ---- an accepting verdict
+
+accepts_of : (files : Files) (asked : Option Asked) (v : Verdict) → IsVerdictOf files asked v → IsAccepting v.status → OfSource IsDerivable files.told asked
+accepts_of files None v is e = two_refuses v.status (two v files is) e
+accepts_of files (Some asked) v is e = (room_of files asked).accepts v is e
+
+writes_of : TablesTell → (files : Files) (asked : Option Asked) (v : Verdict) (out : Change) → IsVerdictOf files asked v → IsAccepting v.status → Appends out.before out.now v.out → OnOutOf files.told asked out
+writes_of tells files None v out is e o = absurd (two_refuses v.status (two v files is) e)
+writes_of tells files (Some asked) v out is e o = (room_of files asked).writes tells v out is e o
+
+-- ---- status 1
+
+refuses_of : Refusing → (files : Files) (asked : Option Asked) (v : Verdict) → IsVerdictOf files asked v → v.status ≡ 1 → HasNoDerivationOf files.told asked
+refuses_of laws files None v is e = absurd (two_not_one v.status (two v files is) e)
+refuses_of laws files (Some asked) v is e = (room_of files asked).refuses laws v is e
+
+pub refused_underivable : Refusing → RefusedIsUnderivable
+refused_underivable laws files words v is e = refuses_of laws files (command_of words) v is e
+
+-- ---- answers
+
+module _ (files : Files) (words : List Text) (out err : Change) (status : ℕ) (answer : Answer (IsVerdict files words) (FailedIn files words) out err status) where
+  pub answer_accepts : IsAccepting status → Accepts files.told words
+  answer_accepts e = let a = accepting files words out err status answer e in accepts_of files (command_of words) a.0 a.1 (subst IsAccepting a.2 e)
+
+  pub answer_writes : TablesTell → IsAccepting status → OnOut files.told words out
+  answer_writes tells e = let a = accepting files words out err status answer e in writes_of tells files (command_of words) a.0 out a.1 (subst IsAccepting a.2 e) a.3
+
+  pub answer_swaps : status ≡ 0 → Swaps files.told words out
+  answer_swaps e source schedule place asks =
+      let a = accepting files words out err status answer (inl e) in
+      swap_done (named files source) (named files schedule) place a.0 out (subst (λ (o : Option Asked). IsVerdictOf files o a.0) asks a.1) (sym a.2 ∙ e) a.3
+
+  pub answer_traces : status ≡ 0 → Traces files.told words out
+  answer_traces e source schedule asks =
+      let a = accepting files words out err status answer (inl e) in
+      trace_done (named files source) (named files schedule) a.0 out (subst (λ (o : Option Asked). IsVerdictOf files o a.0) asks a.1) (sym a.2 ∙ e) a.3
+
+pub answer_refuses : RefusedIsUnderivable → (files : Files) (words : List Text) (out err : Change) (status : ℕ)
+    → Answer (IsVerdict files words) (FailedIn files words) out err status → status ≡ 1 → HasNoDerivation files.told words
+answer_refuses law files words out err status (answer_told v is s o l) e = law files words v is (sym s ∙ e)
+answer_refuses law files words out err status (answer_file n f s o l) e = absurd (omega arith)
+answer_refuses law files words out err status (out_failed s r t l) e = absurd (omega arith)
+answer_refuses law files words out err status (err_failed v is s r o l) e = absurd (omega arith)
+answer_refuses law files words out err status (file_err_failed n f s r o l) e = absurd (omega arith)
+answer_refuses law files words out err status (no_memory s o l) e = absurd (omega arith)
+
+-- ---- safety
+
+pub derivable_safe : CoresAreFormed → ValidIsSafe → DerivableIsSafe
+derivable_safe formed never bytes d =
+    let core = d.0 in
+    let of_bytes = d.1 in
+    let ann = d.2.0 in
+    (core, of_bytes, never core ann (formed bytes core of_bytes).0 d.2.1)
+
+file_safe : DerivableIsSafe → (told : Text → Option Text) (source : Option Text) → OfFile IsDerivable told source → OfFile HasSafeCore told source
+file_safe law told None h = tt
+file_safe law told (Some source) h = some_by IsDerivable HasSafeCore (told source) law h
+
+asked_safe : DerivableIsSafe → (told : Text → Option Text) (asked : Option Asked) → OfSource IsDerivable told asked → OfSource HasSafeCore told asked
+asked_safe law told None h = h
+asked_safe law told (Some asked) h =
+    (file_safe law told (source_of asked) h.0, λ seed size is. let m = h.1 seed size is in (m.0, m.1, m.2, m.3, law (made_text m.0 m.1) m.4))
+
+pub accepted_safe : DerivableIsSafe → (told : Text → Option Text) (words : List Text) → Accepts told words → IsMadeSafe told words
+accepted_safe law told words h = asked_safe law told (command_of words) h

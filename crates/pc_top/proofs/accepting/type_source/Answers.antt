@@ -1,9 +1,0 @@
-use Rattle.pc_top.specs.Accepting.Typing.{typed}
-use Rattle.pc_top.proofs.Deriving.{core_stops}
-use Rattle.pc_top.proofs.accepting.type_source.Goals as goal
-
-pub returns-in-Ok : goal.returns-in-Ok
-returns-in-Ok c = typed c.in-Ok.ann c.in-Ok.ensures.ok
-
-pub returns-in-Err : goal.returns-in-Err
-returns-in-Err c = core_stops c.args.name.now c.args.source c.in-Err.fault _ c.in-Err.ensures.err c.refuse_core.ensures

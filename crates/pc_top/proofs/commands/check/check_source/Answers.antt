@@ -1,0 +1,27 @@
+use Rattle.std.proofs.Common.{inl, refl}
+use Rattle.std.proofs.lemmas.Result.{err_from_is_err_and}
+use Rattle.pc_refusals.specs.Accepting.{AcceptedStage}
+use Rattle.pc_refusals.specs.Named.{FailedAt, file_at}
+use Rattle.pc_refusals.specs.Source.{source_limit}
+use Rattle.pc_refusals.proofs.Ending.{part_answers, part_stops}
+use Rattle.pc_top.specs.Commands.Check.{Derived}
+use Rattle.pc_top.proofs.Deriving.{accepted_source, first, small_notes, source_formed}
+use Rattle.pc_top.proofs.commands.check.check_source.Goals as goal
+
+pub returns-in_err-accepted : goal.returns-in_err-accepted
+returns-in_err-accepted g c =
+    let p = err_from_is_err_and c.from_residual.result c.from_residual.ensures.1 in
+    let file = file_at (g.F.Files.bytes c.args.files.now) (g.F.Files.faults c.args.files.now) (g.F.Files.faults c.accept_source.new.files) (g.F.Files.taken c.accept_source.new.files) c.args.source.now in
+    rw (p.1, p.2) (part_stops source_limit (AcceptedStage c.args.source.now) Derived _ file _ (λ n f. inl f) c.in_err-accepted.ensures.stage)
+
+pub write-requires : goal.write-requires
+write-requires g c =
+    let s = accepted_source c.in_ok-accepted.ensures.stage.2 in
+    let small = (source_formed c.cores_of_sources_are_formed.ensures s.0).1 in
+    small_notes c.in_ok-accepted.accepted.source.core c.in_ok-accepted.accepted.ann small s.1
+
+pub returns : goal.returns
+returns g c =
+    let one = first c.in_ok-accepted.accepted.ann c.in_ok-text.text c.in_ok-text.ensures.read_back c.in_ok-text.ensures.text in
+    let file = file_at (g.F.Files.bytes c.args.files.now) (g.F.Files.faults c.args.files.now) (g.F.Files.faults c.accept_source.new.files) (g.F.Files.taken c.accept_source.new.files) c.args.source.now in
+    part_answers source_limit (AcceptedStage c.args.source.now) Derived _ file (FailedAt file) c.in_ok-accepted.accepted (λ n f. inl f) c.in_ok-accepted.ensures.stage _ (c.in_ok-text.text, one.0, one.1, refl)

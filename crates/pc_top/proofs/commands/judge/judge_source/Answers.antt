@@ -1,0 +1,50 @@
+use Rattle.std.proofs.Common.{inl}
+use Rattle.std.proofs.lemmas.Result.{err_from_is_err_and}
+use Rattle.pc_refusals.specs.Named.{file_at}
+use Rattle.pc_refusals.specs.Source.{SourceStage, source_limit}
+use Rattle.pc_top.proofs.Judging.{derivation_refused, derivation_told}
+use Rattle.pc_top.proofs.Rooms.Judge.{judged_all, source_not_done}
+use Rattle.pc_refusals.proofs.Ending.{part_stops}
+use Rattle.pc_top.proofs.commands.judge.judge_source.Goals as goal
+
+pub returns-in_err-read-clause-answers : goal.returns-in_err-read-clause-answers
+returns-in_err-read-clause-answers g c =
+    let p = err_from_is_err_and c.from_residual.result c.from_residual.ensures.1 in
+    let source = file_at (g.F.Files.bytes c.args.files.now) (g.F.Files.faults c.args.files.now) (g.F.Files.faults c.read_source.new.files) (g.F.Files.taken c.read_source.new.files) c.args.source.now in
+    rw (p.1, p.2) (part_stops source_limit (SourceStage c.args.source.now) _ _ source _ (λ n f. inl f) c.in_err-read.ensures.stage)
+
+pub returns-in_err-read-clause-asks : goal.returns-in_err-read-clause-asks
+returns-in_err-read-clause-asks g c =
+    let p = err_from_is_err_and c.from_residual.result c.from_residual.ensures.1 in
+    let source = file_at (g.F.Files.bytes c.args.files.now) (g.F.Files.faults c.args.files.now) (g.F.Files.faults c.read_source.new.files) (g.F.Files.taken c.read_source.new.files) c.args.source.now in
+    rw (p.1, p.2) (source_not_done c.args.source.now source _ c.in_err-read.ensures.stage)
+
+pub returns-in_err-judge_derivation-clause-answers : goal.returns-in_err-judge_derivation-clause-answers
+returns-in_err-judge_derivation-clause-answers g c =
+    let p = err_from_is_err_and c.from_residual-in_err-judge_derivation.result c.from_residual-in_err-judge_derivation.ensures.1 in
+    let s = c.args.source.now in
+    let d = c.args.derivation.now in
+    rw (p.1, p.2)
+    (derivation_refused s d (g.F.Files.bytes c.args.files.now) (g.F.Files.bytes c.read_source.new.files)
+    (g.F.Files.faults c.args.files.now) (g.F.Files.faults c.read_source.new.files) (g.F.Files.faults c.judge_derivation.new.files) (g.F.Files.taken c.read_source.new.files) (g.F.Files.taken c.judge_derivation.new.files)
+    c.in_ok-read.read c.in_ok-read.ensures.stage (c.in_ok-read.ensures.same d) (c.in_ok-read.ensures.later d) (c.in_err-judge_derivation.ensures.later d) _ c.in_err-judge_derivation.ensures.ends)
+
+pub returns-in_err-judge_derivation-clause-asks : goal.returns-in_err-judge_derivation-clause-asks
+returns-in_err-judge_derivation-clause-asks g c =
+    let p = err_from_is_err_and c.from_residual-in_err-judge_derivation.result c.from_residual-in_err-judge_derivation.ensures.1 in
+    rw (p.1, p.2) c.in_err-judge_derivation.ensures.asks
+
+pub returns-clause-answers : goal.returns-clause-answers
+returns-clause-answers g c =
+    let s = c.args.source.now in
+    let d = c.args.derivation.now in
+    derivation_told s d (g.F.Files.bytes c.args.files.now) (g.F.Files.bytes c.read_source.new.files)
+    (g.F.Files.faults c.args.files.now) (g.F.Files.faults c.read_source.new.files) (g.F.Files.faults c.judge_derivation.new.files) (g.F.Files.taken c.read_source.new.files) (g.F.Files.taken c.judge_derivation.new.files)
+    c.in_ok-read.read c.in_ok-read.ensures.stage (c.in_ok-read.ensures.same d) (c.in_ok-read.ensures.later d) (c.in_ok-judge_derivation.ensures.later d) tt c.in_ok-judge_derivation.ensures.ends
+    c.in_ok-text.text c.in_ok-text.ensures
+
+pub returns-clause-asks : goal.returns-clause-asks
+returns-clause-asks g c =
+    let d = c.args.derivation.now in
+    let source = file_at (g.F.Files.bytes c.args.files.now) (g.F.Files.faults c.args.files.now) (g.F.Files.faults c.read_source.new.files) (g.F.Files.taken c.read_source.new.files) c.args.source.now in
+    judged_all source (g.F.Files.bytes c.args.files.now d) (g.F.Files.bytes c.read_source.new.files d) c.in_ok-read.read _ _ (c.in_ok-read.ensures.same d) c.in_ok-read.ensures.stage c.in_ok-judge_derivation.ensures.asks

@@ -1,0 +1,93 @@
+use Rattle.std.proofs.Common.{ap}
+use Rattle.pc_args.specs.Asked.{asked_by, check, judge, make, run, sends, show, swap, trace, upgrade}
+use Rattle.pc_io.specs.Change.{change}
+use Rattle.pc_refusals.specs.Named.{files_change}
+use Rattle.pc_top.proofs.Asking.{asks_judge, asks_other}
+use Rattle.pc_top.proofs.Ending.{command_ends, command_puts}
+use Rattle.pc_top.proofs.Rooms.Judge.{asks_put}
+use Rattle.pc_top.proofs.commands.run_command.Goals as goal
+
+pub returns-in-Check-clause-ends : goal.returns-in-Check-clause-ends
+returns-in-Check-clause-ends g c =
+    let files = files_change (g.F.Files.bytes c.args.files.now) (g.F.Files.faults c.args.files.now) (g.F.Files.faults c.check_source.new.files) (g.F.Files.taken c.check_source.new.files) in
+    let out = change (g.O.Sink.written c.args.out.now) (g.O.Sink.written c.put_answer.new.out) (g.O.Sink.faults c.args.out.now) (g.O.Sink.faults c.put_answer.new.out) in
+    command_puts files out _ (check c.in-Check.source.now) _ _ (ap asked_by c.in-Check.is) c.check_source.ensures c.put_answer.ensures.puts
+
+pub returns-in-Check-clause-asks : goal.returns-in-Check-clause-asks
+returns-in-Check-clause-asks g c = asks_other _ _ (check c.in-Check.source.now) _ _ (ap asked_by c.in-Check.is) (λ s d e. cc)
+
+pub returns-in-Judge-clause-ends : goal.returns-in-Judge-clause-ends
+returns-in-Judge-clause-ends g c =
+    let files = files_change (g.F.Files.bytes c.args.files.now) (g.F.Files.faults c.args.files.now) (g.F.Files.faults c.judge_source.new.files) (g.F.Files.taken c.judge_source.new.files) in
+    let out = change (g.O.Sink.written c.args.out.now) (g.O.Sink.written c.put_answer-in-Judge.new.out) (g.O.Sink.faults c.args.out.now) (g.O.Sink.faults c.put_answer-in-Judge.new.out) in
+    command_puts files out _ (judge c.in-Judge.source.now c.in-Judge.derivation.now) _ _ (ap asked_by c.in-Judge.is) c.judge_source.ensures.answers c.put_answer-in-Judge.ensures.puts
+
+pub returns-in-Judge-clause-asks : goal.returns-in-Judge-clause-asks
+returns-in-Judge-clause-asks g c =
+    let told = g.F.Files.bytes c.args.files.now in
+    let out = change (g.O.Sink.written c.args.out.now) (g.O.Sink.written c.put_answer-in-Judge.new.out) (g.O.Sink.faults c.args.out.now) (g.O.Sink.faults c.put_answer-in-Judge.new.out) in
+    asks_judge told _ c.in-Judge.source.now c.in-Judge.derivation.now _ _ _ (ap asked_by c.in-Judge.is)
+    (asks_put (told c.in-Judge.source.now) (told c.in-Judge.derivation.now) _ _ out _ _ c.judge_source.ensures.asks c.put_answer-in-Judge.ensures.puts)
+
+pub returns-in-Show-clause-ends : goal.returns-in-Show-clause-ends
+returns-in-Show-clause-ends g c =
+    let files = files_change (g.F.Files.bytes c.args.files.now) (g.F.Files.faults c.args.files.now) (g.F.Files.faults c.show_source.new.files) (g.F.Files.taken c.show_source.new.files) in
+    let out = change (g.O.Sink.written c.args.out.now) (g.O.Sink.written c.put_answer-in-Show.new.out) (g.O.Sink.faults c.args.out.now) (g.O.Sink.faults c.put_answer-in-Show.new.out) in
+    command_puts files out _ (show c.in-Show.source.now) _ _ (ap asked_by c.in-Show.is) c.show_source.ensures c.put_answer-in-Show.ensures.puts
+
+pub returns-in-Show-clause-asks : goal.returns-in-Show-clause-asks
+returns-in-Show-clause-asks g c = asks_other _ _ (show c.in-Show.source.now) _ _ (ap asked_by c.in-Show.is) (λ s d e. cc)
+
+pub returns-in-Swap-clause-ends : goal.returns-in-Swap-clause-ends
+returns-in-Swap-clause-ends g c =
+    let files = files_change (g.F.Files.bytes c.args.files.now) (g.F.Files.faults c.args.files.now) (g.F.Files.faults c.swap_turns.new.files) (g.F.Files.taken c.swap_turns.new.files) in
+    let out = change (g.O.Sink.written c.args.out.now) (g.O.Sink.written c.put_answer-in-Swap.new.out) (g.O.Sink.faults c.args.out.now) (g.O.Sink.faults c.put_answer-in-Swap.new.out) in
+    command_puts files out _ (swap c.in-Swap.source.now c.in-Swap.schedule.now c.in-Swap.place.now) _ _ (ap asked_by c.in-Swap.is) c.swap_turns.ensures c.put_answer-in-Swap.ensures.puts
+
+pub returns-in-Swap-clause-asks : goal.returns-in-Swap-clause-asks
+returns-in-Swap-clause-asks g c = asks_other _ _ (swap c.in-Swap.source.now c.in-Swap.schedule.now c.in-Swap.place.now) _ _ (ap asked_by c.in-Swap.is) (λ s d e. cc)
+
+pub returns-in-Trace-clause-ends : goal.returns-in-Trace-clause-ends
+returns-in-Trace-clause-ends g c =
+    let files = files_change (g.F.Files.bytes c.args.files.now) (g.F.Files.faults c.args.files.now) (g.F.Files.faults c.trace_run.new.files) (g.F.Files.taken c.trace_run.new.files) in
+    let out = change (g.O.Sink.written c.args.out.now) (g.O.Sink.written c.put_answer-in-Trace.new.out) (g.O.Sink.faults c.args.out.now) (g.O.Sink.faults c.put_answer-in-Trace.new.out) in
+    command_puts files out _ (trace c.in-Trace.source.now c.in-Trace.schedule.now) _ _ (ap asked_by c.in-Trace.is) c.trace_run.ensures c.put_answer-in-Trace.ensures.puts
+
+pub returns-in-Trace-clause-asks : goal.returns-in-Trace-clause-asks
+returns-in-Trace-clause-asks g c = asks_other _ _ (trace c.in-Trace.source.now c.in-Trace.schedule.now) _ _ (ap asked_by c.in-Trace.is) (λ s d e. cc)
+
+pub returns-in-Sends-clause-ends : goal.returns-in-Sends-clause-ends
+returns-in-Sends-clause-ends g c =
+    let files = files_change (g.F.Files.bytes c.args.files.now) (g.F.Files.faults c.args.files.now) (g.F.Files.faults c.tell_sends.new.files) (g.F.Files.taken c.tell_sends.new.files) in
+    let out = change (g.O.Sink.written c.args.out.now) (g.O.Sink.written c.put_answer-in-Sends.new.out) (g.O.Sink.faults c.args.out.now) (g.O.Sink.faults c.put_answer-in-Sends.new.out) in
+    command_puts files out _ (sends c.in-Sends.source.now) _ _ (ap asked_by c.in-Sends.is) c.tell_sends.ensures c.put_answer-in-Sends.ensures.puts
+
+pub returns-in-Sends-clause-asks : goal.returns-in-Sends-clause-asks
+returns-in-Sends-clause-asks g c = asks_other _ _ (sends c.in-Sends.source.now) _ _ (ap asked_by c.in-Sends.is) (λ s d e. cc)
+
+pub returns-in-Upgrade-clause-ends : goal.returns-in-Upgrade-clause-ends
+returns-in-Upgrade-clause-ends g c =
+    let files = files_change (g.F.Files.bytes c.args.files.now) (g.F.Files.faults c.args.files.now) (g.F.Files.faults c.upgrade_derivation.new.files) (g.F.Files.taken c.upgrade_derivation.new.files) in
+    let out = change (g.O.Sink.written c.args.out.now) (g.O.Sink.written c.put_answer-in-Upgrade.new.out) (g.O.Sink.faults c.args.out.now) (g.O.Sink.faults c.put_answer-in-Upgrade.new.out) in
+    command_puts files out _ (upgrade c.in-Upgrade.source.now c.in-Upgrade.derivation.now) _ _ (ap asked_by c.in-Upgrade.is) c.upgrade_derivation.ensures c.put_answer-in-Upgrade.ensures.puts
+
+pub returns-in-Upgrade-clause-asks : goal.returns-in-Upgrade-clause-asks
+returns-in-Upgrade-clause-asks g c = asks_other _ _ (upgrade c.in-Upgrade.source.now c.in-Upgrade.derivation.now) _ _ (ap asked_by c.in-Upgrade.is) (λ s d e. cc)
+
+pub returns-in-Run-clause-ends : goal.returns-in-Run-clause-ends
+returns-in-Run-clause-ends g c =
+    let files = files_change (g.F.Files.bytes c.args.files.now) (g.F.Files.faults c.args.files.now) (g.F.Files.faults c.run_source.new.files) (g.F.Files.taken c.run_source.new.files) in
+    let out = change (g.O.Sink.written c.args.out.now) (g.O.Sink.written c.run_source.new.out) (g.O.Sink.faults c.args.out.now) (g.O.Sink.faults c.run_source.new.out) in
+    command_ends files out _ (run c.in-Run.source.now c.in-Run.schedule.now) _ (ap asked_by c.in-Run.is) c.run_source.ensures.ends
+
+pub returns-in-Run-clause-asks : goal.returns-in-Run-clause-asks
+returns-in-Run-clause-asks g c = asks_other _ _ (run c.in-Run.source.now c.in-Run.schedule.now) _ _ (ap asked_by c.in-Run.is) (λ s d e. cc)
+
+pub returns-in-Make-clause-ends : goal.returns-in-Make-clause-ends
+returns-in-Make-clause-ends g c =
+    let files = files_change (g.F.Files.bytes c.args.files.now) (g.F.Files.faults c.args.files.now) (g.F.Files.faults c.args.files.now) (g.F.Files.taken c.args.files.now) in
+    let out = change (g.O.Sink.written c.args.out.now) (g.O.Sink.written c.make_program.new.out) (g.O.Sink.faults c.args.out.now) (g.O.Sink.faults c.make_program.new.out) in
+    command_ends files out _ (make c.in-Make.seed.now c.in-Make.size.now) _ (ap asked_by c.in-Make.is) c.make_program.ensures.ends
+
+pub returns-in-Make-clause-asks : goal.returns-in-Make-clause-asks
+returns-in-Make-clause-asks g c = asks_other _ _ (make c.in-Make.seed.now c.in-Make.size.now) _ _ (ap asked_by c.in-Make.is) (λ s d e. cc)

@@ -1,0 +1,23 @@
+use Rattle.std.proofs.Common.{inl, refl}
+use Rattle.std.proofs.lemmas.Result.{err_from_is_err_and}
+use Rattle.pc_refusals.specs.Accepting.{AcceptedStage}
+use Rattle.pc_refusals.specs.Named.{FailedAt, file_at}
+use Rattle.pc_refusals.specs.Source.{source_limit}
+use Rattle.pc_refusals.proofs.Ending.{part_answers, part_stops}
+use Rattle.pc_top.specs.Commands.Sends.{Sent}
+use Rattle.pc_top.proofs.Deriving.{accepted_source}
+use Rattle.pc_top.proofs.commands.sends.tell_sends.Goals as goal
+
+pub returns-in_err-accepted : goal.returns-in_err-accepted
+returns-in_err-accepted g c =
+    let p = err_from_is_err_and c.from_residual.result c.from_residual.ensures.1 in
+    let file = file_at (g.F.Files.bytes c.args.files.now) (g.F.Files.faults c.args.files.now) (g.F.Files.faults c.accept_source.new.files) (g.F.Files.taken c.accept_source.new.files) c.args.source.now in
+    rw (p.1, p.2) (part_stops source_limit (AcceptedStage c.args.source.now) Sent _ file _ (λ n f. inl f) c.in_err-accepted.ensures.stage)
+
+pub write_sends-requires : goal.write_sends-requires
+write_sends-requires g c = (accepted_source c.in_ok-accepted.ensures.stage.2).1
+
+pub returns : goal.returns
+returns g c =
+    let file = file_at (g.F.Files.bytes c.args.files.now) (g.F.Files.faults c.args.files.now) (g.F.Files.faults c.accept_source.new.files) (g.F.Files.taken c.accept_source.new.files) c.args.source.now in
+    part_answers source_limit (AcceptedStage c.args.source.now) Sent _ file (FailedAt file) c.in_ok-accepted.accepted (λ n f. inl f) c.in_ok-accepted.ensures.stage _ (c.in_ok-text.text, c.in_ok-text.ensures, refl)

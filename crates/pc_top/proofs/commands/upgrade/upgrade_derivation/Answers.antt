@@ -1,0 +1,64 @@
+use Rattle.std.proofs.Common.{ap, inl, inr, Ok, Err}
+use Rattle.std.proofs.lemmas.Result.{err_from_is_err_and}
+use Rattle.pc_ann.specs.declared.annotation.Ann.{Ann}
+use Rattle.pc_deriv.specs.Text.{deriv_text}
+use Rattle.pc_deriv.specs.declared.version.Version.TheVariants as version
+use Rattle.pc_refusals.specs.Derivation.{DerivationStage, Judging, derivation_limit}
+use Rattle.pc_refusals.specs.Named.{file_at, files_change, named}
+use Rattle.pc_refusals.specs.Source.{SourceStage, source_limit}
+use Rattle.pc_refusals.specs.Verdict.{EndsAs, done}
+use Rattle.pc_refusals.specs.declared.source.Source.{Source}
+use Rattle.pc_refusals.proofs.Derivations.{few}
+use Rattle.pc_refusals.proofs.Ending.{both_answer, both_stop, last_stops, part_stops}
+use Rattle.pc_refusals.proofs.TwoFiles.{second_gives, second_stops}
+use Rattle.pc_top.proofs.Deriving.{never_longer}
+use Rattle.pc_top.proofs.commands.upgrade.upgrade_derivation.Goals as goal
+
+pub returns-in_err-read : goal.returns-in_err-read
+returns-in_err-read g c =
+    let p = err_from_is_err_and c.from_residual.result c.from_residual.ensures.1 in
+    let source = file_at (g.F.Files.bytes c.args.files.now) (g.F.Files.faults c.args.files.now) (g.F.Files.faults c.read_source.new.files) (g.F.Files.taken c.read_source.new.files) c.args.source.now in
+    rw (p.1, p.2) (part_stops source_limit (SourceStage c.args.source.now) _ _ source _ (λ n f. inl f) c.in_err-read.ensures.stage)
+
+pub returns-in_err-ann : goal.returns-in_err-ann
+returns-in_err-ann g c =
+    let p = err_from_is_err_and c.from_residual-in_err-ann.result c.from_residual-in_err-ann.ensures.1 in
+    let s = c.args.source.now in
+    let d = c.args.derivation.now in
+    let files = files_change (g.F.Files.bytes c.args.files.now) (g.F.Files.faults c.args.files.now) (g.F.Files.faults c.read_derivation.new.files) (g.F.Files.taken c.read_derivation.new.files) in
+    rw (p.1, p.2)
+    (both_stop source_limit derivation_limit (SourceStage s) (DerivationStage d) (λ (x : Source) (note : Ann). EndsAs (λ _. deriv_text version.Two note) (Judging s d x note)) _ (named files s) (named files d) _ (λ n f. inl f) (λ n f. inr (inl f))
+    (second_stops source_limit derivation_limit (SourceStage s) (DerivationStage d) s d (g.F.Files.bytes c.args.files.now) (g.F.Files.bytes c.read_source.new.files)
+    (g.F.Files.faults c.args.files.now) (g.F.Files.faults c.read_source.new.files) (g.F.Files.faults c.read_derivation.new.files) (g.F.Files.taken c.read_source.new.files) (g.F.Files.taken c.read_derivation.new.files) (g.F.Files.taken c.read_derivation.new.files)
+    c.in_ok-read.read (never_longer s c.in_ok-read.read) c.in_ok-read.ensures.stage (c.in_ok-read.ensures.same d) (c.in_ok-read.ensures.later d) (c.in_err-ann.ensures.later d) _ c.in_err-ann.ensures.stage))
+
+pub returns-in_err-judge_annotation : goal.returns-in_err-judge_annotation
+returns-in_err-judge_annotation g c =
+    let p = err_from_is_err_and c.from_residual-in_err-judge_annotation.result c.from_residual-in_err-judge_annotation.ensures.1 in
+    let s = c.args.source.now in
+    let d = c.args.derivation.now in
+    let files = files_change (g.F.Files.bytes c.args.files.now) (g.F.Files.faults c.args.files.now) (g.F.Files.faults c.read_derivation.new.files) (g.F.Files.taken c.read_derivation.new.files) in
+    let read = c.in_ok-read.read in
+    let ann = c.in_ok-ann.ann in
+    rw (p.1, p.2)
+    (both_answer source_limit derivation_limit (SourceStage s) (DerivationStage d) (λ (x : Source) (note : Ann). EndsAs (λ _. deriv_text version.Two note) (Judging s d x note)) _ (named files s) (named files d) read ann
+    (second_gives source_limit derivation_limit (SourceStage s) (DerivationStage d) s d (g.F.Files.bytes c.args.files.now) (g.F.Files.bytes c.read_source.new.files)
+    (g.F.Files.faults c.args.files.now) (g.F.Files.faults c.read_source.new.files) (g.F.Files.faults c.read_derivation.new.files) (g.F.Files.taken c.read_source.new.files) (g.F.Files.taken c.read_derivation.new.files) (g.F.Files.taken c.read_derivation.new.files)
+    c.in_ok-read.read (never_longer s c.in_ok-read.read) c.in_ok-read.ensures.stage (c.in_ok-read.ensures.same d) (c.in_ok-read.ensures.later d) (c.in_ok-ann.ensures.later d) ann c.in_ok-ann.ensures.stage) (Err _)
+    (last_stops (λ _. deriv_text version.Two ann) (Judging s d read ann) (λ n. ⊥) _ c.in_err-judge_annotation.ensures))
+
+pub write2-requires : goal.write2-requires
+write2-requires g c = few c.in_ok-ann.ensures.stage.2
+
+pub returns : goal.returns
+returns g c =
+    let s = c.args.source.now in
+    let d = c.args.derivation.now in
+    let files = files_change (g.F.Files.bytes c.args.files.now) (g.F.Files.faults c.args.files.now) (g.F.Files.faults c.read_derivation.new.files) (g.F.Files.taken c.read_derivation.new.files) in
+    let read = c.in_ok-read.read in
+    let ann = c.in_ok-ann.ann in
+    both_answer source_limit derivation_limit (SourceStage s) (DerivationStage d) (λ (x : Source) (note : Ann). EndsAs (λ _. deriv_text version.Two note) (Judging s d x note)) _ (named files s) (named files d) read ann
+    (second_gives source_limit derivation_limit (SourceStage s) (DerivationStage d) s d (g.F.Files.bytes c.args.files.now) (g.F.Files.bytes c.read_source.new.files)
+    (g.F.Files.faults c.args.files.now) (g.F.Files.faults c.read_source.new.files) (g.F.Files.faults c.read_derivation.new.files) (g.F.Files.taken c.read_source.new.files) (g.F.Files.taken c.read_derivation.new.files) (g.F.Files.taken c.read_derivation.new.files)
+    c.in_ok-read.read (never_longer s c.in_ok-read.read) c.in_ok-read.ensures.stage (c.in_ok-read.ensures.same d) (c.in_ok-read.ensures.later d) (c.in_ok-ann.ensures.later d) ann c.in_ok-ann.ensures.stage) (Ok c.in_ok-text.text)
+    (Ok tt, c.in_ok-judge_annotation.ensures, ap done c.in_ok-text.ensures.text)

@@ -1,5 +1,0 @@
-use Rattle.pc_top.proofs.Places.{At}
-use Rattle.pc_top.proofs.place.place_behind.Given as goal
-
-abbrev pub invariant-loop-byte : goal.invariant-loop-byte
-invariant-loop-byte l = At l.front l.byte-index l.place.line l.place.column

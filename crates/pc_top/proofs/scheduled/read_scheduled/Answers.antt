@@ -1,0 +1,34 @@
+use Rattle.std.proofs.Common.{inl}
+use Rattle.std.proofs.lemmas.Result.{err_from_is_err_and}
+use Rattle.pc_sched.specs.Limits.{schedule_limit}
+use Rattle.pc_refusals.specs.Accepting.{AcceptedStage}
+use Rattle.pc_refusals.specs.Schedule.{ScheduleStage}
+use Rattle.pc_refusals.specs.Source.{source_limit}
+use Rattle.pc_refusals.proofs.TwoFiles.{second_gives, second_stops}
+use Rattle.pc_top.proofs.Deriving.{accepted_whole}
+use Rattle.pc_top.proofs.scheduled.read_scheduled.Goals as goal
+
+pub returns-in_err-accepted : goal.returns-in_err-accepted
+returns-in_err-accepted g c =
+    let p = err_from_is_err_and c.from_residual.result c.from_residual.ensures.1 in
+    rw (p.1, p.2) (inl c.in_err-accepted.ensures.stage)
+
+pub returns-in_err-turns : goal.returns-in_err-turns
+returns-in_err-turns g c =
+    let p = err_from_is_err_and c.from_residual-in_err-turns.result c.from_residual-in_err-turns.ensures.1 in
+    let s = c.args.source.now in
+    let d = c.args.schedule.now in
+    rw (p.1, p.2)
+    (second_stops source_limit schedule_limit (AcceptedStage s) (ScheduleStage d) s d (g.F.Files.bytes c.args.files.now) (g.F.Files.bytes c.accept_source.new.files)
+    (g.F.Files.faults c.args.files.now) (g.F.Files.faults c.accept_source.new.files) (g.F.Files.faults c.read_schedule.new.files) (g.F.Files.taken c.accept_source.new.files) (g.F.Files.taken c.read_schedule.new.files) (g.F.Files.taken c.read_schedule.new.files)
+    c.in_ok-accepted.accepted (accepted_whole s c.in_ok-accepted.accepted) c.in_ok-accepted.ensures.stage (c.in_ok-accepted.ensures.same d) (c.in_ok-accepted.ensures.later d) (c.in_err-turns.ensures.later d)
+    _ c.in_err-turns.ensures.stage)
+
+pub returns : goal.returns
+returns g c =
+    let s = c.args.source.now in
+    let d = c.args.schedule.now in
+    second_gives source_limit schedule_limit (AcceptedStage s) (ScheduleStage d) s d (g.F.Files.bytes c.args.files.now) (g.F.Files.bytes c.accept_source.new.files)
+    (g.F.Files.faults c.args.files.now) (g.F.Files.faults c.accept_source.new.files) (g.F.Files.faults c.read_schedule.new.files) (g.F.Files.taken c.accept_source.new.files) (g.F.Files.taken c.read_schedule.new.files) (g.F.Files.taken c.read_schedule.new.files)
+    c.in_ok-accepted.accepted (accepted_whole s c.in_ok-accepted.accepted) c.in_ok-accepted.ensures.stage (c.in_ok-accepted.ensures.same d) (c.in_ok-accepted.ensures.later d) (c.in_ok-turns.ensures.later d)
+    c.in_ok-turns.turns c.in_ok-turns.ensures.stage

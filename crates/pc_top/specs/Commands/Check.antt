@@ -1,0 +1,28 @@
+-- `check SRC`.
+use Rattle.std.specs.Prelude.{◌≡◌}
+use Rattle.std.specs.Io.KnownBytes.{Appends}
+use Rattle.pc_io.specs.Change.{Change}
+use Rattle.pc_ann.specs.declared.annotation.Ann.{Ann}
+use Rattle.pc_lists.specs.Texts.{Text}
+use Rattle.pc_core.specs.CoreData.{CoreData}
+use Rattle.pc_deriv.specs.Faults.{IsText}
+use Rattle.pc_deriv.specs.declared.version.Version.TheVariants as version
+use Rattle.pc_rules.specs.Valid.{Valid}
+use Rattle.pc_refusals.specs.Named.{Named}
+use Rattle.pc_refusals.specs.Verdict.{Verdict, done}
+use Rattle.pc_refusals.specs.declared.typing.Accepted.{Accepted}
+use Rattle.pc_top.specs.CoreOf.{CoreOf}
+use Rattle.pc_top.specs.Shapes.{OfAccepted}
+
+-- Done, with the text in version 1 of its core's valid annotation.
+abbrev pub Derived : Accepted → Verdict → Type 0
+Derived accepted v = (text : Text) × (is : IsText text accepted.ann) × (is.version ≡ version.One) × (v ≡ done text)
+
+-- The verdict of `check` on this source.
+abbrev pub IsCheck : Named → Verdict → Type 0
+IsCheck = OfAccepted Derived
+
+-- Out grew by the text in version 1 of a valid annotation of the source's core.
+abbrev pub WritesDerivation : Change → Text → Type 0
+WritesDerivation out bytes =
+    (core : CoreData) × CoreOf bytes core × (ann : Ann) × Valid core ann × (text : Text) × (is : IsText text ann) × (is.version ≡ version.One) × Appends out.before out.now text

@@ -1,0 +1,15 @@
+-- `judge SRC DERIV`.
+use Rattle.std.specs.Prelude.{◌++◌, codes}
+use Rattle.pc_lists.specs.Texts.{Text}
+use Rattle.pc_refusals.specs.Derivation.{in_parts}
+use Rattle.pc_refusals.specs.Lines.{line_end}
+use Rattle.pc_refusals.specs.Named.{Named}
+use Rattle.pc_refusals.specs.Verdict.{Verdict}
+use Rattle.pc_top.specs.Shapes.{OfDerivation}
+
+abbrev pub accepted_text : Text
+accepted_text = codes "accepted" ++ line_end
+
+-- The verdict of `judge` on this source and this derivation, which is read in parts: `accepted`, or that of the first fault.
+abbrev pub IsJudge : Named → Named → Verdict → Type 0
+IsJudge source derivation = OfDerivation (λ ann. accepted_text) source (in_parts derivation)

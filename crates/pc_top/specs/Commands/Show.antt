@@ -1,0 +1,27 @@
+-- `show SRC`.
+use Rattle.std.specs.Prelude.{◌≡◌, List}
+use Rattle.std.specs.Io.KnownBytes.{Appends}
+use Rattle.pc_io.specs.Change.{Change}
+use Rattle.pc_lists.specs.Texts.{Text}
+use Rattle.pc_grammar.specs.FileAnswers.{IsFileAnswer, spelled}
+use Rattle.pc_lex.specs.Answers.{TokenList}
+use Rattle.pc_print.specs.Printing.{printed}
+use Rattle.pc_token.specs.declared.kinds.Token.{Token}
+use Rattle.pc_tree.specs.Tree as t
+use Rattle.pc_refusals.specs.FromFile.{FromFile}
+use Rattle.pc_refusals.specs.Named.{Named}
+use Rattle.pc_refusals.specs.Source.{FileStage, source_limit}
+use Rattle.pc_refusals.specs.Verdict.{Verdict, done}
+
+-- Done, with the printed text of the tree.
+abbrev pub Shown : t.File → Verdict → Type 0
+Shown file v = v ≡ done (printed file)
+
+-- The verdict of `show` on this source, whose core is not asked for.
+abbrev pub IsShow : Named → Verdict → Type 0
+IsShow source = FromFile source source_limit (FileStage source.name) Shown
+
+-- Out grew by the printed text of the file that the source's tokens spell.
+abbrev pub WritesTree : Change → Text → Type 0
+WritesTree out bytes =
+    (tokens : List Token) × TokenList bytes tokens × (file : t.File) × IsFileAnswer tokens (spelled file) × Appends out.before out.now (printed file)

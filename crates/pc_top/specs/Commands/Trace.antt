@@ -1,0 +1,79 @@
+-- `trace SRC SCHED`.
+use Rattle.std.specs.Prelude.{ℕ, ◌≡◌, Bool, true, false, List, [], ◌∷◌, ◌++◌, length, Result, Ok, Err, codes, decimal}
+use Rattle.std.specs.Io.KnownBytes.{Appends}
+use Rattle.pc_io.specs.Change.{Change}
+use Rattle.pc_core.specs.CoreData.{CoreData}
+use Rattle.pc_run.specs.Spreading.{spread}
+use Rattle.pc_sched.specs.Schedules.{TurnList}
+use Rattle.pc_sched.specs.declared.turns.Turn.{Turn}
+use Rattle.pc_trace.specs.Traces.{AllTouches, RanOn, TooLongAt, TooManyAt, VerdictIs}
+use Rattle.pc_trace.specs.declared.touch.Touch.{Touch}
+use Rattle.pc_trace.specs.declared.touch.Verdict.TheVariants.{Ordered}
+use Rattle.pc_lists.specs.Texts.{Text}
+use Rattle.pc_refusals.specs.Lines.{line_end, many_actors_line, too_long_line}
+use Rattle.pc_refusals.specs.Named.{Named}
+use Rattle.pc_refusals.specs.Verdict.{EndsWith, Verdict, refused}
+use Rattle.pc_top.specs.CoreOf.{CoreOf}
+use Rattle.pc_top.specs.Shapes.{OfScheduled}
+
+-- ---- lines
+
+abbrev pub kind_text : Bool → Text
+kind_text true = codes "write"
+kind_text false = codes "read"
+
+-- Numbers, each behind a comma.
+abbrev pub behind_text : List ℕ → Text
+behind_text [] = []
+behind_text (n ∷ ns) = codes "," ++ (decimal n ++ behind_text ns)
+
+-- Numbers with one comma between two.
+abbrev pub clock_text : List ℕ → Text
+clock_text [] = []
+clock_text (n ∷ ns) = decimal n ++ behind_text ns
+
+-- `PLACE ACTOR read M.S F clock `, or the same with `write`.
+abbrev pub access_text : Touch → Text
+access_text t =
+    decimal t.place ++ (codes " " ++ (decimal t.actor ++ (codes " " ++ (kind_text t.write ++ (codes " " ++ (decimal t.address.maker ++ (codes "." ++ (decimal t.address.serial ++ (codes " " ++ (decimal t.field
+    ++ codes " clock "))))))))))
+
+-- An access and its clock.
+abbrev pub touch_line : Touch → Text
+touch_line t = access_text t ++ (clock_text t.clock ++ line_end)
+
+abbrev pub touches_text : List Touch → Text
+touches_text [] = []
+touches_text (t ∷ ts) = touch_line t ++ touches_text ts
+
+-- `accesses N ordered`
+abbrev pub count_line : ℕ → Text
+count_line n = codes "accesses " ++ (decimal n ++ (codes " ordered" ++ line_end))
+
+-- The accesses, a line each, and how many they are.
+abbrev pub trace_text : List Touch → Text
+trace_text touches = touches_text touches ++ count_line (length touches)
+
+-- ---- the verdict
+
+-- These are all accesses of a run that no step ended, in order and with their clocks; and of two events of different actors that
+-- touch one field, one of them writing, the earlier comes before the later.
+abbrev pub Traced : CoreData → List ℕ → List Touch → Type 0
+Traced core list touches = RanOn core list × AllTouches core list touches × VerdictIs core list Ordered
+
+-- The text of a run: 12 where a step would make a text that is too long, and 8 where one would make too many actors.
+pub data Tracing (name : Text) (core : CoreData) (list : List ℕ) : Result Text Verdict → Type 0 where
+  tells : (touches : List Touch) (text : Text) → Traced core list touches → text ≡ trace_text touches → Tracing name core list (Ok text)
+  too_long : (n : ℕ) → TooLongAt core list n → Tracing name core list (Err (refused 12 (too_long_line name n)))
+  too_many : (n : ℕ) → TooManyAt core list n → Tracing name core list (Err (refused 8 (many_actors_line name n)))
+
+-- The verdict of `trace` on this source and this schedule.
+abbrev pub IsTrace : Named → Named → Verdict → Type 0
+IsTrace = OfScheduled (λ name core list. EndsWith (Tracing name core list))
+
+-- Out grew by the lines of the accesses of the run of the source's core by the schedule, all of them, in order and with their
+-- clocks. Of two events of different actors that touch one field, one of them writing, the earlier comes before the later.
+abbrev pub WritesTrace : Change → Text → Text → Type 0
+WritesTrace out source schedule =
+    (core : CoreData) × CoreOf source core × (turns : List Turn) × TurnList schedule turns × (touches : List Touch) × Traced core (spread turns) touches
+    × Appends out.before out.now (trace_text touches)

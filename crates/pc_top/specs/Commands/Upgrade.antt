@@ -1,0 +1,25 @@
+-- `upgrade SRC DERIV`.
+use Rattle.std.specs.Io.KnownBytes.{Appends}
+use Rattle.pc_io.specs.Change.{Change}
+use Rattle.pc_ann.specs.declared.annotation.Ann.{Ann}
+use Rattle.pc_lists.specs.Texts.{Text}
+use Rattle.pc_core.specs.CoreData.{CoreData}
+use Rattle.pc_deriv.specs.Faults.{IsText}
+use Rattle.pc_deriv.specs.Text.{deriv_text}
+use Rattle.pc_deriv.specs.declared.version.Version.TheVariants as version
+use Rattle.pc_rules.specs.Valid.{Valid}
+use Rattle.pc_refusals.specs.Named.{Named}
+use Rattle.pc_refusals.specs.Verdict.{Verdict}
+use Rattle.pc_top.specs.CoreOf.{CoreOf}
+use Rattle.pc_top.specs.Shapes.{OfDerivation}
+
+-- The verdict of `upgrade` on this source and this derivation: the annotation's text in version 2, or the verdict of the first
+-- fault. What refuses them in `judge` refuses them here, with the same line. The derivation is read whole.
+abbrev pub IsUpgrade : Named → Named → Verdict → Type 0
+IsUpgrade = OfDerivation (deriv_text version.Two)
+
+-- Out grew by the text in version 2 of the annotation of which the derivation is a text, in either version. It is valid for the
+-- source's core.
+abbrev pub WritesUpgraded : Change → Text → Text → Type 0
+WritesUpgraded out source derivation =
+    (core : CoreData) × CoreOf source core × (ann : Ann) × Valid core ann × IsText derivation ann × Appends out.before out.now (deriv_text version.Two ann)

@@ -1,0 +1,17 @@
+-- How the reading of a source that has to be accepted, and then of a schedule, ended.
+use Rattle.std.specs.Prelude.{Result, MatchResult}
+use Rattle.pc_lists.specs.Texts.{Text}
+use Rattle.pc_sched.specs.Limits.{schedule_limit}
+use Rattle.pc_refusals.specs.Accepting.{AcceptedStage}
+use Rattle.pc_refusals.specs.Inner.TwoFiles.{BothGive, OneStops}
+use Rattle.pc_refusals.specs.Named.{Files, named}
+use Rattle.pc_refusals.specs.Schedule.{ScheduleStage}
+use Rattle.pc_refusals.specs.Source.{source_limit}
+use Rattle.pc_refusals.specs.declared.stop.Stop.{Stop}
+use Rattle.pc_top.specs.declared.scheduled.Scheduled.{Scheduled}
+
+abbrev pub ScheduledEnds : Files → Text → Text → Result Scheduled Stop → Type 0
+ScheduledEnds files source schedule result =
+    MatchResult result
+    (λ read. BothGive source_limit schedule_limit (AcceptedStage source) (ScheduleStage schedule) (named files source) (named files schedule) read.accepted read.turns)
+    (OneStops source_limit schedule_limit (AcceptedStage source) (ScheduleStage schedule) (named files source) (named files schedule))

@@ -1,0 +1,37 @@
+-- What verdicts have in common: which files a command goes through before its own last part.
+use Rattle.std.specs.Prelude.{ℕ, List}
+use Rattle.pc_ann.specs.declared.annotation.Ann.{Ann}
+use Rattle.pc_lists.specs.Texts.{Text}
+use Rattle.pc_core.specs.CoreData.{CoreData}
+use Rattle.pc_run.specs.Spreading.{spread}
+use Rattle.pc_sched.specs.Limits.{schedule_limit}
+use Rattle.pc_refusals.specs.Accepting.{AcceptedStage}
+use Rattle.pc_refusals.specs.Derivation.{DerivationStage, Judging, derivation_limit}
+use Rattle.pc_refusals.specs.FromFile.{FromFile}
+use Rattle.pc_refusals.specs.Named.{Named}
+use Rattle.pc_refusals.specs.Schedule.{ScheduleStage}
+use Rattle.pc_refusals.specs.Source.{SourceStage, source_limit}
+use Rattle.pc_refusals.specs.Verdict.{EndsAs, Verdict}
+use Rattle.pc_refusals.specs.declared.typing.Accepted.{Accepted}
+
+-- A source goes through every stage of one that is accepted, and then the last part looks at it.
+abbrev pub OfAccepted : (Accepted → Verdict → Type 0) → Named → Verdict → Type 0
+OfAccepted Last source = FromFile source source_limit (AcceptedStage source.name) Last
+
+-- What a last part says of a schedule's name, a core, and the turns of the schedule as one list.
+abbrev pub LastOfTurns : Type 1
+LastOfTurns = Text → CoreData → List ℕ → Verdict → Type 0
+
+-- A schedule goes through its stages, and the last part looks at its turns and at an accepted source.
+abbrev pub OfTurns : LastOfTurns → Named → Accepted → Verdict → Type 0
+OfTurns Last schedule accepted = FromFile schedule schedule_limit (ScheduleStage schedule.name) (λ turns. Last schedule.name accepted.source.core (spread turns))
+
+-- A source is accepted, and then a schedule is read. The schedule is not looked at where the source is refused.
+abbrev pub OfScheduled : LastOfTurns → Named → Named → Verdict → Type 0
+OfScheduled Last source schedule = OfAccepted (OfTurns Last schedule) source
+
+-- A source goes through its stages, then a derivation, and the derivation is judged: where it is valid the command is done with
+-- this text of it. The derivation is not looked at where the source is refused.
+abbrev pub OfDerivation : (Ann → Text) → Named → Named → Verdict → Type 0
+OfDerivation text source derivation = FromFile source source_limit (SourceStage source.name) (λ s.
+    FromFile derivation derivation_limit (DerivationStage derivation.name) (λ ann. EndsAs (λ _. text ann) (Judging source.name derivation.name s ann)))

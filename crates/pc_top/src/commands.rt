@@ -1,0 +1,74 @@
+//! The commands, each in a file of its own, and which of them the words ask for.
+ghost use Rattle.std.specs.Prelude.{◌≤◌, Some};
+ghost use Rattle.pc_args.specs.Asked.{asked_by};
+ghost use Rattle.pc_io.specs.Change.{change};
+ghost use Rattle.pc_refusals.specs.Inner.Answering.{Ends};
+ghost use Rattle.pc_refusals.specs.Named.{files_change};
+ghost use Rattle.pc_top.specs.Asked.{FailedOf};
+ghost use Rattle.pc_top.specs.Commands.{IsVerdictOf};
+ghost use Rattle.pc_top.specs.Inner.Asking.{AsksSo};
+
+mod check;
+mod judge;
+mod make;
+mod run;
+mod sends;
+mod sent_lines;
+mod show;
+mod swap;
+mod trace;
+mod traced_lines;
+mod upgrade;
+
+use check::check_source;
+use judge::judge_source;
+use make::make_program;
+use pc_args::Command;
+use pc_io::{Files, Sink};
+use pc_referee::Referee;
+use pc_refusals::{Stop, put_answer};
+use run::run_source;
+use sends::tell_sends;
+use show::show_source;
+use std::alloc::Global;
+use swap::swap_turns;
+use trace::trace_run;
+use upgrade::upgrade_derivation;
+
+/// Does what a command asks for. A command that answers a text is written here, by one call of `put` on out; `run` and `make` write as
+/// they go.
+pub fn run_command<F: Files, O: Sink, R: Referee>(
+    alloc: Global,
+    command: Command,
+    files: &mut F,
+    out: &mut O,
+    referee: &mut R,
+) -> Result<(), Stop>
+    ensures out_later { O.faults out.old ≤ O.faults out.new }
+    ensures ends { let files = files_change (F.bytes files.old) (F.faults files.old) (F.faults files.new) (F.taken files.new) in
+        Ends (IsVerdictOf files (Some (asked_by command.entry))) (FailedOf files (Some (asked_by command.entry)))
+        (change (O.written out.old) (O.written out.new) (O.faults out.old) (O.faults out.new)) result }
+    ensures asks { AsksSo (F.bytes files.old) (Some (asked_by command.entry)) (R.asked referee.old) (R.asked referee.new) result }
+{
+    match command {
+        Command::Check { source } => put_answer(out, check_source(alloc, files, source)),
+        Command::Judge { source, derivation } => {
+            put_answer(out, judge_source(alloc, files, source, derivation, referee))
+        }
+        Command::Run { source, schedule } => run_source(alloc, files, out, source, schedule),
+        Command::Show { source } => put_answer(out, show_source(alloc, files, source)),
+        Command::Make { seed, size } => make_program(alloc, out, seed, size),
+        Command::Swap {
+            source,
+            schedule,
+            place,
+        } => put_answer(out, swap_turns(alloc, files, source, schedule, place)),
+        Command::Trace { source, schedule } => {
+            put_answer(out, trace_run(alloc, files, source, schedule))
+        }
+        Command::Sends { source } => put_answer(out, tell_sends(alloc, files, source)),
+        Command::Upgrade { source, derivation } => {
+            put_answer(out, upgrade_derivation(alloc, files, source, derivation))
+        }
+    }
+}

@@ -1,0 +1,73 @@
+//! `make SEED SIZE`.
+ghost use Rattle.std.specs.Prelude.{◌≤◌};
+ghost use Rattle.pc_io.specs.Change.{change};
+ghost use Rattle.pc_refusals.specs.Accepting.{AcceptedStage};
+ghost use Rattle.pc_refusals.specs.Inner.Answering.{Ends};
+ghost use Rattle.pc_refusals.specs.Inner.Stages.{PartEnds};
+ghost use Rattle.pc_refusals.specs.Named.{text_as};
+ghost use Rattle.pc_refusals.specs.Source.{source_limit};
+ghost use Rattle.pc_top.specs.Commands.Make.{IsMade, IsMake, ReadsNumbers, made_name, made_text};
+
+use super::run::run_turns;
+use crate::accepting::accept_text;
+use crate::laws::cores_of_sources_are_formed;
+use pc_args::{seed_of, size_of};
+use pc_gen::{make, schedule_of};
+use pc_io::{Bytes, Sink};
+use pc_print::print;
+use pc_refusals::{Accepted, Stop, make_counts_line, put_text, refuse_words};
+use pc_types::accepted_never_lacks;
+use std::alloc::Global;
+
+/// How lines name the source and the schedule of a made program.
+const NAME: &str = "make";
+
+// The seed and the size that these words spell.
+fn read_numbers(seed: &str, size: &str) -> Option<(u64, u32)>
+    ensures { ReadsNumbers seed.now size.now result }
+{
+    let seed = seed_of(seed)?;
+    let size = size_of(size)?;
+    Some((seed, size))
+}
+
+// The program of this seed and this size: it is printed, and the text goes through the stages of a source.
+fn accept_made(alloc: Global, seed: u64, size: u32) -> Result<Accepted, Stop>
+    requires some { 1 ≤ size }
+    requires few { size ≤ 900 }
+    ensures { PartEnds source_limit (AcceptedStage made_name) (text_as made_name (made_text seed size)) result }
+{
+    let file = make(alloc, seed, size)?;
+    let text = print(alloc, &file)?;
+    accept_text(alloc, NAME, Bytes::from_vec(text.into_vec()))
+}
+
+// Makes the program of this seed and this size, and runs it.
+fn run_made<O: Sink>(alloc: Global, out: &mut O, seed: u64, size: u32) -> Result<(), Stop>
+    requires some { 1 ≤ size }
+    requires few { size ≤ 900 }
+    ensures later { O.faults out.old ≤ O.faults out.new }
+    ensures ends { Ends (IsMade seed size) (λ n. ⊥)
+        (change (O.written out.old) (O.written out.new) (O.faults out.old) (O.faults out.new)) result }
+{
+    cores_of_sources_are_formed();
+    accepted_never_lacks();
+    let accepted = accept_made(alloc, seed, size)?;
+    let turns = schedule_of(alloc, size)?;
+    let core = &accepted.source.core;
+    let line = make_counts_line(alloc, seed, size, core.nodes().len())?;
+    put_text(out, line.as_slice())?;
+    run_turns(alloc, out, NAME, core, turns.as_slice())
+}
+
+/// Makes a program from a number and runs it: writes the line of its numbers, and then what the run writes.
+pub fn make_program<O: Sink>(alloc: Global, out: &mut O, seed: &str, size: &str) -> Result<(), Stop>
+    ensures later { O.faults out.old ≤ O.faults out.new }
+    ensures ends { Ends (IsMake seed.now size.now) (λ n. ⊥)
+        (change (O.written out.old) (O.written out.new) (O.faults out.old) (O.faults out.new)) result }
+{
+    match read_numbers(seed, size) {
+        Some((seed, size)) => run_made(alloc, out, seed, size),
+        None => Err(refuse_words(alloc)),
+    }
+}

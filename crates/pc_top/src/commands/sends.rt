@@ -1,0 +1,38 @@
+//! `sends SRC`.
+ghost use Rattle.std.specs.Prelude.{IfOk, [], ◌∷◌};
+ghost use Rattle.pc_rules.specs.Valid.{Valid};
+ghost use Rattle.pc_refusals.specs.Inner.Answering.{AnswersText};
+ghost use Rattle.pc_refusals.specs.Named.{FailedAmong, files_change, named};
+ghost use Rattle.pc_top.specs.Commands.Sends.{IsSends, IsSendsText};
+
+use super::sent_lines::write_table;
+use crate::accepting::accept_source;
+use pc_ann::Ann;
+use pc_caps::List;
+use pc_core::Core;
+use pc_io::Files;
+use pc_noted_receivers::entities;
+use pc_refusals::Stop;
+use pc_sends::sends;
+use std::alloc::{AllocError, Global};
+
+// The text of who sends what in a core, by its valid annotation.
+fn write_sends(alloc: Global, core: &Core, ann: &Ann) -> Result<List<u8>, AllocError>
+    requires { Valid core.now ann.now }
+    ensures { IfOk result (IsSendsText core.now ann.now) }
+{
+    let noted = entities(alloc, core, ann)?;
+    let table = sends(alloc, core, noted.as_slice())?;
+    write_table(alloc, core, &table)
+}
+
+/// Tells who sends what in the source of this name, over every run at once: answers a line for each entity and each method that its
+/// methods may send, and then a line for each behaviour and constructor of an actor that nothing ever sends.
+pub fn tell_sends<F: Files>(alloc: Global, files: &mut F, source: &str) -> Result<List<u8>, Stop>
+    ensures { let files = files_change (F.bytes files.old) (F.faults files.old) (F.faults files.new) (F.taken files.new) in
+        AnswersText (IsSends (named files source.now)) (FailedAmong files (source.now ∷ [])) result }
+{
+    let accepted = accept_source(alloc, files, source)?;
+    let text = write_sends(alloc, &accepted.source.core, &accepted.ann)?;
+    Ok(text)
+}

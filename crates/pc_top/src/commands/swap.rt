@@ -1,0 +1,154 @@
+//! `swap SRC SCHED PLACE`.
+ghost use Rattle.std.specs.Prelude.{◌≡◌, ◌<◌, ◌≤◌, ◌^◌, IfOk, [], ◌∷◌, length};
+ghost use Rattle.pc_args.specs.Numbers.{IsNumber, Reads};
+ghost use Rattle.pc_run.specs.Spreading.{spread};
+ghost use Rattle.pc_sched.specs.Limits.{turn_limit};
+ghost use Rattle.pc_sched.specs.Schedules.{total};
+ghost use Rattle.pc_semantics.specs.Safety.{Safe};
+ghost use Rattle.pc_refusals.specs.Inner.Answering.{AnswersText};
+ghost use Rattle.pc_refusals.specs.Inner.Stages.{StageEnds};
+ghost use Rattle.pc_refusals.specs.Named.{FailedAmong, files_change, named};
+ghost use Rattle.pc_top.specs.Commands.Swap as spec;
+ghost use Rattle.pc_top.specs.Commands.Swap.{IsPlace, IsSwap, IsSwapAt, Swapping};
+
+use crate::laws::cores_of_sources_are_formed;
+use crate::scheduled::read_scheduled;
+use pc_caps::List;
+use pc_core::Core;
+use pc_io::Files;
+use pc_refusals::{Stop, make_no_place_line, make_too_long_line, refuse_words};
+use pc_regions::valid_is_safe;
+use pc_sched::Turn;
+use pc_sched_lines::{line_of, steps_of};
+use pc_swap::{Kept, SwapFault, swap};
+use std::alloc::{AllocError, Global};
+
+/// How many digits at most spell a place.
+const PLACE_DIGITS: usize = 7;
+
+/// The last place of which the digits are enough.
+const LAST_PLACE: u32 = 9_999_999;
+
+// The number that a text spells with one to seven digits, if it is below 2^32.
+fn number_of(text: &str) -> Option<u32>
+    ensures { Reads (λ n. IsNumber 7 text.now n × (n < 2 ^ 32)) result }
+{
+    match text.as_bytes() {
+        [b'+', ..] => None,
+        bytes if bytes.len() > PLACE_DIGITS => None,
+        _ => text.parse::<u32>().ok(),
+    }
+}
+
+// The place that a text spells: one to seven digits, of a number of at least 1.
+fn place_of(text: &str) -> Option<u32>
+    ensures { Reads (IsPlace text.now) result }
+{
+    let place = number_of(text)?;
+    if place < 1 || place > LAST_PLACE {
+        return None;
+    }
+    Some(place)
+}
+
+// The line of a reason.
+fn make_kept_line(alloc: Global, kept: Kept) -> Result<List<u8>, AllocError>
+    ensures { IfOk result (λ line. line ≡ spec.kept_line kept) }
+{
+    let line = match kept {
+        Kept::SameActor => "kept: same actor\n",
+        Kept::NotMoved => "kept: not moved\n",
+        Kept::OneMailbox => "kept: one mailbox\n",
+        Kept::BothSpawn => "kept: both spawn\n",
+    };
+    List::from_slice(alloc, line.as_bytes())
+}
+
+// What is told of the turns at a place of a list and behind it, for the schedule of this name.
+fn swap_list(
+    alloc: Global,
+    name: &str,
+    core: &Core,
+    list: &[u32],
+    place: u32,
+) -> Result<List<u8>, Stop>
+    requires safe { Safe core.now }
+    requires few { length list.now ≤ turn_limit }
+    requires first { 1 ≤ place }
+    ensures { StageEnds (Swapping name.now core.now list.now place) result }
+{
+    if list.len() <= place as usize {
+        return Err(Stop::Refused {
+            status: 15,
+            line: make_no_place_line(alloc, name, place)?,
+        });
+    }
+    match swap(alloc, core, list, place) {
+        Ok(new) => Ok(line_of(alloc, new.as_slice())?),
+        Err(SwapFault::Kept(kept)) => Ok(make_kept_line(alloc, kept)?),
+        Err(SwapFault::TooLong(step)) => Err(Stop::Refused {
+            status: 12,
+            line: make_too_long_line(alloc, name, step as u64)?,
+        }),
+        Err(SwapFault::Memory) => Err(Stop::Memory),
+    }
+}
+
+// The same of the turns of the schedule of this name.
+fn swap_scheduled(
+    alloc: Global,
+    name: &str,
+    core: &Core,
+    turns: &[Turn],
+    place: u32,
+) -> Result<List<u8>, Stop>
+    requires safe { Safe core.now }
+    requires few { total turns.now ≤ turn_limit }
+    requires first { 1 ≤ place }
+    ensures { StageEnds (Swapping name.now core.now (spread turns.now) place) result }
+{
+    let list = steps_of(alloc, turns)?;
+    swap_list(alloc, name, core, list.as_slice(), place)
+}
+
+// The exchange at a place.
+fn swap_at<F: Files>(
+    alloc: Global,
+    files: &mut F,
+    source: &str,
+    schedule: &str,
+    place: u32,
+) -> Result<List<u8>, Stop>
+    requires first { 1 ≤ place }
+    ensures { let files = files_change (F.bytes files.old) (F.faults files.old) (F.faults files.new) (F.taken files.new) in
+        AnswersText (IsSwapAt (named files source.now) (named files schedule.now) place) (FailedAmong files (source.now ∷ schedule.now ∷ [])) result }
+{
+    cores_of_sources_are_formed();
+    valid_is_safe();
+    let read = read_scheduled(alloc, files, source, schedule)?;
+    swap_scheduled(
+        alloc,
+        schedule,
+        &read.accepted.source.core,
+        read.turns.as_slice(),
+        place,
+    )
+}
+
+/// Exchanges the turns at a place of a schedule and at the next, if the two steps are apart: answers the new schedule as one
+/// line, or the line that says why they stay in their order.
+pub fn swap_turns<F: Files>(
+    alloc: Global,
+    files: &mut F,
+    source: &str,
+    schedule: &str,
+    place: &str,
+) -> Result<List<u8>, Stop>
+    ensures { let files = files_change (F.bytes files.old) (F.faults files.old) (F.faults files.new) (F.taken files.new) in
+        AnswersText (IsSwap (named files source.now) (named files schedule.now) place.now) (FailedAmong files (source.now ∷ schedule.now ∷ [])) result }
+{
+    match place_of(place) {
+        Some(place) => swap_at(alloc, files, source, schedule, place),
+        None => Err(refuse_words(alloc)),
+    }
+}

@@ -1,0 +1,30 @@
+//! `upgrade SRC DERIV`.
+ghost use Rattle.std.specs.Prelude.{[], ◌∷◌};
+ghost use Rattle.pc_refusals.specs.Inner.Answering.{AnswersText};
+ghost use Rattle.pc_refusals.specs.Named.{FailedAmong, files_change, named};
+ghost use Rattle.pc_top.specs.Commands.Upgrade.{IsUpgrade};
+
+use crate::source::read_source;
+use pc_caps::List;
+use pc_deriv::write2;
+use pc_io::Files;
+use pc_refusals::{Stop, judge_annotation, read_derivation};
+use std::alloc::Global;
+
+/// Judges a derivation of a source, which is read whole: answers the text in version 2 of its annotation. The derivation may be in
+/// either version.
+pub fn upgrade_derivation<F: Files>(
+    alloc: Global,
+    files: &mut F,
+    source: &str,
+    derivation: &str,
+) -> Result<List<u8>, Stop>
+    ensures { let files = files_change (F.bytes files.old) (F.faults files.old) (F.faults files.new) (F.taken files.new) in
+        AnswersText (IsUpgrade (named files source.now) (named files derivation.now)) (FailedAmong files (source.now ∷ derivation.now ∷ [])) result }
+{
+    let read = read_source(alloc, files, source)?;
+    let ann = read_derivation(alloc, files, derivation)?;
+    judge_annotation(alloc, source, derivation, &read, &ann)?;
+    let text = write2(alloc, &ann)?;
+    Ok(text)
+}
