@@ -1,5 +1,5 @@
 -- From how a command ended and how its line was written to the program's answer.
-use Rattle.std.proofs.Common.{◌≡◌, ℕ, [], Option, Some, None, inl, inr, Ok, Err, length, sym, ◌∙◌}
+use Rattle.std.proofs.Common.{ℕ, [], Option, Some, None, inl, inr, Ok, Err, length, sym, ◌∙◌}
 use Rattle.std.specs.Prelude.{Result}
 use Rattle.std.proofs.Math.Seq.{take-length}
 use Rattle.std.specs.Io.KnownBytes.{Appends, Keeps}

@@ -1,5 +1,5 @@
 -- From what the inference answers to the stage of a core's annotation.
-use Rattle.std.proofs.Common.{◌≡◌, Option, Err, sym, subst}
+use Rattle.std.proofs.Common.{Option, Err, sym, subst}
 use Rattle.std.specs.Prelude.{codes}
 use Rattle.pc_check.specs.Faults.{Refuses}
 use Rattle.pc_check.specs.declared.fault.CheckFault.{CheckFault}

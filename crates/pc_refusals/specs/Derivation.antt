@@ -23,7 +23,7 @@ abbrev pub derivation_limit : ℕ
 derivation_limit = 33554432
 
 -- A derivation is read in parts, of which only the last one is counted in `taken`. Where the file is longer, that one begins
--- behind all bytes that a derivation may have.
+-- after all bytes that a derivation may have.
 abbrev pub in_parts : Named → Named
 in_parts file = record file { taken = derivation_limit + file.taken }
 

@@ -29,7 +29,7 @@ too_long_line name n = name ++ (codes ": text too long at step " ++ (decimal n +
 abbrev pub many_actors_line : Text → ℕ → Text
 many_actors_line name n = name ++ (codes ": too many actors at step " ++ (decimal n ++ line_end))
 
--- The place of a schedule behind which no turn stands.
+-- The place of a schedule after which no turn stands.
 abbrev pub no_place_line : Text → ℕ → Text
 no_place_line name n = name ++ (codes ": no place " ++ (decimal n ++ line_end))
 

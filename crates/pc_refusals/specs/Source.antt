@@ -72,6 +72,6 @@ SourceStage name reading = After (Length source_limit name reading) (TextStage n
 abbrev pub SyntaxStage : Text → Text → Result t.File Verdict → Type 0
 SyntaxStage name bytes = After (Lexing name bytes) (Parsing name bytes)
 
--- Its length, its tokens and its tree. No stage behind them is gone through.
+-- Its length, its tokens and its tree. No stage after them is gone through.
 abbrev pub FileStage : Text → Reading → Result t.File Verdict → Type 0
 FileStage name reading = After (Length source_limit name reading) (SyntaxStage name)

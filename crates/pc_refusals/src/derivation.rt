@@ -98,7 +98,8 @@ pub fn judge_derivation<F: Files, R: Referee>(
 ) -> Result<(), Stop>
     ensures later { (n : Sequence ℕ) → F.faults files.old n ≤ F.faults files.new n }
     ensures same { (n : Sequence ℕ) → F.bytes files.new n ≡ F.bytes files.old n }
-    ensures ends { DerivationJudged source_name.now source.now (in_parts (file_at (F.bytes files.old) (F.faults files.old) (F.faults files.new) (F.taken files.new) name.now)) result }
+    ensures ends { DerivationJudged source_name.now source.now
+        (in_parts (file_at (F.bytes files.old) (F.faults files.old) (F.faults files.new) (F.taken files.new) name.now)) result }
     ensures asks { FileAsks source.now.core (F.bytes files.old name.now) (R.asked referee.old) (R.asked referee.new) result }
 {
     source.core.formed();
@@ -113,7 +114,8 @@ pub fn judge_derivation<F: Files, R: Referee>(
 pub fn read_derivation<F: Files>(alloc: Global, files: &mut F, name: &str) -> Result<Ann, Stop>
     ensures later { (n : Sequence ℕ) → F.faults files.old n ≤ F.faults files.new n }
     ensures same { (n : Sequence ℕ) → F.bytes files.new n ≡ F.bytes files.old n }
-    ensures stage { PartEnds derivation_limit (DerivationStage name.now) (file_at (F.bytes files.old) (F.faults files.old) (F.faults files.new) (F.taken files.new) name.now) result }
+    ensures stage { PartEnds derivation_limit (DerivationStage name.now)
+        (file_at (F.bytes files.old) (F.faults files.old) (F.faults files.new) (F.taken files.new) name.now) result }
 {
     let bytes = read_file(alloc, files, name, DERIVATION_LIMIT)?;
     read_annotation(alloc, name, bytes.as_slice())

@@ -1,6 +1,6 @@
 //! The lines on err, and the first line of `make`.
 ghost use Rattle.std.specs.Prelude.{◌≡◌, IfOk};
-ghost use Rattle.pc_refusals.specs.Lines.{bad_line, counts_line, longer_line, many_actors_line, many_line, no_main_line, no_place_line, node_line, place_line, shape_line, slot_line, too_long_line, unread_line, unset_line, usage_line};
+ghost use Rattle.pc_refusals.specs.Lines as spec;
 
 use crate::place::Place;
 use pc_io::Bytes;
@@ -8,7 +8,7 @@ use std::alloc::{AllocError, Global};
 
 /// `NAME: longer than N bytes`, with a line end.
 pub fn make_longer_line(alloc: Global, name: &str, limit: u32) -> Result<Bytes, AllocError>
-    ensures { IfOk result (λ line. line ≡ longer_line name.now limit) }
+    ensures { IfOk result (λ line. line ≡ spec.longer_line name.now limit) }
 {
     let text = format!(in alloc; "{name}: longer than {limit} bytes\n")?;
     Bytes::copy_of(alloc, text.as_bytes())
@@ -16,7 +16,7 @@ pub fn make_longer_line(alloc: Global, name: &str, limit: u32) -> Result<Bytes, 
 
 /// `NAME: cannot be read`, with a line end.
 pub fn make_unread_line(alloc: Global, name: &[u8]) -> Result<Bytes, AllocError>
-    ensures { IfOk result (λ line. line ≡ unread_line name.now) }
+    ensures { IfOk result (λ line. line ≡ spec.unread_line name.now) }
 {
     let mut line = name.to_vec(alloc)?;
     line.extend_from_slice(b": cannot be read\n")?;
@@ -25,14 +25,14 @@ pub fn make_unread_line(alloc: Global, name: &[u8]) -> Result<Bytes, AllocError>
 
 /// How the program is called, with a line end.
 pub fn make_usage_line(alloc: Global) -> Result<Bytes, AllocError>
-    ensures { IfOk result (λ line. line ≡ usage_line) }
+    ensures { IfOk result (λ line. line ≡ spec.usage_line) }
 {
     Bytes::copy_of(alloc, b"usage: rcap COMMAND ARGUMENT ...\n")
 }
 
 /// `NAME: no Main`, with a line end.
 pub fn make_no_main_line(alloc: Global, name: &str) -> Result<Bytes, AllocError>
-    ensures { IfOk result (λ line. line ≡ no_main_line name.now) }
+    ensures { IfOk result (λ line. line ≡ spec.no_main_line name.now) }
 {
     let text = format!(in alloc; "{name}: no Main\n")?;
     Bytes::copy_of(alloc, text.as_bytes())
@@ -45,7 +45,7 @@ pub fn make_place_line(
     place: Place,
     what: &str,
 ) -> Result<Bytes, AllocError>
-    ensures { IfOk result (λ line. line ≡ place_line name.now place.line place.column what.now) }
+    ensures { IfOk result (λ line. line ≡ spec.place_line name.now place.line place.column what.now) }
 {
     let Place { line, column } = place;
     let text = format!(in alloc; "{name}:{line}:{column}: {what}\n")?;
@@ -54,7 +54,7 @@ pub fn make_place_line(
 
 /// `NAME: text too long at step N`, with a line end.
 pub fn make_too_long_line(alloc: Global, name: &str, step: u64) -> Result<Bytes, AllocError>
-    ensures { IfOk result (λ line. line ≡ too_long_line name.now step) }
+    ensures { IfOk result (λ line. line ≡ spec.too_long_line name.now step) }
 {
     let text = format!(in alloc; "{name}: text too long at step {step}\n")?;
     Bytes::copy_of(alloc, text.as_bytes())
@@ -62,7 +62,7 @@ pub fn make_too_long_line(alloc: Global, name: &str, step: u64) -> Result<Bytes,
 
 /// `NAME: too many actors at step N`, with a line end.
 pub fn make_many_actors_line(alloc: Global, name: &str, step: u64) -> Result<Bytes, AllocError>
-    ensures { IfOk result (λ line. line ≡ many_actors_line name.now step) }
+    ensures { IfOk result (λ line. line ≡ spec.many_actors_line name.now step) }
 {
     let text = format!(in alloc; "{name}: too many actors at step {step}\n")?;
     Bytes::copy_of(alloc, text.as_bytes())
@@ -70,7 +70,7 @@ pub fn make_many_actors_line(alloc: Global, name: &str, step: u64) -> Result<Byt
 
 /// `NAME: no place N`, with a line end.
 pub fn make_no_place_line(alloc: Global, name: &str, place: u32) -> Result<Bytes, AllocError>
-    ensures { IfOk result (λ line. line ≡ no_place_line name.now place) }
+    ensures { IfOk result (λ line. line ≡ spec.no_place_line name.now place) }
 {
     let text = format!(in alloc; "{name}: no place {place}\n")?;
     Bytes::copy_of(alloc, text.as_bytes())
@@ -83,7 +83,7 @@ pub fn make_counts_line(
     size: u32,
     nodes: usize,
 ) -> Result<Bytes, AllocError>
-    ensures { IfOk result (λ line. line ≡ counts_line seed size nodes) }
+    ensures { IfOk result (λ line. line ≡ spec.counts_line seed size nodes) }
 {
     let text = format!(in alloc; "seed {seed} size {size} nodes {nodes}\n")?;
     Bytes::copy_of(alloc, text.as_bytes())
@@ -91,7 +91,7 @@ pub fn make_counts_line(
 
 /// `NAME:N: bad line`, with a line end.
 pub fn make_bad_line(alloc: Global, name: &str, number: u32) -> Result<Bytes, AllocError>
-    ensures { IfOk result (λ line. line ≡ bad_line name.now number) }
+    ensures { IfOk result (λ line. line ≡ spec.bad_line name.now number) }
 {
     let text = format!(in alloc; "{name}:{number}: bad line\n")?;
     Bytes::copy_of(alloc, text.as_bytes())
@@ -99,7 +99,7 @@ pub fn make_bad_line(alloc: Global, name: &str, number: u32) -> Result<Bytes, Al
 
 /// `NAME: too many lines`, with a line end.
 pub fn make_many_line(alloc: Global, name: &str) -> Result<Bytes, AllocError>
-    ensures { IfOk result (λ line. line ≡ many_line name.now) }
+    ensures { IfOk result (λ line. line ≡ spec.many_line name.now) }
 {
     let text = format!(in alloc; "{name}: too many lines\n")?;
     Bytes::copy_of(alloc, text.as_bytes())
@@ -107,7 +107,7 @@ pub fn make_many_line(alloc: Global, name: &str) -> Result<Bytes, AllocError>
 
 /// `NAME: shape`, with a line end.
 pub fn make_shape_line(alloc: Global, name: &str) -> Result<Bytes, AllocError>
-    ensures { IfOk result (λ line. line ≡ shape_line name.now) }
+    ensures { IfOk result (λ line. line ≡ spec.shape_line name.now) }
 {
     let text = format!(in alloc; "{name}: shape\n")?;
     Bytes::copy_of(alloc, text.as_bytes())
@@ -115,7 +115,7 @@ pub fn make_shape_line(alloc: Global, name: &str) -> Result<Bytes, AllocError>
 
 /// `NAME: slot N`, with a line end.
 pub fn make_slot_line(alloc: Global, name: &str, number: u32) -> Result<Bytes, AllocError>
-    ensures { IfOk result (λ line. line ≡ slot_line name.now number) }
+    ensures { IfOk result (λ line. line ≡ spec.slot_line name.now number) }
 {
     let text = format!(in alloc; "{name}: slot {number}\n")?;
     Bytes::copy_of(alloc, text.as_bytes())
@@ -123,7 +123,7 @@ pub fn make_slot_line(alloc: Global, name: &str, number: u32) -> Result<Bytes, A
 
 /// `NAME: node N`, with a line end.
 pub fn make_node_line(alloc: Global, name: &str, number: u32) -> Result<Bytes, AllocError>
-    ensures { IfOk result (λ line. line ≡ node_line name.now number) }
+    ensures { IfOk result (λ line. line ≡ spec.node_line name.now number) }
 {
     let text = format!(in alloc; "{name}: node {number}\n")?;
     Bytes::copy_of(alloc, text.as_bytes())
@@ -131,7 +131,7 @@ pub fn make_node_line(alloc: Global, name: &str, number: u32) -> Result<Bytes, A
 
 /// `NAME: unset in method N`, with a line end.
 pub fn make_unset_line(alloc: Global, name: &str, number: u32) -> Result<Bytes, AllocError>
-    ensures { IfOk result (λ line. line ≡ unset_line name.now number) }
+    ensures { IfOk result (λ line. line ≡ spec.unset_line name.now number) }
 {
     let text = format!(in alloc; "{name}: unset in method {number}\n")?;
     Bytes::copy_of(alloc, text.as_bytes())

@@ -19,7 +19,7 @@ pub fn place_of(bytes: &[u8], offset: usize) -> Place
     place_behind(&bytes[..offset.min(bytes.len())])
 }
 
-// The place behind these bytes.
+// The place after these bytes.
 fn place_behind(front: &[u8]) -> Place
     ensures line { result.line ≡ line_behind front.now }
     ensures column { result.column ≡ column_behind front.now }
@@ -31,7 +31,7 @@ fn place_behind(front: &[u8]) -> Place
     place
 }
 
-// The place behind a byte at this place.
+// The place after a byte at this place.
 fn next_place(place: Place, byte: u8) -> Place
     requires line { place.line < 2 ^ 63 }
     requires column { place.column < 2 ^ 63 }

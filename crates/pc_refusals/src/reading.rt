@@ -16,7 +16,8 @@ pub fn read_file<F: Files>(
 ) -> Result<Bytes, Stop>
     ensures later { (n : List ℕ) → F.faults files.old n ≤ F.faults files.new n }
     ensures same { (n : List ℕ) → F.bytes files.new n ≡ F.bytes files.old n }
-    ensures reads { ReadsFile name.now limit (F.bytes files.old name.now) (F.faults files.old name.now) (F.faults files.new name.now) (F.taken files.new) result }
+    ensures reads { ReadsFile name.now limit (F.bytes files.old name.now)
+        (F.faults files.old name.now) (F.faults files.new name.now) (F.taken files.new) result }
 {
     match files.read(alloc, name, limit) {
         Ok(bytes) => Ok(bytes),

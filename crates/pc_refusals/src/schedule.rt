@@ -20,7 +20,8 @@ const SCHEDULE_LIMIT: u32 = 1_048_576;
 pub fn read_schedule<F: Files>(alloc: Global, files: &mut F, name: &str) -> Result<List<Turn>, Stop>
     ensures later { (n : Sequence ℕ) → F.faults files.old n ≤ F.faults files.new n }
     ensures same { (n : Sequence ℕ) → F.bytes files.new n ≡ F.bytes files.old n }
-    ensures stage { PartEnds schedule_limit (ScheduleStage name.now) (file_at (F.bytes files.old) (F.faults files.old) (F.faults files.new) (F.taken files.new) name.now) result }
+    ensures stage { PartEnds schedule_limit (ScheduleStage name.now)
+        (file_at (F.bytes files.old) (F.faults files.old) (F.faults files.new) (F.taken files.new) name.now) result }
 {
     let bytes = read_file(alloc, files, name, SCHEDULE_LIMIT)?;
     read_turns(alloc, name, bytes.as_slice())
