@@ -27,7 +27,8 @@ use Rattle.pc_refusals.specs.Source.Elaborating.{elaborated}
 use Rattle.pc_refusals.specs.Source.TextStage.{has_core}
 use Rattle.pc_refusals.specs.declared.source.Source.{Source}
 use Rattle.pc_refusals.specs.declared.typing.Accepted.{Accepted}
-use Rattle.pc_top.specs.CoreOf.{CoreOf, CoresAreFormed, IsSmall}
+use Rattle.pc_top.specs.CoreOf.{CoreOf}
+use Rattle.pc_top.specs.CoresFormed.{CoresAreFormed, IsSmall}
 
 -- a source that all stages let pass
 pub source_says : {name : Text} {r : Reading} {s : Source} → SourceStage name r (Ok s) → (r ≡ whole s.bytes) × CoreOf s.bytes s.core

@@ -8,7 +8,7 @@ use Rattle.pc_sched.specs.Laws.{OneList, NotBoth, OneFault}
 use Rattle.pc_sub.specs.Declarations.{NoFaultWhereFit}
 use Rattle.pc_swap.specs.Laws.{KeptAreNotApart}
 use Rattle.pc_refusals.proofs.OneSource.{SourceLaws}
-use Rattle.pc_top.specs.CoreOf.{CoresAreFormed}
+use Rattle.pc_top.specs.CoresFormed.{CoresAreFormed}
 
 -- For that a source that is refused with 1 has no derivation.
 pub record Refusing : Type 0 where

@@ -14,7 +14,8 @@ use Rattle.pc_top.specs.Asked.{Accepts, FailedIn, HasNoDerivation, HasNoDerivati
 use Rattle.pc_top.specs.Commands.{IsVerdictOf, OnOutOf, source_of}
 use Rattle.pc_top.specs.Commands.Make.{made_text}
 use Rattle.pc_top.specs.Commands.Sends.{TablesTell}
-use Rattle.pc_top.specs.CoreOf.{CoresAreFormed, DerivableIsSafe, HasSafeCore, IsDerivable}
+use Rattle.pc_top.specs.CoreOf.{DerivableIsSafe, HasSafeCore, IsDerivable}
+use Rattle.pc_top.specs.CoresFormed.{CoresAreFormed}
 use Rattle.pc_top.specs.Failures.{NoVerdictIsAFailure}
 use Rattle.pc_top.specs.OnOut.{OnOut, Swaps, Traces}
 use Rattle.pc_top.specs.One.{TellsOf, VerdictIsOne}

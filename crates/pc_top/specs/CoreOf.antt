@@ -1,7 +1,6 @@
 -- What sources say.
 use Rattle.std.specs.Prelude.{ℕ, ◌≤◌, List, length}
 use Rattle.pc_core.specs.CoreData.{CoreData}
-use Rattle.pc_core.specs.Formed.{Formed}
 use Rattle.pc_grammar.specs.FileAnswers.{IsFileAnswer, spelled}
 use Rattle.pc_lex.specs.Answers.{TokenList}
 use Rattle.pc_file_spec.specs.Cores.{Stands}
@@ -9,7 +8,6 @@ use Rattle.pc_rules.specs.Valid.{Derivable}
 use Rattle.pc_semantics.specs.Safety.{Safe}
 use Rattle.pc_token.specs.declared.kinds.Token.{Token}
 use Rattle.pc_tree.specs.Tree as t
-use Rattle.pc_deriv.specs.Limits.{slot_limit, node_limit}
 use Rattle.pc_refusals.specs.Source.{source_limit}
 
 -- The core of a source: the one that stands for the file that its tokens spell. The source, the tokens and the file's levels
@@ -22,14 +20,6 @@ pub record CoreOf (bytes : List ℕ) (core : CoreData) : Type 0 where
   pub parsed : IsFileAnswer tokens (spelled file)
   pub stands : Stands file core
 
--- The core is so small that its annotations have a text.
-abbrev pub IsSmall : CoreData → Type 0
-IsSmall core = (length core.slots ≤ slot_limit) × (length core.nodes ≤ node_limit)
-
--- The core of a source fits together, and is so small that its annotations have a text.
-abbrev pub CoresAreFormed : Type 0
-CoresAreFormed = (bytes : List ℕ) (core : CoreData) → CoreOf bytes core → Formed core × IsSmall core
-
 -- The source has a core, and the core has a derivation.
 abbrev pub IsDerivable : List ℕ → Type 0
 IsDerivable bytes = (core : CoreData) × CoreOf bytes core × Derivable core
@@ -40,7 +30,7 @@ IsUnderivable bytes = (core : CoreData) × CoreOf bytes core × (Derivable core 
 
 -- ---- what a derivation is for
 
--- The source has a core, and the core is safe: behind every list of actors, of every length, no two of them race, what waits
+-- The source has a core, and the core is safe: after every list of actors, of every length, no two of them race, what waits
 -- in messages is let alone, and no step lacks anything.
 abbrev pub HasSafeCore : List ℕ → Type 0
 HasSafeCore bytes = (core : CoreData) × CoreOf bytes core × Safe core

@@ -24,8 +24,8 @@ pub record ReadsSource (files : Files) (words : List Text) (asked : Asked) (sour
   pub unfailed : files.now source ≡ files.before source
   pub verdict : IsVerdict files words v
 
--- `check` answers 0 exactly where the source has a core with a derivation. A command that looks for the derivation itself
--- answers 1 exactly where the source has a core without one, `make` where the program that it makes has.
+-- `check` answers 0 exactly when the source has a core with a derivation. A command that looks for the derivation itself
+-- answers 1 exactly when the source has a core without one, `make` where the program that it makes has.
 pub record StatusesAreExact : Type 0 where
   pub accepted : (files : Files) (words : List Text) (source bytes : Text) (v : Verdict) → ReadsSource files words (check source) source bytes v
       → (v.status ≡ 0) ↔ IsDerivable bytes

@@ -1,4 +1,4 @@
--- The statuses of failures and of want of memory are no verdict's.
+-- The statuses of failures and of running out of memory are no verdict's.
 use Rattle.std.specs.Prelude.{ℕ, ◌≡◌, ◌≤◌, ◌⊎◌, List}
 use Rattle.std.specs.Io.KnownBytes.{Appends, Keeps}
 use Rattle.pc_lists.specs.Texts.{Text}

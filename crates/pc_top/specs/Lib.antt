@@ -1,6 +1,7 @@
 pub mod Asked
 pub mod Commands
 pub mod CoreOf
+pub mod CoresFormed
 pub mod Exact
 pub mod Failures
 pub mod Inner

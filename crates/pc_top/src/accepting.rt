@@ -14,7 +14,8 @@ use std::alloc::Global;
 pub fn accept_source<F: Files>(alloc: Global, files: &mut F, name: &str) -> Result<Accepted, Stop>
     ensures later { (n : Sequence ℕ) → F.faults files.old n ≤ F.faults files.new n }
     ensures same { (n : Sequence ℕ) → F.bytes files.new n ≡ F.bytes files.old n }
-    ensures stage { PartEnds source_limit (AcceptedStage name.now) (file_at (F.bytes files.old) (F.faults files.old) (F.faults files.new) (F.taken files.new) name.now) result }
+    ensures stage { PartEnds source_limit (AcceptedStage name.now)
+        (file_at (F.bytes files.old) (F.faults files.old) (F.faults files.new) (F.taken files.new) name.now) result }
 {
     let source = read_source(alloc, files, name)?;
     type_source(alloc, name, source)

@@ -1,6 +1,7 @@
 //! What is proved of the verdict. Each call does nothing, and its contract is the law.
 ghost use Rattle.pc_top.specs.Asked.{RefusedIsUnderivable};
-ghost use Rattle.pc_top.specs.CoreOf.{CoresAreFormed, DerivableIsSafe};
+ghost use Rattle.pc_top.specs.CoreOf.{DerivableIsSafe};
+ghost use Rattle.pc_top.specs.CoresFormed.{CoresAreFormed};
 ghost use Rattle.pc_top.specs.Exact.{StatusesAreExact};
 ghost use Rattle.pc_top.specs.Failures.{FailuresAreTold, NoVerdictIsAFailure};
 ghost use Rattle.pc_top.specs.OnOut.{WrittenIsAccepted};
@@ -62,8 +63,8 @@ pub fn verdict_is_one()
     lines_are_one();
 }
 
-/// `check` answers 0 exactly where the source has a core with a derivation, and what looks for a derivation answers 1
-/// exactly where the source has a core without one.
+/// `check` answers 0 exactly when the source has a core with a derivation, and what looks for a derivation answers 1
+/// exactly when the source has a core without one.
 pub fn statuses_are_exact()
     ensures { StatusesAreExact }
 {
@@ -93,7 +94,7 @@ pub fn refused_sources_have_no_derivation()
     nothing_is_derivable_with_a_declaration_that_fails();
 }
 
-/// No verdict has the status of a file or a stream that failed, or of want of memory.
+/// No verdict has the status of a file or a stream that failed, or of running out of memory.
 pub fn no_verdict_is_a_failure()
     ensures { NoVerdictIsAFailure }
 {}

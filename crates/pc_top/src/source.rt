@@ -22,7 +22,8 @@ use std::alloc::Global;
 pub fn read_source<F: Files>(alloc: Global, files: &mut F, name: &str) -> Result<Source, Stop>
     ensures later { (n : Sequence ℕ) → F.faults files.old n ≤ F.faults files.new n }
     ensures same { (n : Sequence ℕ) → F.bytes files.new n ≡ F.bytes files.old n }
-    ensures stage { PartEnds source_limit (SourceStage name.now) (file_at (F.bytes files.old) (F.faults files.old) (F.faults files.new) (F.taken files.new) name.now) result }
+    ensures stage { PartEnds source_limit (SourceStage name.now)
+        (file_at (F.bytes files.old) (F.faults files.old) (F.faults files.new) (F.taken files.new) name.now) result }
 {
     let bytes = read_file(alloc, files, name, SOURCE_LIMIT)?;
     let core = read_core(alloc, name, bytes.as_slice())?;
@@ -43,7 +44,7 @@ pub fn take_source(alloc: Global, name: &str, bytes: Bytes) -> Result<Source, St
     Ok(Source { bytes, core })
 }
 
-// Goes through the stages behind its length.
+// Goes through the stages after its length.
 fn read_core(alloc: Global, name: &str, bytes: &[u8]) -> Result<Core, Stop>
     requires { length bytes.now ≤ bytes_limit }
     ensures { StageEnds (CoreStage name.now bytes.now) result }

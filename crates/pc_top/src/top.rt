@@ -28,7 +28,7 @@ use std::alloc::Global;
 /// 12 where a run comes to a text that is too long, with what was printed on out and the line on err; `swap` and `trace`
 /// write nothing then. It is 8 where `trace` comes to a step that would make the 65th actor, and 15 where a schedule has no
 /// two turns at the place that is asked for. It is 9 where a file of the command could not be read, 10 where out or err
-/// failed, and 11 at want of memory.
+/// failed, and 11 when memory ran out.
 ///
 /// A derivation, `accepted`, a printed tree, each printed text of a run and its numbers, the first line of a made program,
 /// what is told of two turns, all accesses of a run with their clocks, and all that is told of who sends what are one call of
@@ -42,8 +42,8 @@ pub fn rcap<F: Files, O: Sink, E: Sink, R: Referee>(
     err: &mut E,
     referee: &mut R,
 ) -> u8
-    // The status, the text on out and the line on err are the verdict's, or the answer is a fault with its cause, or want
-    // of memory.
+    // The status, the text on out and the line on err are the verdict's, or the answer is a fault with its cause, or memory
+    // ran out.
     ensures answers { let files = files_change (F.bytes files.old) (F.faults files.old) (F.faults files.new) (F.taken files.new) in
         Answer (IsVerdict files (texts words.now)) (FailedIn files (texts words.now))
         (change (O.written out.old) (O.written out.new) (O.faults out.old) (O.faults out.new))
@@ -53,7 +53,7 @@ pub fn rcap<F: Files, O: Sink, E: Sink, R: Referee>(
     // only shown is not asked for one.
     ensures accepted { IsAccepting result → Accepts (F.bytes files.old) (texts words.now) }
 
-    // What the program is for. That core is safe: behind every list of actors, of every length, no two actors' next steps
+    // What the program is for. That core is safe: after every list of actors, of every length, no two actors' next steps
     // touch one field unless both read, none lacks its value, slot, object, field or method, and none touches what waits as
     // an `iso` argument of a message or writes what waits as a `val` argument.
     ensures safe { IsAccepting result → IsMadeSafe (F.bytes files.old) (texts words.now) }
@@ -63,8 +63,9 @@ pub fn rcap<F: Files, O: Sink, E: Sink, R: Referee>(
 
     // The derivation of the source, `accepted`, the text of the run, the printed tree, the made program's numbers and the
     // text of its run, the exchanged schedule, the accesses of the run, the lines of who sends what, or a valid derivation in
-    // version 2 of its text are on out. What the lines of who sends what say is true of every run: over every list of actors, of every length, what an actor is about to send has its
-    // line, and no message of a method that is told as never sent waits anywhere.
+    // version 2 of its text are on out. What the lines of who sends what say is true of every run: over every list of actors,
+    // of every length, what an actor is about to send has its line, and no message of a method that is told as never sent
+    // waits anywhere.
     ensures writes { IsAccepting result → OnOut (F.bytes files.old) (texts words.now)
         (change (O.written out.old) (O.written out.new) (O.faults out.old) (O.faults out.new)) }
 
@@ -78,7 +79,7 @@ pub fn rcap<F: Files, O: Sink, E: Sink, R: Referee>(
     ensures traces { result ≡ 0 → Traces (F.bytes files.old) (texts words.now)
         (change (O.written out.old) (O.written out.new) (O.faults out.old) (O.faults out.new)) }
 
-    // Where no file of the command and no sink failed, the answer is the verdict or want of memory.
+    // Where no file of the command and no sink failed, the answer is the verdict, or memory ran out.
     ensures completes { let files = files_change (F.bytes files.old) (F.faults files.old) (F.faults files.new) (F.taken files.new) in
         Completes (IsVerdict files (texts words.now)) (FailedIn files (texts words.now))
         (change (O.written out.old) (O.written out.new) (O.faults out.old) (O.faults out.new))

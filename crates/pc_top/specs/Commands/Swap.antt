@@ -26,7 +26,7 @@ use Rattle.pc_top.specs.Shapes.{OfScheduled}
 abbrev pub IsPlace : Text → ℕ → Type 0
 IsPlace text n = IsNumber 7 text n × (1 ≤ n) × (n ≤ 9999999)
 
--- Two turns that follow one another, of the actors i and j, and what stands before and behind them.
+-- Two turns that follow one another, of the actors i and j, and what stands before and after them.
 pub record Neighbours : Type 0 where
   pub front : List ℕ
   pub i : ℕ
@@ -44,13 +44,13 @@ kept_line kept.NotMoved = codes "kept: not moved" ++ line_end
 kept_line kept.OneMailbox = codes "kept: one mailbox" ++ line_end
 kept_line kept.BothSpawn = codes "kept: both spawn" ++ line_end
 
--- What is told of them, behind the steps before: the list with both exchanged, as a line of a schedule, and it leads where the
+-- What is told of them, after the steps before: the list with both exchanged, as a line of a schedule, and it leads where the
 -- list leads; or why they stay in their order.
 pub data SwapText (core : CoreData) (t : Neighbours) (text : Text) : Type 0 where
   exchanged : (new : List ℕ) → Exchanged core t.front t.i t.j t.rest new → IsLine new text → SwapText core t text
   stay : (reason : Kept) → end_of (outcomes core t.front) ≡ None → IsKept core (after core t.front) t.i t.j reason → text ≡ kept_line reason → SwapText core t text
 
--- The text of those at a place: 15 where the list has no turn behind it, and 12 where a step before them would make a text that
+-- The text of those at a place: 15 where the list has no turn after it, and 12 where a step before them would make a text that
 -- is too long.
 pub data Swapping (name : Text) (core : CoreData) (list : List ℕ) (place : ℕ) : Result Text Verdict → Type 0 where
   tells : (t : Neighbours) (text : Text) → StandAt list place t → SwapText core t text → Swapping name core list place (Ok text)
@@ -67,7 +67,7 @@ pub data IsSwap (source schedule : Named) (place : Text) (v : Verdict) : Type 0 
   placed : (n : ℕ) → IsPlace place n → IsSwapAt source schedule n v → IsSwap source schedule place v
   no_number : ((n : ℕ) → IsPlace place n → ⊥) → v ≡ refused 2 usage_line → IsSwap source schedule place v
 
--- Out grew by what is told of the turns at a place of the schedule and behind it: the schedule with both exchanged, where their
+-- Out grew by what is told of the turns at a place of the schedule and after it: the schedule with both exchanged, where their
 -- steps are apart, and else why they stay in their order.
 abbrev pub WritesSwap : Change → Text → Text → ℕ → Type 0
 WritesSwap out source schedule place =

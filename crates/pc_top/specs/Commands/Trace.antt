@@ -22,7 +22,7 @@ abbrev pub kind_text : Bool → Text
 kind_text true = codes "write"
 kind_text false = codes "read"
 
--- Numbers, each behind a comma.
+-- Numbers, each after a comma.
 abbrev pub behind_text : List ℕ → Text
 behind_text [] = []
 behind_text (n ∷ ns) = codes "," ++ (decimal n ++ behind_text ns)

@@ -7,7 +7,7 @@ use pc_core::{Core, Method};
 use pc_sends::{Row, Table};
 use std::alloc::{AllocError, Global};
 
-// Puts the name of an entity behind a text.
+// Appends the name of an entity to a text.
 fn push_entity(text: &mut Vec<u8>, core: &Core, entity: u32) -> Result<(), AllocError>
     ensures { OnOk result (text.new.items ≡ text.old.items ++ spec.entity_name (slice_get core.now.entities entity)) }
 {
@@ -17,7 +17,7 @@ fn push_entity(text: &mut Vec<u8>, core: &Core, entity: u32) -> Result<(), Alloc
     }
 }
 
-// Puts a name behind a text, by its number.
+// Appends a name to a text, by its number.
 fn push_name(text: &mut Vec<u8>, core: &Core, name: u32) -> Result<(), AllocError>
     ensures { OnOk result (text.new.items ≡ text.old.items ++ spec.name_text (slice_get core.now.names name)) }
 {
@@ -27,7 +27,7 @@ fn push_name(text: &mut Vec<u8>, core: &Core, name: u32) -> Result<(), AllocErro
     }
 }
 
-// Puts a method behind a text, by its entity's name and its own.
+// Appends a method to a text, by its entity's name and its own.
 fn push_method(text: &mut Vec<u8>, core: &Core, method: &Method) -> Result<(), AllocError>
     ensures { OnOk result (text.new.items ≡ text.old.items ++ spec.method_text core.now (Some method.now)) }
 {
@@ -46,7 +46,7 @@ fn push_method_at(text: &mut Vec<u8>, core: &Core, method: u32) -> Result<(), Al
     }
 }
 
-// Puts these words, a method and a line end behind a text.
+// Appends these words, a method and a line end to a text.
 fn push_line(text: &mut Vec<u8>, words: &[u8], core: &Core, method: u32) -> Result<(), AllocError>
     ensures { OnOk result (text.new.items ≡ text.old.items ++ spec.line_with words.now core.now method) }
 {
@@ -56,7 +56,7 @@ fn push_line(text: &mut Vec<u8>, words: &[u8], core: &Core, method: u32) -> Resu
     Ok(())
 }
 
-// Puts the line of a row behind a text.
+// Appends the line of a row to a text.
 fn push_row(text: &mut Vec<u8>, core: &Core, row: Row) -> Result<(), AllocError>
     ensures { OnOk result (text.new.items ≡ text.old.items ++ spec.row_line core.now row) }
 {
@@ -64,7 +64,7 @@ fn push_row(text: &mut Vec<u8>, core: &Core, row: Row) -> Result<(), AllocError>
     push_line(text, b" sends ", core, row.target)
 }
 
-// Puts the lines of rows behind a text.
+// Appends the lines of rows to a text.
 fn push_rows(text: &mut Vec<u8>, core: &Core, rows: &[Row]) -> Result<(), AllocError>
     ensures { OnOk result (text.new.items ≡ text.old.items ++ spec.rows_text core.now rows.now) }
 {
@@ -74,7 +74,7 @@ fn push_rows(text: &mut Vec<u8>, core: &Core, rows: &[Row]) -> Result<(), AllocE
     Ok(())
 }
 
-// Puts the lines of what is never sent behind a text.
+// Appends the lines of what is never sent to a text.
 fn push_never(text: &mut Vec<u8>, core: &Core, methods: &[u32]) -> Result<(), AllocError>
     ensures { OnOk result (text.new.items ≡ text.old.items ++ spec.never_text core.now methods.now) }
 {

@@ -64,7 +64,7 @@ fn make_kept_line(alloc: Global, kept: Kept) -> Result<List<u8>, AllocError>
     List::from_slice(alloc, line.as_bytes())
 }
 
-// What is told of the turns at a place of a list and behind it, for the schedule of this name.
+// What is told of the turns at a place of a list and after it, for the schedule of this name.
 fn swap_list(
     alloc: Global,
     name: &str,

@@ -7,7 +7,7 @@ use pc_caps::List;
 use pc_trace::Touch;
 use std::alloc::{AllocError, Global};
 
-// Puts a number behind a text.
+// Appends a number to a text.
 fn push_number(text: &mut Vec<u8>, number: u64) -> Result<(), AllocError>
     ensures { OnOk result (text.new.items ≡ text.old.items ++ decimal number) }
 {
@@ -15,7 +15,7 @@ fn push_number(text: &mut Vec<u8>, number: u64) -> Result<(), AllocError>
     text.extend_from_slice(buffer.format(number).as_bytes())
 }
 
-// Puts numbers behind a text, each behind a comma.
+// Appends numbers to a text, each after a comma.
 fn push_behind(text: &mut Vec<u8>, numbers: &[u64]) -> Result<(), AllocError>
     ensures { OnOk result (text.new.items ≡ text.old.items ++ spec.behind_text numbers.now) }
 {
@@ -26,7 +26,7 @@ fn push_behind(text: &mut Vec<u8>, numbers: &[u64]) -> Result<(), AllocError>
     Ok(())
 }
 
-// Puts the numbers of a clock behind a text, with one comma between two.
+// Appends the numbers of a clock to a text, with one comma between two.
 fn push_clock(text: &mut Vec<u8>, clock: &[u64]) -> Result<(), AllocError>
     ensures { OnOk result (text.new.items ≡ text.old.items ++ spec.clock_text clock.now) }
 {
@@ -46,7 +46,7 @@ fn kind_of(write: bool) -> &'static str
     if write { "write" } else { "read" }
 }
 
-// Puts an access behind a text, up to its clock.
+// Appends an access to a text, up to its clock.
 fn push_access(alloc: Global, text: &mut Vec<u8>, touch: &Touch) -> Result<(), AllocError>
     ensures { OnOk result (text.new.items ≡ text.old.items ++ spec.access_text touch.now) }
 {
@@ -59,7 +59,7 @@ fn push_access(alloc: Global, text: &mut Vec<u8>, touch: &Touch) -> Result<(), A
     Ok(())
 }
 
-// Puts the line of an access behind a text.
+// Appends the line of an access to a text.
 fn push_touch(alloc: Global, text: &mut Vec<u8>, touch: &Touch) -> Result<(), AllocError>
     ensures { OnOk result (text.new.items ≡ text.old.items ++ spec.touch_line touch.now) }
 {
@@ -69,7 +69,7 @@ fn push_touch(alloc: Global, text: &mut Vec<u8>, touch: &Touch) -> Result<(), Al
     Ok(())
 }
 
-// Puts the lines of accesses behind a text.
+// Appends the lines of accesses to a text.
 fn push_touches(alloc: Global, text: &mut Vec<u8>, touches: &[Touch]) -> Result<(), AllocError>
     ensures { OnOk result (text.new.items ≡ text.old.items ++ spec.touches_text touches.now) }
 {
@@ -79,7 +79,7 @@ fn push_touches(alloc: Global, text: &mut Vec<u8>, touches: &[Touch]) -> Result<
     Ok(())
 }
 
-// Puts how many accesses there are behind a text.
+// Appends the number of accesses to a text.
 fn push_count(alloc: Global, text: &mut Vec<u8>, count: usize) -> Result<(), AllocError>
     ensures { OnOk result (text.new.items ≡ text.old.items ++ spec.count_line count) }
 {

@@ -18,7 +18,7 @@ use Rattle.pc_sends.specs.declared.table.Table.{Table}
 use Rattle.pc_sends.proofs.Tabled.{table_tells}
 use Rattle.pc_sends.proofs.There.{reach_below}
 use Rattle.pc_lists.specs.Texts.{Text}
-use Rattle.pc_top.specs.CoreOf.{CoresAreFormed}
+use Rattle.pc_top.specs.CoresFormed.{CoresAreFormed}
 use Rattle.pc_top.specs.Commands.Sends.{HasName, IsSendsText, NamesAreThere, TablesTell, table_text}
 
 -- ---- what is noted

@@ -1,4 +1,4 @@
-use Rattle.std.proofs.Common.{inl, refl}
+use Rattle.std.proofs.Common.{Err, inl, refl}
 use Rattle.pc_args.specs.Asked.{asked_by, command_of, texts}
 use Rattle.pc_args.proofs.Refusals.{asks_nothing}
 use Rattle.pc_io.specs.Change.{change}
@@ -29,7 +29,7 @@ returns-in-Err-Memory-clause-ends g c = inl (kept (g.O.Sink.written c.args.out.n
 
 pub returns-in-Err-Refused-clause-asks : goal.returns-in-Err-Refused-clause-asks
 returns-in-Err-Refused-clause-asks g c =
-    asks_nobody (g.F.Files.bytes c.args.files.now) (command_of (texts c.args.words.now)) (g.R.Referee.asked c.args.referee.now) _ (asks_nothing (texts c.args.words.now) (rw c.in-Err-Refused.field-0-is at c.in-Err-Refused.ensures))
+    asks_nobody (g.F.Files.bytes c.args.files.now) (command_of (texts c.args.words.now)) (g.R.Referee.asked c.args.referee.now) (Err c.refuse_words.result) (asks_nothing (texts c.args.words.now) (rw c.in-Err-Refused.field-0-is at c.in-Err-Refused.ensures))
 
 pub returns-in-Err-Memory-clause-asks : goal.returns-in-Err-Memory-clause-asks
 returns-in-Err-Memory-clause-asks g c = asks_no_memory (g.F.Files.bytes c.args.files.now) (command_of (texts c.args.words.now)) (g.R.Referee.asked c.args.referee.now)

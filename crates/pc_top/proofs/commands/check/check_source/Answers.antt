@@ -1,8 +1,9 @@
-use Rattle.std.proofs.Common.{inl, refl}
+use Rattle.std.proofs.Common.{[], ◌∷◌, Ok, inl, refl}
 use Rattle.std.proofs.lemmas.Result.{err_from_is_err_and}
 use Rattle.pc_refusals.specs.Accepting.{AcceptedStage}
-use Rattle.pc_refusals.specs.Named.{FailedAt, file_at}
+use Rattle.pc_refusals.specs.Named.{FailedAmong, FailedAt, file_at, files_change, named}
 use Rattle.pc_refusals.specs.Source.{source_limit}
+use Rattle.pc_refusals.specs.Verdict.{done}
 use Rattle.pc_refusals.proofs.Ending.{part_answers, part_stops}
 use Rattle.pc_top.specs.Commands.Check.{Derived}
 use Rattle.pc_top.proofs.Deriving.{accepted_source, first, small_notes, source_formed}
@@ -23,5 +24,8 @@ write-requires g c =
 pub returns : goal.returns
 returns g c =
     let one = first c.in_ok-accepted.accepted.ann c.in_ok-text.text c.in_ok-text.ensures.read_back c.in_ok-text.ensures.text in
-    let file = file_at (g.F.Files.bytes c.args.files.now) (g.F.Files.faults c.args.files.now) (g.F.Files.faults c.accept_source.new.files) (g.F.Files.taken c.accept_source.new.files) c.args.source.now in
-    part_answers source_limit (AcceptedStage c.args.source.now) Derived _ file (FailedAt file) c.in_ok-accepted.accepted (λ n f. inl f) c.in_ok-accepted.ensures.stage _ (c.in_ok-text.text, one.0, one.1, refl)
+    let derived : Derived c.in_ok-accepted.accepted (done c.in_ok-text.text) = (c.in_ok-text.text, one.0, one.1, refl) in
+    let s = c.args.source.now in
+    let files = files_change (g.F.Files.bytes c.args.files.now) (g.F.Files.faults c.args.files.now) (g.F.Files.faults c.accept_source.new.files) (g.F.Files.taken c.accept_source.new.files) in
+    let file = named files s in
+    part_answers source_limit (AcceptedStage s) Derived (FailedAmong files (s ∷ [])) file (FailedAt file) c.in_ok-accepted.accepted (λ n f. inl f) c.in_ok-accepted.ensures.stage (Ok c.in_ok-text.text) derived

@@ -1,8 +1,9 @@
-use Rattle.std.proofs.Common.{inl, refl}
+use Rattle.std.proofs.Common.{[], ◌∷◌, Ok, inl, refl}
 use Rattle.std.proofs.lemmas.Result.{err_from_is_err_and}
 use Rattle.pc_refusals.specs.Accepting.{AcceptedStage}
-use Rattle.pc_refusals.specs.Named.{FailedAt, file_at}
+use Rattle.pc_refusals.specs.Named.{FailedAmong, FailedAt, file_at, files_change, named}
 use Rattle.pc_refusals.specs.Source.{source_limit}
+use Rattle.pc_refusals.specs.Verdict.{done}
 use Rattle.pc_refusals.proofs.Ending.{part_answers, part_stops}
 use Rattle.pc_top.specs.Commands.Sends.{Sent}
 use Rattle.pc_top.proofs.Deriving.{accepted_source}
@@ -19,5 +20,8 @@ write_sends-requires g c = (accepted_source c.in_ok-accepted.ensures.stage.2).1
 
 pub returns : goal.returns
 returns g c =
-    let file = file_at (g.F.Files.bytes c.args.files.now) (g.F.Files.faults c.args.files.now) (g.F.Files.faults c.accept_source.new.files) (g.F.Files.taken c.accept_source.new.files) c.args.source.now in
-    part_answers source_limit (AcceptedStage c.args.source.now) Sent _ file (FailedAt file) c.in_ok-accepted.accepted (λ n f. inl f) c.in_ok-accepted.ensures.stage _ (c.in_ok-text.text, c.in_ok-text.ensures, refl)
+    let sent : Sent c.in_ok-accepted.accepted (done c.in_ok-text.text) = (c.in_ok-text.text, c.in_ok-text.ensures, refl) in
+    let s = c.args.source.now in
+    let files = files_change (g.F.Files.bytes c.args.files.now) (g.F.Files.faults c.args.files.now) (g.F.Files.faults c.accept_source.new.files) (g.F.Files.taken c.accept_source.new.files) in
+    let file = named files s in
+    part_answers source_limit (AcceptedStage s) Sent (FailedAmong files (s ∷ [])) file (FailedAt file) c.in_ok-accepted.accepted (λ n f. inl f) c.in_ok-accepted.ensures.stage (Ok c.in_ok-text.text) sent

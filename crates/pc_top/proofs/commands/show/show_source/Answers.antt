@@ -1,8 +1,8 @@
-use Rattle.std.proofs.Common.{ap, inl, Ok, Err}
+use Rattle.std.proofs.Common.{[], ◌∷◌, Ok, Err, ap, inl}
 use Rattle.std.proofs.lemmas.Result.{err_from_is_err_and}
 use Rattle.pc_tree.specs.View.{file_view}
 use Rattle.pc_refusals.specs.After.After.{stops}
-use Rattle.pc_refusals.specs.Named.{FailedAt, file_at}
+use Rattle.pc_refusals.specs.Named.{FailedAmong, FailedAt, file_at, files_change, named}
 use Rattle.pc_refusals.specs.Source.{FileStage, SyntaxStage, source_limit}
 use Rattle.pc_refusals.specs.Source.Length.{is_longer}
 use Rattle.pc_refusals.specs.Verdict.{done}
@@ -29,8 +29,9 @@ returns-in_err-file g c =
 pub returns : goal.returns
 returns g c =
     let s = c.args.source.now in
-    let file = file_at (g.F.Files.bytes c.args.files.now) (g.F.Files.faults c.args.files.now) (g.F.Files.faults c.read_file.new.files) (g.F.Files.taken c.read_file.new.files) s in
+    let files = files_change (g.F.Files.bytes c.args.files.now) (g.F.Files.faults c.args.files.now) (g.F.Files.faults c.read_file.new.files) (g.F.Files.taken c.read_file.new.files) in
+    let file = named files s in
     let tree = file_view c.in_ok-file.file in
     let shown : Shown tree (done c.in_ok-text.text) = ap done c.in_ok-text.ensures in
-    part_answers source_limit (FileStage s) Shown _ file (FailedAt file) tree (λ n f. inl f)
-    (whole_ends source_limit (SyntaxStage s) file c.in_ok-bytes.bytes c.as_slice.result.now (Ok tree) c.in_ok-bytes.ensures.reads c.as_slice.ensures c.in_ok-file.ensures) _ shown
+    part_answers source_limit (FileStage s) Shown (FailedAmong files (s ∷ [])) file (FailedAt file) tree (λ n f. inl f)
+    (whole_ends source_limit (SyntaxStage s) file c.in_ok-bytes.bytes c.as_slice.result.now (Ok tree) c.in_ok-bytes.ensures.reads c.as_slice.ensures c.in_ok-file.ensures) (Ok c.in_ok-text.text) shown

@@ -1,10 +1,10 @@
-use Rattle.std.proofs.Common.{List, inl, inr}
+use Rattle.std.proofs.Common.{List, [], ◌∷◌, inl, inr}
 use Rattle.std.proofs.lemmas.Result.{err_from_is_err_and}
 use Rattle.pc_run.specs.Spreading.{spread}
 use Rattle.pc_sched.specs.Limits.{schedule_limit}
 use Rattle.pc_sched.specs.declared.turns.Turn.{Turn}
 use Rattle.pc_refusals.specs.Accepting.{AcceptedStage}
-use Rattle.pc_refusals.specs.Named.{files_change, named}
+use Rattle.pc_refusals.specs.Named.{FailedAmong, files_change, named}
 use Rattle.pc_refusals.specs.Schedule.{ScheduleStage}
 use Rattle.pc_refusals.specs.Source.{source_limit}
 use Rattle.pc_refusals.specs.Verdict.{EndsWith}
@@ -35,5 +35,5 @@ returns g c =
     let d = c.args.schedule.now in
     let files = files_change (g.F.Files.bytes c.args.files.now) (g.F.Files.faults c.args.files.now) (g.F.Files.faults c.read_scheduled.new.files) (g.F.Files.taken c.read_scheduled.new.files) in
     let read = c.in_ok-read.read in
-    both_answer source_limit schedule_limit (AcceptedStage s) (ScheduleStage d) (λ (a : Accepted) (turns : List Turn). EndsWith (Tracing d a.source.core (spread turns))) _ (named files s) (named files d) read.accepted read.turns c.in_ok-read.ensures _
-    (last_ends (Tracing d read.accepted.source.core (spread read.turns)) (λ n. ⊥) _ (rw (← c.as_slice.ensures) c.trace_turns.ensures))
+    both_answer source_limit schedule_limit (AcceptedStage s) (ScheduleStage d) (λ (a : Accepted) (turns : List Turn). EndsWith (Tracing d a.source.core (spread turns))) (FailedAmong files (s ∷ d ∷ [])) (named files s) (named files d) read.accepted read.turns c.in_ok-read.ensures c.trace_turns.result
+    (last_ends (Tracing d read.accepted.source.core (spread read.turns)) (λ n. ⊥) c.trace_turns.result (rw (← c.as_slice.ensures) c.trace_turns.ensures))

@@ -1,10 +1,10 @@
-use Rattle.std.proofs.Common.{ap, inl, inr, Ok, Err}
+use Rattle.std.proofs.Common.{[], ◌∷◌, Ok, Err, ap, inl, inr}
 use Rattle.std.proofs.lemmas.Result.{err_from_is_err_and}
 use Rattle.pc_ann.specs.declared.annotation.Ann.{Ann}
 use Rattle.pc_deriv.specs.Text.{deriv_text}
 use Rattle.pc_deriv.specs.declared.version.Version.TheVariants as version
 use Rattle.pc_refusals.specs.Derivation.{DerivationStage, Judging, derivation_limit}
-use Rattle.pc_refusals.specs.Named.{file_at, files_change, named}
+use Rattle.pc_refusals.specs.Named.{FailedAmong, file_at, files_change, named}
 use Rattle.pc_refusals.specs.Source.{SourceStage, source_limit}
 use Rattle.pc_refusals.specs.Verdict.{EndsAs, done}
 use Rattle.pc_refusals.specs.declared.source.Source.{Source}
@@ -57,7 +57,7 @@ returns g c =
     let files = files_change (g.F.Files.bytes c.args.files.now) (g.F.Files.faults c.args.files.now) (g.F.Files.faults c.read_derivation.new.files) (g.F.Files.taken c.read_derivation.new.files) in
     let read = c.in_ok-read.read in
     let ann = c.in_ok-ann.ann in
-    both_answer source_limit derivation_limit (SourceStage s) (DerivationStage d) (λ (x : Source) (note : Ann). EndsAs (λ _. deriv_text version.Two note) (Judging s d x note)) _ (named files s) (named files d) read ann
+    both_answer source_limit derivation_limit (SourceStage s) (DerivationStage d) (λ (x : Source) (note : Ann). EndsAs (λ _. deriv_text version.Two note) (Judging s d x note)) (FailedAmong files (s ∷ d ∷ [])) (named files s) (named files d) read ann
     (second_gives source_limit derivation_limit (SourceStage s) (DerivationStage d) s d (g.F.Files.bytes c.args.files.now) (g.F.Files.bytes c.read_source.new.files)
     (g.F.Files.faults c.args.files.now) (g.F.Files.faults c.read_source.new.files) (g.F.Files.faults c.read_derivation.new.files) (g.F.Files.taken c.read_source.new.files) (g.F.Files.taken c.read_derivation.new.files) (g.F.Files.taken c.read_derivation.new.files)
     c.in_ok-read.read (never_longer s c.in_ok-read.read) c.in_ok-read.ensures.stage (c.in_ok-read.ensures.same d) (c.in_ok-read.ensures.later d) (c.in_ok-ann.ensures.later d) ann c.in_ok-ann.ensures.stage) (Ok c.in_ok-text.text)

@@ -1,0 +1,14 @@
+-- What holds of the core of every source.
+use Rattle.std.specs.Prelude.{ℕ, ◌≤◌, List, length}
+use Rattle.pc_core.specs.CoreData.{CoreData}
+use Rattle.pc_core.specs.Formed.{Formed}
+use Rattle.pc_deriv.specs.Limits.{slot_limit, node_limit}
+use Rattle.pc_top.specs.CoreOf.{CoreOf}
+
+-- The core is so small that its annotations have a text.
+abbrev pub IsSmall : CoreData → Type 0
+IsSmall core = (length core.slots ≤ slot_limit) × (length core.nodes ≤ node_limit)
+
+-- The core of a source fits together, and is so small that its annotations have a text.
+abbrev pub CoresAreFormed : Type 0
+CoresAreFormed = (bytes : List ℕ) (core : CoreData) → CoreOf bytes core → Formed core × IsSmall core
