@@ -10,15 +10,20 @@ CRATES = pages.TOP / "crates"
 # What the headline and the whole contract rest on, as they are named on the page.
 HEADLINE = [("pc_top", "CoreOf"), ("pc_rules", "Valid"), ("pc_semantics", "Safety")]
 CONTRACT = [
-    *(("pc_top", name) for name in ("Answer", "Asked", "Complete", "Ends", "Named", "OnOut", "Referee", "Verdict")),
+    *(("pc_top", name) for name in ("Asked", "OnOut", "Referee")),
+    *(("pc_refusals", name) for name in ("Answer", "Complete", "Named", "Verdict")),
     ("pc_args", "Asked"),
     ("pc_io", "Change"),
 ]
 
-# An import of a file of definitions of a crate. Types that come from the code are `declared`.
-IMPORT = re.compile(r"^use Rattle\.(pc_\w+)\.specs\.(\w+)", re.MULTILINE)
+# An import of definitions of a crate: from a file, a file of a folder, or a type of a file. Types that come from the code are
+# `declared`.
+IMPORT = re.compile(r"^use Rattle\.(pc_\w+)\.specs\.(\w+(?:\.\w+)*)", re.MULTILINE)
 
 NOT_WRITTEN = ("declared", "contracts")
+
+# What says only how the parts inside a command end. No clause of the whole call rests on it.
+INNER = "Inner/"
 
 COMMAND_OF_HELP = re.compile(r"  ((?:[a-z]+)(?: [A-Z]+)+)(?:  .*|)$")
 STATUS_OF_HELP = re.compile(r" *(\d+)  (.*?)(?:  +.*)?$")
@@ -51,6 +56,13 @@ def file_of(crate, name):
     return CRATES / crate / "specs" / f"{name}.antt"
 
 
+def imported(crate, way):
+    """The file of definitions to which the way of an import leads. After it the way may go on to a type of that file."""
+    parts = way.split(".")
+    ways = ["/".join(parts[:count]) for count in range(len(parts), 0, -1)]
+    return crate, next((it for it in ways if file_of(crate, it).exists()), ways[0])
+
+
 def length(files):
     """How many lines files of definitions have."""
     return sum(len(file_of(*it).read_text().splitlines()) for it in files)
@@ -63,7 +75,8 @@ def imports(starts, leave_out=()):
         one = left.pop()
         if one not in seen:
             seen.add(one)
-            uses = [it for it in IMPORT.findall(file_of(*one).read_text()) if it[1] not in NOT_WRITTEN]
+            ways = IMPORT.findall(file_of(*one).read_text())
+            uses = [imported(*it) for it in ways if it[1].split(".")[0] not in NOT_WRITTEN]
             left += [it for it in uses if it[0] not in leave_out]
     return seen
 
@@ -113,10 +126,13 @@ def look_at_lines(found, results):
             results.check(row.cells["Lines"] == lines, f"{page.name}:{row.line}: lines", f"the files have {lines}")
             listed |= set(named)
     # The record `CoreOf` takes a limit from the files on the verdict, which the headline does not rest on.
-    wanted = imports(HEADLINE, leave_out=("pc_top",)) | imports([("pc_file_spec", "Cores"), ("pc_grammar", "FileAnswers"), ("pc_lex", "Answers")])
+    wanted = imports(HEADLINE, leave_out=("pc_top", "pc_refusals")) | imports([("pc_file_spec", "Cores"), ("pc_grammar", "FileAnswers"), ("pc_lex", "Answers")])
     results.check(listed == wanted, f"{page.name}: what the headline imports", f"{sorted(listed ^ wanted)}")
+    whole = imports(CONTRACT)
+    inner = [it for it in whole if it[1].startswith(INNER)]
+    results.check(not inner, f"{page.name}: no clause rests on how inner parts end", inner)
     readme = next(it for it in found if it.name == "README.md")
-    for said in (about(length(listed)), about(length(imports(CONTRACT)))):
+    for said in (about(length(listed)), about(length(whole))):
         for it in (page, readme):
             text = re.sub(r"\s+", " ", it.text())
             is_said = said in text or said.removesuffix(" lines") in text
