@@ -14,7 +14,6 @@ use Rattle.pc_sched.specs.declared.turns.Turn.{Turn}
 use Rattle.pc_refusals.specs.Accepting.{AcceptedStage}
 use Rattle.pc_refusals.specs.Derivation.{DerivationStage, Judging, derivation_limit}
 use Rattle.pc_refusals.specs.Derivation.Judging.{holds, fails}
-use Rattle.pc_refusals.specs.FromFile.{FromFile}
 use Rattle.pc_refusals.specs.Named.{Named, Reading, whole, IsReadingOf}
 use Rattle.pc_refusals.specs.Schedule.{ScheduleStage}
 use Rattle.pc_refusals.specs.Source.{SourceStage, source_limit}
@@ -27,7 +26,7 @@ use Rattle.pc_refusals.proofs.OneSource.{one_from, one_source}
 use Rattle.pc_refusals.proofs.Scheduled.{schedule_says}
 use Rattle.pc_refusals.proofs.Statuses.{IsLate, IsOther, accepted_refuses, derivation_other, other_refuses, schedule_other, source_other}
 use Rattle.pc_top.specs.CoreOf.{CoreOf, IsDerivable}
-use Rattle.pc_top.specs.Shapes.{LastOfTurns, OfAccepted, OfDerivation, OfScheduled, OfTurns}
+use Rattle.pc_top.specs.Shapes.{LastOfTurns, OfAccepted, OfDerivation, OfJudged, OfScheduled, OfTurns}
 use Rattle.pc_top.proofs.Accepted.{derivable, of_source, of_told}
 use Rattle.pc_top.proofs.Deriving.{accepted_source, source_says}
 use Rattle.pc_top.proofs.OneStages.{formed_of, one_accepted, one_derivation, one_judging, one_schedule}
@@ -109,7 +108,7 @@ module _ (text : Ann → Text) (file derivation : Named) where
   -- Which statuses its verdicts have.
   pub derivation_status : (P : ℕ → Type 0) → ((status : ℕ) → IsOther status → P status) → P 0 → (v : Verdict) → OfDerivation text file derivation v → P v.status
   derivation_status P other zero =
-      from_status file source_limit (SourceStage file.name) (λ s. FromFile derivation derivation_limit (DerivationStage derivation.name) (λ ann. EndsAs (λ _. text ann) (Judging file.name derivation.name s ann))) P
+      from_status file source_limit (SourceStage file.name) (OfJudged text file derivation) P
       (λ r w h. other w.status (source_other h))
       (λ s. from_status derivation derivation_limit (DerivationStage derivation.name) (λ ann. EndsAs (λ _. text ann) (Judging file.name derivation.name s ann)) P (λ r w h. other w.status (derivation_other h))
       (λ ann. ends_status (λ _. text ann) (Judging file.name derivation.name s ann) P zero (λ w h. other w.status (judging_other h))))
@@ -122,7 +121,7 @@ module _ (text : Ann → Text) (file derivation : Named) where
   pub derivation_derives : (v : Verdict) → IsAccepting v.status → OfDerivation text file derivation v → Derives text file derivation v
   derivation_derives v e is =
       let Own : Source → Ann → Verdict → Type 0 = λ s ann. EndsAs (λ _. text ann) (Judging file.name derivation.name s ann) in
-      let p = passed file source_limit (SourceStage file.name) (λ s. FromFile derivation derivation_limit (DerivationStage derivation.name) (Own s)) v (λ r h. other_refuses v.status (source_other h) e) is in
+      let p = passed file source_limit (SourceStage file.name) (OfJudged text file derivation) v (λ r h. other_refuses v.status (source_other h) e) is in
       let d = passed derivation derivation_limit (DerivationStage derivation.name) (Own p.1) v (λ r h. other_refuses v.status (derivation_other h) e) p.4 in
       let t = derivation_says d.3 in
       let read : IsReadingOf derivation derivation_limit (whole t.0) = subst (λ (x : Reading). IsReadingOf derivation derivation_limit x) t.1 d.2 in
@@ -135,7 +134,7 @@ module _ (text : Ann → Text) (file derivation : Named) where
   pub derivation_one : Laws → IsSome file.told → file.now ≡ file.before → IsSome derivation.told → derivation.now ≡ derivation.before
       → (v w : Verdict) → OfDerivation text file derivation v → OfDerivation text file derivation w → v ≡ w
   derivation_one laws told unfailed also too =
-      one_from file source_limit (SourceStage file.name) (λ s. FromFile derivation derivation_limit (DerivationStage derivation.name) (λ ann. EndsAs (λ _. text ann) (Judging file.name derivation.name s ann))) told unfailed
+      one_from file source_limit (SourceStage file.name) (OfJudged text file derivation) told unfailed
       (one_source laws.source file.name)
       (λ r s h. one_from derivation derivation_limit (DerivationStage derivation.name) (λ ann. EndsAs (λ _. text ann) (Judging file.name derivation.name s ann)) also too (one_derivation laws derivation.name)
       (λ d ann k. ends_one (λ _. text ann) (Judging file.name derivation.name s ann) (one_judging laws file.name derivation.name s ann (formed_of laws h))))

@@ -12,6 +12,7 @@ use Rattle.pc_refusals.specs.Named.{Named}
 use Rattle.pc_refusals.specs.Schedule.{ScheduleStage}
 use Rattle.pc_refusals.specs.Source.{SourceStage, source_limit}
 use Rattle.pc_refusals.specs.Verdict.{EndsAs, Verdict}
+use Rattle.pc_refusals.specs.declared.source.Source.{Source}
 use Rattle.pc_refusals.specs.declared.typing.Accepted.{Accepted}
 
 -- A source goes through every stage of one that is accepted, and then the last part looks at it.
@@ -30,8 +31,12 @@ OfTurns Last schedule accepted = FromFile schedule schedule_limit (ScheduleStage
 abbrev pub OfScheduled : LastOfTurns → Named → Named → Verdict → Type 0
 OfScheduled Last source schedule = OfAccepted (OfTurns Last schedule) source
 
--- A source goes through its stages, then a derivation, and the derivation is judged: where it is valid the command is done with
--- this text of it. The derivation is not looked at where the source is refused.
+-- A derivation goes through its stages, and is judged for a source: where it is valid the command is done with this text of it.
+abbrev pub OfJudged : (Ann → Text) → Named → Named → Source → Verdict → Type 0
+OfJudged text source derivation s =
+    FromFile derivation derivation_limit (DerivationStage derivation.name) (λ ann. EndsAs (λ _. text ann) (Judging source.name derivation.name s ann))
+
+-- A source goes through its stages, and then a derivation of it is judged. The derivation is not looked at where the source is
+-- refused.
 abbrev pub OfDerivation : (Ann → Text) → Named → Named → Verdict → Type 0
-OfDerivation text source derivation = FromFile source source_limit (SourceStage source.name) (λ s.
-    FromFile derivation derivation_limit (DerivationStage derivation.name) (λ ann. EndsAs (λ _. text ann) (Judging source.name derivation.name s ann)))
+OfDerivation text source derivation = FromFile source source_limit (SourceStage source.name) (OfJudged text source derivation)

@@ -12,17 +12,17 @@ pub returns-in-Ok-clause-ends : goal.returns-in-Ok-clause-ends
 returns-in-Ok-clause-ends g c =
     let files = files_change (g.F.Files.bytes c.args.files.now) (g.F.Files.faults c.args.files.now) (g.F.Files.faults c.run_command.new.files) (g.F.Files.taken c.run_command.new.files) in
     let out = change (g.O.Sink.written c.args.out.now) (g.O.Sink.written c.run_command.new.out) (g.O.Sink.faults c.args.out.now) (g.O.Sink.faults c.run_command.new.out) in
-    words_end files out (texts c.args.words.now) (asked_by c.in-Ok.command) _ c.in-Ok.ensures c.run_command.ensures.ends
+    words_end files out (texts c.args.words.now) (asked_by c.in-Ok.command) c.run_command.result c.in-Ok.ensures c.run_command.ensures.ends
 
 pub returns-in-Ok-clause-asks : goal.returns-in-Ok-clause-asks
 returns-in-Ok-clause-asks g c =
-    asks_end (g.F.Files.bytes c.args.files.now) (asked_by c.in-Ok.command) (command_of (texts c.args.words.now)) _ _ _ c.in-Ok.ensures c.run_command.ensures.asks
+    asks_end (g.F.Files.bytes c.args.files.now) (asked_by c.in-Ok.command) (command_of (texts c.args.words.now)) (g.R.Referee.asked c.args.referee.now) (g.R.Referee.asked c.run_command.new.referee) c.run_command.result c.in-Ok.ensures c.run_command.ensures.asks
 
 pub returns-in-Err-Refused-clause-ends : goal.returns-in-Err-Refused-clause-ends
 returns-in-Err-Refused-clause-ends g c =
     let files = files_change (g.F.Files.bytes c.args.files.now) (g.F.Files.faults c.args.files.now) (g.F.Files.faults c.args.files.now) (g.F.Files.taken c.args.files.now) in
     let out = change (g.O.Sink.written c.args.out.now) (g.O.Sink.written c.args.out.now) (g.O.Sink.faults c.args.out.now) (g.O.Sink.faults c.args.out.now) in
-    words_refused files out (texts c.args.words.now) _ (asks_nothing (texts c.args.words.now) (rw c.in-Err-Refused.field-0-is at c.in-Err-Refused.ensures)) c.refuse_words.ensures refl
+    words_refused files out (texts c.args.words.now) c.refuse_words.result (asks_nothing (texts c.args.words.now) (rw c.in-Err-Refused.field-0-is at c.in-Err-Refused.ensures)) c.refuse_words.ensures refl
 
 pub returns-in-Err-Memory-clause-ends : goal.returns-in-Err-Memory-clause-ends
 returns-in-Err-Memory-clause-ends g c = inl (kept (g.O.Sink.written c.args.out.now))

@@ -2,7 +2,7 @@ use Rattle.std.proofs.Common.{[], ◌∷◌, Ok, Err, ap, inl}
 use Rattle.std.proofs.lemmas.Result.{err_from_is_err_and}
 use Rattle.pc_tree.specs.View.{file_view}
 use Rattle.pc_refusals.specs.After.After.{stops}
-use Rattle.pc_refusals.specs.Named.{FailedAmong, FailedAt, file_at, files_change, named}
+use Rattle.pc_refusals.specs.Named.{FailedAmong, FailedAt, files_change, named}
 use Rattle.pc_refusals.specs.Source.{FileStage, SyntaxStage, source_limit}
 use Rattle.pc_refusals.specs.Source.Length.{is_longer}
 use Rattle.pc_refusals.specs.Verdict.{done}
@@ -15,15 +15,17 @@ pub returns-in_err-bytes : goal.returns-in_err-bytes
 returns-in_err-bytes g c =
     let p = err_from_is_err_and c.from_residual.result c.from_residual.ensures.1 in
     let s = c.args.source.now in
-    let file = file_at (g.F.Files.bytes c.args.files.now) (g.F.Files.faults c.args.files.now) (g.F.Files.faults c.read_file.new.files) (g.F.Files.taken c.read_file.new.files) s in
-    rw (p.1, p.2) (part_stops source_limit (FileStage s) Shown _ file _ (λ n f. inl f) (not_read source_limit (FileStage s) file _ (stops is_longer) c.in_err-bytes.ensures.reads))
+    let files = files_change (g.F.Files.bytes c.args.files.now) (g.F.Files.faults c.args.files.now) (g.F.Files.faults c.read_file.new.files) (g.F.Files.taken c.read_file.new.files) in
+    let file = named files s in
+    rw (p.1, p.2) (part_stops source_limit (FileStage s) Shown (FailedAmong files (s ∷ [])) file _ (λ n f. inl f) (not_read source_limit (FileStage s) file _ (stops is_longer) c.in_err-bytes.ensures.reads))
 
 pub returns-in_err-file : goal.returns-in_err-file
 returns-in_err-file g c =
     let p = err_from_is_err_and c.from_residual-in_err-file.result c.from_residual-in_err-file.ensures.1 in
     let s = c.args.source.now in
-    let file = file_at (g.F.Files.bytes c.args.files.now) (g.F.Files.faults c.args.files.now) (g.F.Files.faults c.read_file.new.files) (g.F.Files.taken c.read_file.new.files) s in
-    rw (p.1, p.2) (part_stops source_limit (FileStage s) Shown _ file _ (λ n f. inl f)
+    let files = files_change (g.F.Files.bytes c.args.files.now) (g.F.Files.faults c.args.files.now) (g.F.Files.faults c.read_file.new.files) (g.F.Files.taken c.read_file.new.files) in
+    let file = named files s in
+    rw (p.1, p.2) (part_stops source_limit (FileStage s) Shown (FailedAmong files (s ∷ [])) file _ (λ n f. inl f)
     (whole_ends source_limit (SyntaxStage s) file c.in_ok-bytes.bytes c.as_slice.result.now (Err _) c.in_ok-bytes.ensures.reads c.as_slice.ensures c.in_err-file.ensures))
 
 pub returns : goal.returns

@@ -21,7 +21,7 @@ returns-in_err-read g c =
     let s = c.args.source.now in
     let d = c.args.schedule.now in
     let files = files_change (g.F.Files.bytes c.args.files.now) (g.F.Files.faults c.args.files.now) (g.F.Files.faults c.read_scheduled.new.files) (g.F.Files.taken c.read_scheduled.new.files) in
-    rw (p.1, p.2) (both_stop source_limit schedule_limit (AcceptedStage s) (ScheduleStage d) (λ (a : Accepted) (turns : List Turn). EndsWith (Tracing d a.source.core (spread turns))) _ (named files s) (named files d) _ (λ n f. inl f) (λ n f. inr (inl f)) c.in_err-read.ensures)
+    rw (p.1, p.2) (both_stop source_limit schedule_limit (AcceptedStage s) (ScheduleStage d) (λ (a : Accepted) (turns : List Turn). EndsWith (Tracing d a.source.core (spread turns))) (FailedAmong files (s ∷ d ∷ [])) (named files s) (named files d) _ (λ n f. inl f) (λ n f. inr (inl f)) c.in_err-read.ensures)
 
 pub trace_turns-requires-clause-safe : goal.trace_turns-requires-clause-safe
 trace_turns-requires-clause-safe g c = accepted_core_safe c.cores_of_sources_are_formed.ensures c.valid_is_safe.ensures c.in_ok-read.ensures.0.2
