@@ -5,7 +5,8 @@ MEASURED_MINUTES = 28
 MEASURED_PROCESSORS = 4
 
 # Seconds of each crate, from a whole build on four busy processors, scaled so that in the launcher's order they make up the
-# minutes above. Those of pc_top and pc_cli are of checks on a quiet machine, and those of pc_elab are an estimate.
+# minutes above. Those of pc_cli are of a check on a quiet machine, those of pc_refusals and pc_top are the processor time of
+# first checks on a busy one, and those of pc_elab are an estimate.
 SECONDS = {
     "pc_lists": 3,
     "pc_args": 43,
@@ -57,7 +58,8 @@ SECONDS = {
     "pc_elab": 102,
     "pc_parse": 193,
     "pc_check": 64,
-    "pc_top": 476,
+    "pc_refusals": 102,
+    "pc_top": 380,
     "pc_cli": 211,
 }
 
