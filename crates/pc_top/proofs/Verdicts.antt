@@ -4,17 +4,18 @@ use Rattle.std.specs.Io.KnownBytes.{Appends}
 use Rattle.pc_lists.specs.Texts.{Text}
 use Rattle.pc_args.specs.Asked.{Asked, command_of}
 use Rattle.pc_io.specs.Change.{Change}
+use Rattle.pc_isolation.specs.Laws.{ValidIsIsolated, ValidIsPassedWhole}
 use Rattle.pc_regions.specs.Laws.{ValidIsSafe}
 use Rattle.pc_refusals.specs.Answer.{Answer}
 use Rattle.pc_refusals.specs.Answer.Answer.{told as answer_told, file as answer_file, out_failed, err_failed, file_err_failed, no_memory}
 use Rattle.pc_refusals.specs.Named.{Files, named}
 use Rattle.pc_refusals.specs.Verdict.{Verdict, IsAccepting}
 use Rattle.pc_refusals.proofs.Statuses.{IsOwn}
-use Rattle.pc_top.specs.Asked.{Accepts, FailedIn, HasNoDerivation, HasNoDerivationOf, IsMadeSafe, IsVerdict, OfFile, OfSource, RefusedIsUnderivable}
+use Rattle.pc_top.specs.Asked.{Accepts, FailedIn, HasNoDerivation, HasNoDerivationOf, IsVerdict, OfFile, OfSource, RefusedIsUnderivable}
 use Rattle.pc_top.specs.Commands.{IsVerdictOf, OnOutOf, source_of}
 use Rattle.pc_top.specs.Commands.Make.{made_text}
 use Rattle.pc_top.specs.Commands.Sends.{TablesTell}
-use Rattle.pc_top.specs.CoreOf.{DerivableIsSafe, HasSafeCore, IsDerivable}
+use Rattle.pc_top.specs.CoreOf.{DerivableIsIsolated, DerivableIsSafe, IsDerivable}
 use Rattle.pc_top.specs.CoresFormed.{CoresAreFormed}
 use Rattle.pc_top.specs.Failures.{NoVerdictIsAFailure}
 use Rattle.pc_top.specs.OnOut.{OnOut, Swaps, Traces}
@@ -95,7 +96,7 @@ answer_refuses law files words out err status (err_failed v is s r o l) e = absu
 answer_refuses law files words out err status (file_err_failed n f s r o l) e = absurd (omega arith)
 answer_refuses law files words out err status (no_memory s o l) e = absurd (omega arith)
 
--- ---- safety
+-- ---- safety and isolation
 
 pub derivable_safe : CoresAreFormed → ValidIsSafe → DerivableIsSafe
 derivable_safe formed never bytes d =
@@ -104,14 +105,24 @@ derivable_safe formed never bytes d =
     let ann = d.2.0 in
     (core, of_bytes, never core ann (formed bytes core of_bytes).0 d.2.1)
 
-file_safe : DerivableIsSafe → (told : Text → Option Text) (source : Option Text) → OfFile IsDerivable told source → OfFile HasSafeCore told source
-file_safe law told None h = tt
-file_safe law told (Some source) h = some_by IsDerivable HasSafeCore (told source) law h
+pub derivable_isolated : CoresAreFormed → ValidIsIsolated → ValidIsPassedWhole → DerivableIsIsolated
+derivable_isolated formed apart whole bytes d =
+    let core = d.0 in
+    let of_bytes = d.1 in
+    let ann = d.2.0 in
+    let fits = (formed bytes core of_bytes).0 in
+    (core, of_bytes, apart core ann fits d.2.1, whole core ann fits d.2.1)
 
-asked_safe : DerivableIsSafe → (told : Text → Option Text) (asked : Option Asked) → OfSource IsDerivable told asked → OfSource HasSafeCore told asked
-asked_safe law told None h = h
-asked_safe law told (Some asked) h =
-    (file_safe law told (source_of asked) h.0, λ seed size is. let m = h.1 seed size is in (m.0, m.1, m.2, m.3, law (made_text m.0 m.1) m.4))
+-- what holds of each derivable source, holds of the one that is accepted
+module _ (Holds : Text → Type 0) (law : (bytes : Text) → IsDerivable bytes → Holds bytes) where
+  file_holds : (told : Text → Option Text) (source : Option Text) → OfFile IsDerivable told source → OfFile Holds told source
+  file_holds told None h = tt
+  file_holds told (Some source) h = some_by IsDerivable Holds (told source) law h
 
-pub accepted_safe : DerivableIsSafe → (told : Text → Option Text) (words : List Text) → Accepts told words → IsMadeSafe told words
-accepted_safe law told words h = asked_safe law told (command_of words) h
+  asked_holds : (told : Text → Option Text) (asked : Option Asked) → OfSource IsDerivable told asked → OfSource Holds told asked
+  asked_holds told None h = h
+  asked_holds told (Some asked) h =
+      (file_holds told (source_of asked) h.0, λ seed size is. let m = h.1 seed size is in (m.0, m.1, m.2, m.3, law (made_text m.0 m.1) m.4))
+
+  pub accepted_holds : (told : Text → Option Text) (words : List Text) → Accepts told words → OfSource Holds told (command_of words)
+  accepted_holds told words h = asked_holds told (command_of words) h

@@ -7,7 +7,7 @@ use Rattle.pc_refusals.specs.Named.{Files, FailedAmong}
 use Rattle.pc_refusals.specs.Verdict.{Verdict}
 use Rattle.pc_top.specs.Commands.{IsVerdictOf, files_of, infers, source_of}
 use Rattle.pc_top.specs.Commands.Make.{made_text}
-use Rattle.pc_top.specs.CoreOf.{IsDerivable, IsUnderivable, HasSafeCore}
+use Rattle.pc_top.specs.CoreOf.{IsDerivable, IsUnderivable, HasIsolatedCore, HasSafeCore}
 
 -- The verdict on the words: a status, a text on out and a line on err.
 abbrev pub IsVerdict : Files → List Text → Verdict → Type 0
@@ -45,6 +45,10 @@ Accepts told words = OfSource IsDerivable told (command_of words)
 -- It has a core that is safe.
 abbrev pub IsMadeSafe : (Text → Option Text) → List Text → Type 0
 IsMadeSafe told words = OfSource HasSafeCore told (command_of words)
+
+-- It has a core whose waiting messages are isolated in depth.
+abbrev pub IsMadeIsolated : (Text → Option Text) → List Text → Type 0
+IsMadeIsolated told words = OfSource HasIsolatedCore told (command_of words)
 
 -- The command looks for a derivation of it, and it has a core without one.
 abbrev pub HasNoDerivationOf : (Text → Option Text) → Option Asked → Type 0

@@ -1,6 +1,6 @@
 //! What is proved of the verdict. Each call does nothing, and its contract is the law.
 ghost use Rattle.pc_top.specs.Asked.{RefusedIsUnderivable};
-ghost use Rattle.pc_top.specs.CoreOf.{DerivableIsSafe};
+ghost use Rattle.pc_top.specs.CoreOf.{DerivableIsIsolated, DerivableIsSafe};
 ghost use Rattle.pc_top.specs.CoresFormed.{CoresAreFormed};
 ghost use Rattle.pc_top.specs.Exact.{StatusesAreExact};
 ghost use Rattle.pc_top.specs.Failures.{FailuresAreTold, NoVerdictIsAFailure};
@@ -16,6 +16,7 @@ use pc_deriv::annotations_are_one;
 use pc_elab::cores_are_formed;
 use pc_file_spec::cores_are_one;
 use pc_grammar::files_are_read;
+use pc_isolation::{valid_is_isolated, valid_is_passed_whole};
 use pc_judge::{faulted_is_not_valid, one_fault_is_first};
 use pc_lex::{faults_are_told, tokens_are_one};
 use pc_names::names_are_one;
@@ -112,6 +113,18 @@ pub fn derivable_sources_are_safe()
 {
     cores_of_sources_are_formed();
     valid_is_safe();
+}
+
+/// A source whose core has a derivation is isolated in depth: over every schedule no step touches what is inside a waiting `iso`
+/// argument, or an object that leads there; none writes what is seen from a waiting `iso` or `val` argument; what is inside one
+/// argument is inside no other and seen from no other. Until its message is taken, the same objects are inside an argument
+/// and seen from it, and hold the same; and the step that takes the message hands its arguments over, and changes no object.
+pub fn derivable_sources_are_isolated()
+    ensures { DerivableIsIsolated }
+{
+    cores_of_sources_are_formed();
+    valid_is_isolated();
+    valid_is_passed_whole();
 }
 
 /// What `sends` tells of a source is true of every run: over every schedule each frame is one of a method that may begin or be

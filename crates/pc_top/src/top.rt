@@ -5,7 +5,7 @@ ghost use Rattle.pc_refusals.specs.Complete.{Completes};
 ghost use Rattle.pc_refusals.specs.Inner.Answering.{Ends};
 ghost use Rattle.pc_refusals.specs.Named.{files_change};
 ghost use Rattle.pc_refusals.specs.Verdict.{IsAccepting};
-ghost use Rattle.pc_top.specs.Asked.{Accepts, FailedIn, IsMadeSafe, IsVerdict, HasNoDerivation};
+ghost use Rattle.pc_top.specs.Asked.{Accepts, FailedIn, IsMadeIsolated, IsMadeSafe, IsVerdict, HasNoDerivation};
 ghost use Rattle.pc_args.specs.Asked.{command_of, texts};
 ghost use Rattle.pc_io.specs.Change.{change};
 ghost use Rattle.pc_top.specs.Inner.Asking.{AsksSo};
@@ -14,7 +14,8 @@ ghost use Rattle.pc_top.specs.Referee.{Asks};
 
 use crate::commands::run_command;
 use crate::laws::{
-    derivable_sources_are_safe, refused_sources_have_no_derivation, tables_tell_of_every_run,
+    derivable_sources_are_isolated, derivable_sources_are_safe, refused_sources_have_no_derivation,
+    tables_tell_of_every_run,
 };
 use pc_args::{WordsFault, read_words};
 use pc_io::{Files, Sink};
@@ -58,6 +59,12 @@ pub fn rcap<F: Files, O: Sink, E: Sink, R: Referee>(
     // an `iso` argument of a message or writes what waits as a `val` argument.
     ensures safe { IsAccepting result → IsMadeSafe (F.bytes files.old) (texts words.now) }
 
+    // What waits is isolated in depth. After every list of actors, no actor's next step touches an object to which fields lead
+    // from a waiting `iso` argument (fields declared `iso`, `trn` or `ref`), or one that leads there; none writes an object that is
+    // seen from a waiting argument (from an `iso` or `val` one, by fields that are not `tag`); and what is inside one argument is
+    // inside no other and seen from no other. It stays so until the message is taken, which hands all of it over.
+    ensures isolated { IsAccepting result → IsMadeIsolated (F.bytes files.old) (texts words.now) }
+
     // The source or the made program that is refused with status 1 has a core, and the core has no derivation.
     ensures refused { result ≡ 1 → HasNoDerivation (F.bytes files.old) (texts words.now) }
 
@@ -91,6 +98,7 @@ pub fn rcap<F: Files, O: Sink, E: Sink, R: Referee>(
 {
     refused_sources_have_no_derivation();
     derivable_sources_are_safe();
+    derivable_sources_are_isolated();
     tables_tell_of_every_run();
     let ended = run_words(alloc, words, files, out, referee);
     finish(alloc, ended, err)

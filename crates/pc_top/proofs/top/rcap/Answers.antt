@@ -3,8 +3,9 @@ use Rattle.pc_io.specs.Change.{change}
 use Rattle.pc_refusals.specs.Named.{files_change}
 use Rattle.pc_refusals.proofs.Answers.{answer_of, completes}
 use Rattle.pc_top.specs.Asked.{IsVerdict, FailedIn}
+use Rattle.pc_top.specs.CoreOf.{HasIsolatedCore, HasSafeCore}
 use Rattle.pc_top.proofs.Asking.{asks_answer}
-use Rattle.pc_top.proofs.Verdicts.{accepted_safe, answer_accepts, answer_refuses, answer_swaps, answer_traces, answer_writes}
+use Rattle.pc_top.proofs.Verdicts.{accepted_holds, answer_accepts, answer_refuses, answer_swaps, answer_traces, answer_writes}
 use Rattle.pc_top.proofs.top.rcap.Goals as goal
 
 pub returns-clause-answers : goal.returns-clause-answers
@@ -24,7 +25,11 @@ returns-clause-accepted g c =
 
 pub returns-clause-safe : goal.returns-clause-safe
 returns-clause-safe g c e =
-    accepted_safe c.derivable_sources_are_safe.ensures (g.F.Files.bytes c.args.files.now) (texts c.args.words.now) (returns-clause-accepted g c e)
+    accepted_holds HasSafeCore c.derivable_sources_are_safe.ensures (g.F.Files.bytes c.args.files.now) (texts c.args.words.now) (returns-clause-accepted g c e)
+
+pub returns-clause-isolated : goal.returns-clause-isolated
+returns-clause-isolated g c e =
+    accepted_holds HasIsolatedCore c.derivable_sources_are_isolated.ensures (g.F.Files.bytes c.args.files.now) (texts c.args.words.now) (returns-clause-accepted g c e)
 
 pub returns-clause-completes : goal.returns-clause-completes
 returns-clause-completes g c =
