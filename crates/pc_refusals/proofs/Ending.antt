@@ -4,7 +4,7 @@ use Rattle.std.specs.Prelude.{Result}
 use Rattle.std.specs.Io.KnownBytes.{Appends, Keeps}
 use Rattle.pc_lists.specs.Texts.{Text}
 use Rattle.pc_io.specs.Change.{Change}
-use Rattle.pc_refusals.specs.FromFile.{FromFile}
+use Rattle.pc_refusals.specs.FromFile.{FromFile, Passes}
 use Rattle.pc_refusals.specs.FromFile.FromFile.{refuses, goes_on}
 use Rattle.pc_refusals.specs.Inner.Answering.{AnswerStops, AnswersText, CommandStops, Ends, Puts}
 use Rattle.pc_refusals.specs.Inner.Refusals.{IsRefusal}
@@ -116,10 +116,10 @@ module _ {T U : Type 0} (first second : ℕ) (One : Reading → Result T Verdict
   abbrev Both : Verdict → Type 0
   Both = FromFile a first One (λ x. FromFile b second Two (Last x))
 
-  pub both_stop : (s : Stop) → ((n : Text) → FailedAt a n → Failed n) → ((n : Text) → FailedAt b n → Failed n) → OneStops first second One Two a b s → AnswerStops Both Failed s
+  pub both_stop : (s : Stop) → ((n : Text) → FailedAt a n → Failed n) → ((n : Text) → Passes a first One → FailedAt b n → Failed n) → OneStops first second One Two a b s → AnswerStops Both Failed s
   both_stop s also too (inl h) = part_stops first One (λ x. FromFile b second Two (Last x)) Failed a s also h
   both_stop s also too (inr h) =
-      part_answers first One (λ x. FromFile b second Two (Last x)) Failed a Failed h.0 (λ n f. f) h.1 (Err s) (part_stops second Two (Last h.0) Failed b s too h.2)
+      part_answers first One (λ x. FromFile b second Two (Last x)) Failed a Failed h.0 (λ n f. f) h.1 (Err s) (part_stops second Two (Last h.0) Failed b s (λ n f. too n (h.1.0, h.0, h.1.1, h.1.2) f) h.2)
 
   module _ (x : T) (y : U) (given : BothGive first second One Two a b x y) where
     pub both_answer : (answer : Result Text Stop) → AnswersText (Last x y) (λ n. ⊥) answer → AnswersText Both Failed answer

@@ -1,5 +1,5 @@
 -- The files of a command, and what reading one gives.
-use Rattle.std.specs.Prelude.{ℕ, ◌≡◌, ◌<◌, ◌≤◌, ◌⊎◌, List, [], ◌∷◌, length, Option, Some, IfSome, IsSome}
+use Rattle.std.specs.Prelude.{ℕ, ◌≡◌, ◌<◌, ◌≤◌, List, [], ◌∷◌, length, Option, Some, IfSome, IsSome}
 use Rattle.pc_lists.specs.Texts.{Text}
 
 -- A file by its name: the bytes that are told, and how often its reading had failed before and after a call.
@@ -51,11 +51,6 @@ files_change told before now taken = record { told = told; before = before; now 
 
 abbrev pub named : Files → Text → Named
 named files name = file_at files.told files.before files.now files.taken name
-
--- The name is one of these, and its failures rose.
-abbrev pub FailedAmong : Files → List Text → Text → Type 0
-FailedAmong files [] name = ⊥
-FailedAmong files (n ∷ ns) name = FailedAt (named files n) name ⊎ FailedAmong files ns name
 
 -- All of these tell their bytes.
 abbrev pub AllTold : (Text → Option Text) → List Text → Type 0

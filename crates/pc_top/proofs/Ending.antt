@@ -10,8 +10,8 @@ use Rattle.pc_refusals.specs.Lines.{usage_line}
 use Rattle.pc_refusals.specs.Named.{Files}
 use Rattle.pc_refusals.specs.declared.stop.Stop.{Stop}
 use Rattle.pc_refusals.proofs.Ending.{put_ends, stop_ends, words_stop}
-use Rattle.pc_top.specs.Asked.{FailedIn, FailedOf, IsVerdict}
-use Rattle.pc_top.specs.Commands.{IsVerdictOf}
+use Rattle.pc_top.specs.Asked.{FailedIn, IsVerdict}
+use Rattle.pc_top.specs.Commands.{FailedOf, IsVerdictOf}
 
 module _ (files : Files) (out : Change) where
   -- a command that writes, by what it is called with

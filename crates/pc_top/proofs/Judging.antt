@@ -1,12 +1,12 @@
 -- A derivation that is judged behind the source that was read.
-use Rattle.std.proofs.Common.{◌≡◌, ◌≤◌, ℕ, ◌+◌, [], ◌∷◌, Option, Ok, Err, inl, inr, refl, sym, subst}
+use Rattle.std.proofs.Common.{◌≡◌, ◌≤◌, ℕ, ◌+◌, Option, Ok, Err, inl, inr, refl, sym, subst}
 use Rattle.pc_ann.specs.declared.annotation.Ann.{Ann}
 use Rattle.pc_lists.specs.Texts.{Text}
 use Rattle.pc_refusals.specs.Derivation.{DerivationStage, Judging, derivation_limit, in_parts}
 use Rattle.pc_refusals.specs.Inner.Answering.{AnswerStops}
 use Rattle.pc_refusals.specs.Inner.Derivations.{DerivationJudged}
 use Rattle.pc_refusals.specs.Inner.Stages.{PartGives}
-use Rattle.pc_refusals.specs.Named.{FailedAmong, Files, Named, file_at, files_change, named}
+use Rattle.pc_refusals.specs.Named.{Files, Named, file_at, files_change, named}
 use Rattle.pc_refusals.specs.Source.{SourceStage, source_limit}
 use Rattle.pc_refusals.specs.Verdict.{EndsAs, Verdict, done}
 use Rattle.pc_refusals.specs.declared.source.Source.{Source}
@@ -14,6 +14,7 @@ use Rattle.pc_refusals.specs.declared.stop.Stop.{Stop}
 use Rattle.pc_refusals.proofs.Ending.{both_answer, both_stop, last_stops}
 use Rattle.pc_refusals.proofs.TwoFiles.{second_gives, second_stops}
 use Rattle.pc_top.specs.Commands.Judge.{IsJudge, accepted_text}
+use Rattle.pc_top.specs.Shapes.{UnreadDerivation}
 use Rattle.pc_top.proofs.Deriving.{never_longer}
 
 module _ (s d : Text) (told later : Text → Option Text) (before mid now : Text → ℕ) (taken last_taken : ℕ) (x : Source) (given : PartGives source_limit (SourceStage s) (file_at told before mid taken s) x)
@@ -28,11 +29,11 @@ module _ (s d : Text) (told later : Text → Option Text) (before mid now : Text
   Last y ann = EndsAs (λ _. accepted_text) (Judging s d y ann)
 
   abbrev failed : Text → Type 0
-  failed = FailedAmong files (s ∷ d ∷ [])
+  failed = UnreadDerivation (named files s) (named files d)
 
   pub derivation_refused : (stop : Stop) → DerivationJudged s x (in_parts (file_at later mid now last_taken d)) (Err stop) → AnswerStops (IsJudge (named files s) (named files d)) failed stop
   derivation_refused stop (inl h) =
-      both_stop source_limit derivation_limit (SourceStage s) (DerivationStage d) Last failed (named files s) parts stop (λ n f. inl f) (λ n f. inr (inl f))
+      both_stop source_limit derivation_limit (SourceStage s) (DerivationStage d) Last failed (named files s) parts stop (λ n f. inl f) (λ n p f. inr (p, f))
       (second_stops source_limit derivation_limit (SourceStage s) (DerivationStage d) s d told later before mid now taken last_taken (derivation_limit + last_taken) x (never_longer s x) given same risen rises stop h)
   derivation_refused stop (inr h) =
       both_answer source_limit derivation_limit (SourceStage s) (DerivationStage d) Last failed (named files s) parts x h.0

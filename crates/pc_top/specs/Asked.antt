@@ -3,9 +3,9 @@ use Rattle.std.specs.Prelude.{ℕ, ◌≡◌, Option, Some, None, List, IfSome, 
 use Rattle.pc_args.specs.Numbers.{IsSeed, IsSize}
 use Rattle.pc_lists.specs.Texts.{Text}
 use Rattle.pc_args.specs.Asked.{Asked, make, command_of}
-use Rattle.pc_refusals.specs.Named.{Files, FailedAmong}
+use Rattle.pc_refusals.specs.Named.{Files}
 use Rattle.pc_refusals.specs.Verdict.{Verdict}
-use Rattle.pc_top.specs.Commands.{IsVerdictOf, files_of, infers, source_of}
+use Rattle.pc_top.specs.Commands.{FailedOf, IsVerdictOf, infers, source_of}
 use Rattle.pc_top.specs.Commands.Make.{made_text}
 use Rattle.pc_top.specs.CoreOf.{IsDerivable, IsUnderivable, HasIsolatedCore, HasSafeCore}
 
@@ -13,11 +13,7 @@ use Rattle.pc_top.specs.CoreOf.{IsDerivable, IsUnderivable, HasIsolatedCore, Has
 abbrev pub IsVerdict : Files → List Text → Verdict → Type 0
 IsVerdict files words v = IsVerdictOf files (command_of words) v
 
--- A name that a command reads, whose failures rose.
-abbrev pub FailedOf : Files → Option Asked → Text → Type 0
-FailedOf files None name = ⊥
-FailedOf files (Some asked) name = FailedAmong files (files_of asked) name
-
+-- A file that the command could not read.
 abbrev pub FailedIn : Files → List Text → Text → Type 0
 FailedIn files words name = FailedOf files (command_of words) name
 

@@ -6,7 +6,7 @@ use Rattle.pc_args.specs.Asked.{Asked, check, judge, make, run, sends, show, swa
 use Rattle.pc_args.specs.Numbers.{IsSeed, IsSize}
 use Rattle.pc_io.specs.Change.{Change}
 use Rattle.pc_refusals.specs.Lines.{usage_line}
-use Rattle.pc_refusals.specs.Named.{Files, named}
+use Rattle.pc_refusals.specs.Named.{FailedAt, Files, named}
 use Rattle.pc_refusals.specs.Verdict.{Verdict, refused}
 use Rattle.pc_top.specs.Commands.Check.{IsCheck, WritesDerivation}
 use Rattle.pc_top.specs.Commands.Judge.{IsJudge, accepted_text}
@@ -14,9 +14,10 @@ use Rattle.pc_top.specs.Commands.Make.{IsMake, WritesMade}
 use Rattle.pc_top.specs.Commands.Run.{IsRun, WritesRun}
 use Rattle.pc_top.specs.Commands.Sends.{IsSends, WritesSends}
 use Rattle.pc_top.specs.Commands.Show.{IsShow, WritesTree}
-use Rattle.pc_top.specs.Commands.Swap.{IsPlace, IsSwap, WritesSwap}
+use Rattle.pc_top.specs.Commands.Swap.{IsPlace, IsSwap, UnreadSwap, WritesSwap}
 use Rattle.pc_top.specs.Commands.Trace.{IsTrace, WritesTrace}
 use Rattle.pc_top.specs.Commands.Upgrade.{IsUpgrade, WritesUpgraded}
+use Rattle.pc_top.specs.Shapes.{UnreadDerivation, UnreadScheduled}
 pub mod Check
 pub mod Judge
 pub mod Make
@@ -39,6 +40,20 @@ IsVerdictOf files (Some (swap source schedule place)) v = IsSwap (named files so
 IsVerdictOf files (Some (trace source schedule)) v = IsTrace (named files source) (named files schedule) v
 IsVerdictOf files (Some (sends source)) v = IsSends (named files source) v
 IsVerdictOf files (Some (upgrade source derivation)) v = IsUpgrade (named files source) (named files derivation) v
+
+-- The file that it could not read: its failures rose. A later file is asked for only if the command came to it, so its failures are
+-- no cause before.
+abbrev pub FailedOf : Files → Option Asked → Text → Type 0
+FailedOf files None name = ⊥
+FailedOf files (Some (check source)) name = FailedAt (named files source) name
+FailedOf files (Some (judge source derivation)) name = UnreadDerivation (named files source) (named files derivation) name
+FailedOf files (Some (run source schedule)) name = UnreadScheduled (named files source) (named files schedule) name
+FailedOf files (Some (show source)) name = FailedAt (named files source) name
+FailedOf files (Some (make seed size)) name = ⊥
+FailedOf files (Some (swap source schedule place)) name = UnreadSwap (named files source) (named files schedule) place name
+FailedOf files (Some (trace source schedule)) name = UnreadScheduled (named files source) (named files schedule) name
+FailedOf files (Some (sends source)) name = FailedAt (named files source) name
+FailedOf files (Some (upgrade source derivation)) name = UnreadDerivation (named files source) (named files derivation) name
 
 -- The files that a command reads, in this order.
 abbrev pub files_of : Asked → List Text

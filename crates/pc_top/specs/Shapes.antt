@@ -7,7 +7,7 @@ use Rattle.pc_run.specs.Spreading.{spread}
 use Rattle.pc_sched.specs.Limits.{schedule_limit}
 use Rattle.pc_refusals.specs.Accepting.{AcceptedStage}
 use Rattle.pc_refusals.specs.Derivation.{DerivationStage, Judging, derivation_limit}
-use Rattle.pc_refusals.specs.FromFile.{FromFile}
+use Rattle.pc_refusals.specs.FromFile.{FailedInTurn, FromFile}
 use Rattle.pc_refusals.specs.Named.{Named}
 use Rattle.pc_refusals.specs.Schedule.{ScheduleStage}
 use Rattle.pc_refusals.specs.Source.{SourceStage, source_limit}
@@ -31,6 +31,10 @@ OfTurns Last schedule accepted = FromFile schedule schedule_limit (ScheduleStage
 abbrev pub OfScheduled : LastOfTurns → Named → Named → Verdict → Type 0
 OfScheduled Last source schedule = OfAccepted (OfTurns Last schedule) source
 
+-- The file that could not be read: the source, or the schedule of a source that is accepted.
+abbrev pub UnreadScheduled : Named → Named → Text → Type 0
+UnreadScheduled source schedule name = FailedInTurn source source_limit (AcceptedStage source.name) schedule name
+
 -- A derivation goes through its stages, and is judged for a source: where it is valid the command is done with this text of it.
 abbrev pub OfJudged : (Ann → Text) → Named → Named → Source → Verdict → Type 0
 OfJudged text source derivation s =
@@ -40,3 +44,7 @@ OfJudged text source derivation s =
 -- refused.
 abbrev pub OfDerivation : (Ann → Text) → Named → Named → Verdict → Type 0
 OfDerivation text source derivation = FromFile source source_limit (SourceStage source.name) (OfJudged text source derivation)
+
+-- The file that could not be read: the source, or the derivation for a source that has a core.
+abbrev pub UnreadDerivation : Named → Named → Text → Type 0
+UnreadDerivation source derivation name = FailedInTurn source source_limit (SourceStage source.name) derivation name

@@ -4,8 +4,7 @@ ghost use Rattle.pc_args.specs.Asked.{asked_by};
 ghost use Rattle.pc_io.specs.Change.{change};
 ghost use Rattle.pc_refusals.specs.Inner.Answering.{Ends};
 ghost use Rattle.pc_refusals.specs.Named.{files_change};
-ghost use Rattle.pc_top.specs.Asked.{FailedOf};
-ghost use Rattle.pc_top.specs.Commands.{IsVerdictOf};
+ghost use Rattle.pc_top.specs.Commands.{FailedOf, IsVerdictOf};
 ghost use Rattle.pc_top.specs.Inner.Asking.{AsksSo};
 
 mod check;

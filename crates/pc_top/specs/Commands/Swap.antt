@@ -20,7 +20,7 @@ use Rattle.pc_refusals.specs.Lines.{line_end, no_place_line, too_long_line, usag
 use Rattle.pc_refusals.specs.Named.{Named}
 use Rattle.pc_refusals.specs.Verdict.{EndsWith, Verdict, refused}
 use Rattle.pc_top.specs.CoreOf.{CoreOf}
-use Rattle.pc_top.specs.Shapes.{OfScheduled}
+use Rattle.pc_top.specs.Shapes.{OfScheduled, UnreadScheduled}
 
 -- One to seven digits, and a number of at least 1. The first ones may be zeros.
 abbrev pub IsPlace : Text → ℕ → Type 0
@@ -66,6 +66,10 @@ IsSwapAt source schedule place = OfScheduled (λ name core list. EndsWith (Swapp
 pub data IsSwap (source schedule : Named) (place : Text) (v : Verdict) : Type 0 where
   placed : (n : ℕ) → IsPlace place n → IsSwapAt source schedule n v → IsSwap source schedule place v
   no_number : ((n : ℕ) → IsPlace place n → ⊥) → v ≡ refused 2 usage_line → IsSwap source schedule place v
+
+-- The file that could not be read, which is asked for only if the word spells a place.
+abbrev pub UnreadSwap : Named → Named → Text → Text → Type 0
+UnreadSwap source schedule place name = ((n : ℕ) × IsPlace place n) × UnreadScheduled source schedule name
 
 -- Out grew by what is told of the turns at a place of the schedule and after it: the schedule with both exchanged, where their
 -- steps are apart, and else why they stay in their order.

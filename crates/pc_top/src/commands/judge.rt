@@ -1,9 +1,9 @@
 //! `judge SRC DERIV`.
-ghost use Rattle.std.specs.Prelude.{[], ◌∷◌};
 ghost use Rattle.pc_refusals.specs.Inner.Answering.{AnswersText};
-ghost use Rattle.pc_refusals.specs.Named.{FailedAmong, files_change, named};
+ghost use Rattle.pc_refusals.specs.Named.{files_change, named};
 ghost use Rattle.pc_top.specs.Commands.Judge.{IsJudge};
 ghost use Rattle.pc_top.specs.Inner.Asking.{JudgeAsks};
+ghost use Rattle.pc_top.specs.Shapes.{UnreadDerivation};
 
 use crate::source::read_source;
 use pc_caps::List;
@@ -21,7 +21,7 @@ pub fn judge_source<F: Files, R: Referee>(
     referee: &mut R,
 ) -> Result<List<u8>, Stop>
     ensures answers { let files = files_change (F.bytes files.old) (F.faults files.old) (F.faults files.new) (F.taken files.new) in
-        AnswersText (IsJudge (named files source.now) (named files derivation.now)) (FailedAmong files (source.now ∷ derivation.now ∷ [])) result }
+        AnswersText (IsJudge (named files source.now) (named files derivation.now)) (UnreadDerivation (named files source.now) (named files derivation.now)) result }
     ensures asks { JudgeAsks (F.bytes files.old source.now) (F.bytes files.old derivation.now) (R.asked referee.old) (R.asked referee.new) result }
 {
     let read = read_source(alloc, files, source)?;

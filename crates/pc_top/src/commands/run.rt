@@ -1,13 +1,14 @@
 //! `run SRC SCHED`.
-ghost use Rattle.std.specs.Prelude.{◌≤◌, [], ◌∷◌};
+ghost use Rattle.std.specs.Prelude.{◌≤◌};
 ghost use Rattle.pc_io.specs.Change.{change};
 ghost use Rattle.pc_run.specs.Ends.{NeverLacks};
 ghost use Rattle.pc_run.specs.Spreading.{spread};
 ghost use Rattle.pc_sched.specs.Limits.{turn_limit};
 ghost use Rattle.pc_sched.specs.Schedules.{total};
 ghost use Rattle.pc_refusals.specs.Inner.Answering.{Ends};
-ghost use Rattle.pc_refusals.specs.Named.{FailedAmong, files_change, named};
+ghost use Rattle.pc_refusals.specs.Named.{files_change, named};
 ghost use Rattle.pc_top.specs.Commands.Run.{IsRun, Ran};
+ghost use Rattle.pc_top.specs.Shapes.{UnreadScheduled};
 
 use crate::laws::cores_of_sources_are_formed;
 use crate::scheduled::read_scheduled;
@@ -30,7 +31,7 @@ pub fn run_source<F: Files, O: Sink>(
 ) -> Result<(), Stop>
     ensures out_later { O.faults out.old ≤ O.faults out.new }
     ensures ends { let files = files_change (F.bytes files.old) (F.faults files.old) (F.faults files.new) (F.taken files.new) in
-        Ends (IsRun (named files source.now) (named files schedule.now)) (FailedAmong files (source.now ∷ schedule.now ∷ []))
+        Ends (IsRun (named files source.now) (named files schedule.now)) (UnreadScheduled (named files source.now) (named files schedule.now))
         (change (O.written out.old) (O.written out.new) (O.faults out.old) (O.faults out.new)) result }
 {
     cores_of_sources_are_formed();

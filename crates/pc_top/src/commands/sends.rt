@@ -1,8 +1,8 @@
 //! `sends SRC`.
-ghost use Rattle.std.specs.Prelude.{IfOk, [], ◌∷◌};
+ghost use Rattle.std.specs.Prelude.{IfOk};
 ghost use Rattle.pc_rules.specs.Valid.{Valid};
 ghost use Rattle.pc_refusals.specs.Inner.Answering.{AnswersText};
-ghost use Rattle.pc_refusals.specs.Named.{FailedAmong, files_change, named};
+ghost use Rattle.pc_refusals.specs.Named.{FailedAt, files_change, named};
 ghost use Rattle.pc_top.specs.Commands.Sends.{IsSends, IsSendsText};
 
 use super::sent_lines::write_table;
@@ -30,7 +30,7 @@ fn write_sends(alloc: Global, core: &Core, ann: &Ann) -> Result<List<u8>, AllocE
 /// methods may send, and then a line for each behaviour and constructor of an actor that nothing ever sends.
 pub fn tell_sends<F: Files>(alloc: Global, files: &mut F, source: &str) -> Result<List<u8>, Stop>
     ensures { let files = files_change (F.bytes files.old) (F.faults files.old) (F.faults files.new) (F.taken files.new) in
-        AnswersText (IsSends (named files source.now)) (FailedAmong files (source.now ∷ [])) result }
+        AnswersText (IsSends (named files source.now)) (FailedAt (named files source.now)) result }
 {
     let accepted = accept_source(alloc, files, source)?;
     let text = write_sends(alloc, &accepted.source.core, &accepted.ann)?;

@@ -1,5 +1,5 @@
 //! `swap SRC SCHED PLACE`.
-ghost use Rattle.std.specs.Prelude.{◌≡◌, ◌<◌, ◌≤◌, ◌^◌, IfOk, [], ◌∷◌, length};
+ghost use Rattle.std.specs.Prelude.{◌≡◌, ◌<◌, ◌≤◌, ◌^◌, IfOk, length};
 ghost use Rattle.pc_args.specs.Numbers.{IsNumber, Reads};
 ghost use Rattle.pc_run.specs.Spreading.{spread};
 ghost use Rattle.pc_sched.specs.Limits.{turn_limit};
@@ -7,9 +7,10 @@ ghost use Rattle.pc_sched.specs.Schedules.{total};
 ghost use Rattle.pc_semantics.specs.Safety.{Safe};
 ghost use Rattle.pc_refusals.specs.Inner.Answering.{AnswersText};
 ghost use Rattle.pc_refusals.specs.Inner.Stages.{StageEnds};
-ghost use Rattle.pc_refusals.specs.Named.{FailedAmong, files_change, named};
+ghost use Rattle.pc_refusals.specs.Named.{files_change, named};
 ghost use Rattle.pc_top.specs.Commands.Swap as spec;
-ghost use Rattle.pc_top.specs.Commands.Swap.{IsPlace, IsSwap, IsSwapAt, Swapping};
+ghost use Rattle.pc_top.specs.Commands.Swap.{IsPlace, IsSwap, IsSwapAt, Swapping, UnreadSwap};
+ghost use Rattle.pc_top.specs.Shapes.{UnreadScheduled};
 
 use crate::laws::cores_of_sources_are_formed;
 use crate::scheduled::read_scheduled;
@@ -121,7 +122,7 @@ fn swap_at<F: Files>(
 ) -> Result<List<u8>, Stop>
     requires first { 1 ≤ place }
     ensures { let files = files_change (F.bytes files.old) (F.faults files.old) (F.faults files.new) (F.taken files.new) in
-        AnswersText (IsSwapAt (named files source.now) (named files schedule.now) place) (FailedAmong files (source.now ∷ schedule.now ∷ [])) result }
+        AnswersText (IsSwapAt (named files source.now) (named files schedule.now) place) (UnreadScheduled (named files source.now) (named files schedule.now)) result }
 {
     cores_of_sources_are_formed();
     valid_is_safe();
@@ -145,7 +146,7 @@ pub fn swap_turns<F: Files>(
     place: &str,
 ) -> Result<List<u8>, Stop>
     ensures { let files = files_change (F.bytes files.old) (F.faults files.old) (F.faults files.new) (F.taken files.new) in
-        AnswersText (IsSwap (named files source.now) (named files schedule.now) place.now) (FailedAmong files (source.now ∷ schedule.now ∷ [])) result }
+        AnswersText (IsSwap (named files source.now) (named files schedule.now) place.now) (UnreadSwap (named files source.now) (named files schedule.now) place.now) result }
 {
     match place_of(place) {
         Some(place) => swap_at(alloc, files, source, schedule, place),

@@ -1,13 +1,14 @@
 //! `trace SRC SCHED`.
-ghost use Rattle.std.specs.Prelude.{◌≤◌, [], ◌∷◌, length};
+ghost use Rattle.std.specs.Prelude.{◌≤◌, length};
 ghost use Rattle.pc_run.specs.Spreading.{spread};
 ghost use Rattle.pc_sched.specs.Limits.{turn_limit};
 ghost use Rattle.pc_sched.specs.Schedules.{total};
 ghost use Rattle.pc_semantics.specs.Safety.{Safe};
 ghost use Rattle.pc_refusals.specs.Inner.Answering.{AnswersText};
 ghost use Rattle.pc_refusals.specs.Inner.Stages.{StageEnds};
-ghost use Rattle.pc_refusals.specs.Named.{FailedAmong, files_change, named};
+ghost use Rattle.pc_refusals.specs.Named.{files_change, named};
 ghost use Rattle.pc_top.specs.Commands.Trace.{IsTrace, Tracing};
+ghost use Rattle.pc_top.specs.Shapes.{UnreadScheduled};
 
 use super::traced_lines::write_trace;
 use crate::laws::cores_of_sources_are_formed;
@@ -61,7 +62,7 @@ pub fn trace_run<F: Files>(
     schedule: &str,
 ) -> Result<List<u8>, Stop>
     ensures { let files = files_change (F.bytes files.old) (F.faults files.old) (F.faults files.new) (F.taken files.new) in
-        AnswersText (IsTrace (named files source.now) (named files schedule.now)) (FailedAmong files (source.now ∷ schedule.now ∷ [])) result }
+        AnswersText (IsTrace (named files source.now) (named files schedule.now)) (UnreadScheduled (named files source.now) (named files schedule.now)) result }
 {
     cores_of_sources_are_formed();
     valid_is_safe();

@@ -1,8 +1,8 @@
 //! `upgrade SRC DERIV`.
-ghost use Rattle.std.specs.Prelude.{[], ◌∷◌};
 ghost use Rattle.pc_refusals.specs.Inner.Answering.{AnswersText};
-ghost use Rattle.pc_refusals.specs.Named.{FailedAmong, files_change, named};
+ghost use Rattle.pc_refusals.specs.Named.{files_change, named};
 ghost use Rattle.pc_top.specs.Commands.Upgrade.{IsUpgrade};
+ghost use Rattle.pc_top.specs.Shapes.{UnreadDerivation};
 
 use crate::source::read_source;
 use pc_caps::List;
@@ -20,7 +20,7 @@ pub fn upgrade_derivation<F: Files>(
     derivation: &str,
 ) -> Result<List<u8>, Stop>
     ensures { let files = files_change (F.bytes files.old) (F.faults files.old) (F.faults files.new) (F.taken files.new) in
-        AnswersText (IsUpgrade (named files source.now) (named files derivation.now)) (FailedAmong files (source.now ∷ derivation.now ∷ [])) result }
+        AnswersText (IsUpgrade (named files source.now) (named files derivation.now)) (UnreadDerivation (named files source.now) (named files derivation.now)) result }
 {
     let read = read_source(alloc, files, source)?;
     let ann = read_derivation(alloc, files, derivation)?;

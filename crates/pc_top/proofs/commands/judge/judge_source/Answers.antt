@@ -1,10 +1,10 @@
-use Rattle.std.proofs.Common.{[], ◌∷◌, inl}
+use Rattle.std.proofs.Common.{inl}
 use Rattle.std.proofs.lemmas.Result.{err_from_is_err_and}
 use Rattle.pc_refusals.specs.Derivation.{in_parts}
-use Rattle.pc_refusals.specs.Named.{FailedAmong, file_at, files_change, named}
+use Rattle.pc_refusals.specs.Named.{file_at, files_change, named}
 use Rattle.pc_refusals.specs.Source.{SourceStage, source_limit}
 use Rattle.pc_top.specs.Commands.Judge.{accepted_text}
-use Rattle.pc_top.specs.Shapes.{OfJudged}
+use Rattle.pc_top.specs.Shapes.{OfJudged, UnreadDerivation}
 use Rattle.pc_top.proofs.Judging.{derivation_refused, derivation_told}
 use Rattle.pc_top.proofs.Rooms.Judge.{judged_all, source_not_done}
 use Rattle.pc_refusals.proofs.Ending.{part_stops}
@@ -16,7 +16,7 @@ returns-in_err-read-clause-answers g c =
     let s = c.args.source.now in
     let d = c.args.derivation.now in
     let files = files_change (g.F.Files.bytes c.args.files.now) (g.F.Files.faults c.args.files.now) (g.F.Files.faults c.read_source.new.files) (g.F.Files.taken c.read_source.new.files) in
-    rw (p.1, p.2) (part_stops source_limit (SourceStage s) (OfJudged (λ ann. accepted_text) (named files s) (in_parts (named files d))) (FailedAmong files (s ∷ d ∷ [])) (named files s) _ (λ n f. inl f) c.in_err-read.ensures.stage)
+    rw (p.1, p.2) (part_stops source_limit (SourceStage s) (OfJudged (λ ann. accepted_text) (named files s) (in_parts (named files d))) (UnreadDerivation (named files s) (named files d)) (named files s) _ (λ n f. inl f) c.in_err-read.ensures.stage)
 
 pub returns-in_err-read-clause-asks : goal.returns-in_err-read-clause-asks
 returns-in_err-read-clause-asks g c =

@@ -1,17 +1,18 @@
-use Rattle.std.proofs.Common.{List, [], ◌∷◌, inl, inr, refl}
+use Rattle.std.proofs.Common.{List, inl, inr, refl}
 use Rattle.std.proofs.lemmas.Result.{err_from_is_err_and}
 use Rattle.pc_io.specs.Change.{change}
 use Rattle.pc_run.specs.Spreading.{spread}
 use Rattle.pc_sched.specs.Limits.{schedule_limit}
 use Rattle.pc_sched.specs.declared.turns.Turn.{Turn}
 use Rattle.pc_refusals.specs.Accepting.{AcceptedStage}
-use Rattle.pc_refusals.specs.Named.{FailedAmong, files_change, named}
+use Rattle.pc_refusals.specs.Named.{files_change, named}
 use Rattle.pc_refusals.specs.Schedule.{ScheduleStage}
 use Rattle.pc_refusals.specs.Source.{source_limit}
 use Rattle.pc_refusals.specs.declared.typing.Accepted.{Accepted}
 use Rattle.pc_refusals.proofs.Ending.{both_end, both_stop, stop_ends}
 use Rattle.pc_refusals.proofs.Scheduled.{few_turns}
 use Rattle.pc_top.specs.Commands.Run.{IsRun, Ran}
+use Rattle.pc_top.specs.Shapes.{UnreadScheduled}
 use Rattle.pc_top.proofs.Deriving.{accepted_lacks_nothing}
 use Rattle.pc_top.proofs.commands.run.run_source.Goals as goal
 
@@ -22,8 +23,8 @@ returns-in_err-read-clause-ends g c =
     let d = c.args.schedule.now in
     let files = files_change (g.F.Files.bytes c.args.files.now) (g.F.Files.faults c.args.files.now) (g.F.Files.faults c.read_scheduled.new.files) (g.F.Files.taken c.read_scheduled.new.files) in
     let out = change (g.O.Sink.written c.args.out.now) (g.O.Sink.written c.args.out.now) (g.O.Sink.faults c.args.out.now) (g.O.Sink.faults c.args.out.now) in
-    rw (p.1, p.2) (stop_ends (IsRun (named files s) (named files d)) (FailedAmong files (s ∷ d ∷ [])) out _
-    (both_stop source_limit schedule_limit (AcceptedStage s) (ScheduleStage d) (λ (a : Accepted) (turns : List Turn). Ran d a.source.core (spread turns)) (FailedAmong files (s ∷ d ∷ [])) (named files s) (named files d) _ (λ n f. inl f) (λ n f. inr (inl f)) c.in_err-read.ensures) refl)
+    rw (p.1, p.2) (stop_ends (IsRun (named files s) (named files d)) (UnreadScheduled (named files s) (named files d)) out _
+    (both_stop source_limit schedule_limit (AcceptedStage s) (ScheduleStage d) (λ (a : Accepted) (turns : List Turn). Ran d a.source.core (spread turns)) (UnreadScheduled (named files s) (named files d)) (named files s) (named files d) _ (λ n f. inl f) (λ n p f. inr (p, f)) c.in_err-read.ensures) refl)
 
 pub run_turns-requires-clause-few : goal.run_turns-requires-clause-few
 run_turns-requires-clause-few g c = rw c.as_slice.ensures (few_turns c.in_ok-read.ensures.1.2)
@@ -38,4 +39,4 @@ returns-clause-ends g c =
     let files = files_change (g.F.Files.bytes c.args.files.now) (g.F.Files.faults c.args.files.now) (g.F.Files.faults c.read_scheduled.new.files) (g.F.Files.taken c.read_scheduled.new.files) in
     let read = c.in_ok-read.read in
     let out = change (g.O.Sink.written c.args.out.now) (g.O.Sink.written c.run_turns.new.out) (g.O.Sink.faults c.args.out.now) (g.O.Sink.faults c.run_turns.new.out) in
-    both_end source_limit schedule_limit (AcceptedStage s) (ScheduleStage d) (λ (a : Accepted) (turns : List Turn). Ran d a.source.core (spread turns)) (FailedAmong files (s ∷ d ∷ [])) (named files s) (named files d) read.accepted read.turns c.in_ok-read.ensures out _ (rw (← c.as_slice.ensures) c.run_turns.ensures.ends)
+    both_end source_limit schedule_limit (AcceptedStage s) (ScheduleStage d) (λ (a : Accepted) (turns : List Turn). Ran d a.source.core (spread turns)) (UnreadScheduled (named files s) (named files d)) (named files s) (named files d) read.accepted read.turns c.in_ok-read.ensures out _ (rw (← c.as_slice.ensures) c.run_turns.ensures.ends)

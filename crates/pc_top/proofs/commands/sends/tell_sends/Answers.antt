@@ -1,7 +1,7 @@
-use Rattle.std.proofs.Common.{[], ◌∷◌, Ok, inl, refl}
+use Rattle.std.proofs.Common.{Ok, refl}
 use Rattle.std.proofs.lemmas.Result.{err_from_is_err_and}
 use Rattle.pc_refusals.specs.Accepting.{AcceptedStage}
-use Rattle.pc_refusals.specs.Named.{FailedAmong, FailedAt, files_change, named}
+use Rattle.pc_refusals.specs.Named.{FailedAt, files_change, named}
 use Rattle.pc_refusals.specs.Source.{source_limit}
 use Rattle.pc_refusals.specs.Verdict.{done}
 use Rattle.pc_refusals.proofs.Ending.{part_answers, part_stops}
@@ -14,7 +14,7 @@ returns-in_err-accepted g c =
     let p = err_from_is_err_and c.from_residual.result c.from_residual.ensures.1 in
     let s = c.args.source.now in
     let files = files_change (g.F.Files.bytes c.args.files.now) (g.F.Files.faults c.args.files.now) (g.F.Files.faults c.accept_source.new.files) (g.F.Files.taken c.accept_source.new.files) in
-    rw (p.1, p.2) (part_stops source_limit (AcceptedStage s) Sent (FailedAmong files (s ∷ [])) (named files s) _ (λ n f. inl f) c.in_err-accepted.ensures.stage)
+    rw (p.1, p.2) (part_stops source_limit (AcceptedStage s) Sent (FailedAt (named files s)) (named files s) _ (λ n f. f) c.in_err-accepted.ensures.stage)
 
 pub write_sends-requires : goal.write_sends-requires
 write_sends-requires g c = (accepted_source c.in_ok-accepted.ensures.stage.2).1
@@ -25,4 +25,4 @@ returns g c =
     let s = c.args.source.now in
     let files = files_change (g.F.Files.bytes c.args.files.now) (g.F.Files.faults c.args.files.now) (g.F.Files.faults c.accept_source.new.files) (g.F.Files.taken c.accept_source.new.files) in
     let file = named files s in
-    part_answers source_limit (AcceptedStage s) Sent (FailedAmong files (s ∷ [])) file (FailedAt file) c.in_ok-accepted.accepted (λ n f. inl f) c.in_ok-accepted.ensures.stage (Ok c.in_ok-text.text) sent
+    part_answers source_limit (AcceptedStage s) Sent (FailedAt (named files s)) file (FailedAt file) c.in_ok-accepted.accepted (λ n f. f) c.in_ok-accepted.ensures.stage (Ok c.in_ok-text.text) sent

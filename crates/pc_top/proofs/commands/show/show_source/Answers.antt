@@ -1,8 +1,8 @@
-use Rattle.std.proofs.Common.{[], ◌∷◌, Ok, Err, ap, inl}
+use Rattle.std.proofs.Common.{Ok, Err, ap}
 use Rattle.std.proofs.lemmas.Result.{err_from_is_err_and}
 use Rattle.pc_tree.specs.View.{file_view}
 use Rattle.pc_refusals.specs.After.After.{stops}
-use Rattle.pc_refusals.specs.Named.{FailedAmong, FailedAt, files_change, named}
+use Rattle.pc_refusals.specs.Named.{FailedAt, files_change, named}
 use Rattle.pc_refusals.specs.Source.{FileStage, SyntaxStage, source_limit}
 use Rattle.pc_refusals.specs.Source.Length.{is_longer}
 use Rattle.pc_refusals.specs.Verdict.{done}
@@ -17,7 +17,7 @@ returns-in_err-bytes g c =
     let s = c.args.source.now in
     let files = files_change (g.F.Files.bytes c.args.files.now) (g.F.Files.faults c.args.files.now) (g.F.Files.faults c.read_file.new.files) (g.F.Files.taken c.read_file.new.files) in
     let file = named files s in
-    rw (p.1, p.2) (part_stops source_limit (FileStage s) Shown (FailedAmong files (s ∷ [])) file _ (λ n f. inl f) (not_read source_limit (FileStage s) file _ (stops is_longer) c.in_err-bytes.ensures.reads))
+    rw (p.1, p.2) (part_stops source_limit (FileStage s) Shown (FailedAt (named files s)) file _ (λ n f. f) (not_read source_limit (FileStage s) file _ (stops is_longer) c.in_err-bytes.ensures.reads))
 
 pub returns-in_err-file : goal.returns-in_err-file
 returns-in_err-file g c =
@@ -25,7 +25,7 @@ returns-in_err-file g c =
     let s = c.args.source.now in
     let files = files_change (g.F.Files.bytes c.args.files.now) (g.F.Files.faults c.args.files.now) (g.F.Files.faults c.read_file.new.files) (g.F.Files.taken c.read_file.new.files) in
     let file = named files s in
-    rw (p.1, p.2) (part_stops source_limit (FileStage s) Shown (FailedAmong files (s ∷ [])) file _ (λ n f. inl f)
+    rw (p.1, p.2) (part_stops source_limit (FileStage s) Shown (FailedAt (named files s)) file _ (λ n f. f)
     (whole_ends source_limit (SyntaxStage s) file c.in_ok-bytes.bytes c.as_slice.result.now (Err _) c.in_ok-bytes.ensures.reads c.as_slice.ensures c.in_err-file.ensures))
 
 pub returns : goal.returns
@@ -35,5 +35,5 @@ returns g c =
     let file = named files s in
     let tree = file_view c.in_ok-file.file in
     let shown : Shown tree (done c.in_ok-text.text) = ap done c.in_ok-text.ensures in
-    part_answers source_limit (FileStage s) Shown (FailedAmong files (s ∷ [])) file (FailedAt file) tree (λ n f. inl f)
+    part_answers source_limit (FileStage s) Shown (FailedAt (named files s)) file (FailedAt file) tree (λ n f. f)
     (whole_ends source_limit (SyntaxStage s) file c.in_ok-bytes.bytes c.as_slice.result.now (Ok tree) c.in_ok-bytes.ensures.reads c.as_slice.ensures c.in_ok-file.ensures) (Ok c.in_ok-text.text) shown

@@ -1,10 +1,10 @@
-use Rattle.std.proofs.Common.{List, [], ◌∷◌, inl, inr}
+use Rattle.std.proofs.Common.{List, inl, inr}
 use Rattle.std.proofs.lemmas.Result.{err_from_is_err_and}
 use Rattle.pc_run.specs.Spreading.{spread}
 use Rattle.pc_sched.specs.Limits.{schedule_limit}
 use Rattle.pc_sched.specs.declared.turns.Turn.{Turn}
 use Rattle.pc_refusals.specs.Accepting.{AcceptedStage}
-use Rattle.pc_refusals.specs.Named.{FailedAmong, files_change, named}
+use Rattle.pc_refusals.specs.Named.{files_change, named}
 use Rattle.pc_refusals.specs.Schedule.{ScheduleStage}
 use Rattle.pc_refusals.specs.Source.{source_limit}
 use Rattle.pc_refusals.specs.Verdict.{EndsWith}
@@ -12,6 +12,7 @@ use Rattle.pc_refusals.specs.declared.typing.Accepted.{Accepted}
 use Rattle.pc_refusals.proofs.Ending.{both_answer, both_stop, last_ends}
 use Rattle.pc_refusals.proofs.Scheduled.{few_turns}
 use Rattle.pc_top.specs.Commands.Swap.{Swapping}
+use Rattle.pc_top.specs.Shapes.{UnreadScheduled}
 use Rattle.pc_top.proofs.Deriving.{accepted_core_safe}
 use Rattle.pc_top.proofs.commands.swap.swap_at.Goals as goal
 
@@ -21,7 +22,7 @@ returns-in_err-read g c =
     let s = c.args.source.now in
     let d = c.args.schedule.now in
     let files = files_change (g.F.Files.bytes c.args.files.now) (g.F.Files.faults c.args.files.now) (g.F.Files.faults c.read_scheduled.new.files) (g.F.Files.taken c.read_scheduled.new.files) in
-    rw (p.1, p.2) (both_stop source_limit schedule_limit (AcceptedStage s) (ScheduleStage d) (λ (a : Accepted) (turns : List Turn). EndsWith (Swapping d a.source.core (spread turns) c.args.place)) (FailedAmong files (s ∷ d ∷ [])) (named files s) (named files d) _ (λ n f. inl f) (λ n f. inr (inl f)) c.in_err-read.ensures)
+    rw (p.1, p.2) (both_stop source_limit schedule_limit (AcceptedStage s) (ScheduleStage d) (λ (a : Accepted) (turns : List Turn). EndsWith (Swapping d a.source.core (spread turns) c.args.place)) (UnreadScheduled (named files s) (named files d)) (named files s) (named files d) _ (λ n f. inl f) (λ n p f. inr (p, f)) c.in_err-read.ensures)
 
 pub swap_scheduled-requires-clause-safe : goal.swap_scheduled-requires-clause-safe
 swap_scheduled-requires-clause-safe g c = accepted_core_safe c.cores_of_sources_are_formed.ensures c.valid_is_safe.ensures c.in_ok-read.ensures.0.2
@@ -35,5 +36,5 @@ returns g c =
     let d = c.args.schedule.now in
     let files = files_change (g.F.Files.bytes c.args.files.now) (g.F.Files.faults c.args.files.now) (g.F.Files.faults c.read_scheduled.new.files) (g.F.Files.taken c.read_scheduled.new.files) in
     let read = c.in_ok-read.read in
-    both_answer source_limit schedule_limit (AcceptedStage s) (ScheduleStage d) (λ (a : Accepted) (turns : List Turn). EndsWith (Swapping d a.source.core (spread turns) c.args.place)) (FailedAmong files (s ∷ d ∷ [])) (named files s) (named files d) read.accepted read.turns c.in_ok-read.ensures c.swap_scheduled.result
+    both_answer source_limit schedule_limit (AcceptedStage s) (ScheduleStage d) (λ (a : Accepted) (turns : List Turn). EndsWith (Swapping d a.source.core (spread turns) c.args.place)) (UnreadScheduled (named files s) (named files d)) (named files s) (named files d) read.accepted read.turns c.in_ok-read.ensures c.swap_scheduled.result
     (last_ends (Swapping d read.accepted.source.core (spread read.turns) c.args.place) (λ n. ⊥) c.swap_scheduled.result (rw (← c.as_slice.ensures) c.swap_scheduled.ensures))

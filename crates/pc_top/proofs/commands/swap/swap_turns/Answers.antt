@@ -1,9 +1,10 @@
-use Rattle.std.proofs.Common.{[], ◌∷◌, refl}
+use Rattle.std.proofs.Common.{refl}
 use Rattle.pc_refusals.specs.Lines.{usage_line}
-use Rattle.pc_refusals.specs.Named.{FailedAmong, files_change, named}
+use Rattle.pc_refusals.specs.Named.{files_change, named}
 use Rattle.pc_refusals.proofs.Ending.{answers_by, words_stop}
-use Rattle.pc_top.specs.Commands.Swap.{IsSwap, IsSwapAt}
+use Rattle.pc_top.specs.Commands.Swap.{IsSwap, IsSwapAt, UnreadSwap}
 use Rattle.pc_top.specs.Commands.Swap.IsSwap.{no_number, placed}
+use Rattle.pc_top.specs.Shapes.{UnreadScheduled}
 use Rattle.pc_top.proofs.commands.swap.swap_turns.Goals as goal
 
 pub returns-in-Some : goal.returns-in-Some
@@ -12,13 +13,12 @@ returns-in-Some g c =
     let source = named files c.args.source.now in
     let schedule = named files c.args.schedule.now in
     let place = c.in-Some.place in
-    let failed = FailedAmong files (c.args.source.now ∷ c.args.schedule.now ∷ []) in
-    answers_by (IsSwapAt source schedule place) (IsSwap source schedule c.args.place.now) failed failed (λ v m. placed place c.in-Some.ensures m) (λ n f. f) c.swap_at.result c.swap_at.ensures
+    answers_by (IsSwapAt source schedule place) (IsSwap source schedule c.args.place.now) (UnreadScheduled source schedule) (UnreadSwap source schedule c.args.place.now)
+    (λ v m. placed place c.in-Some.ensures m) (λ n f. ((place, c.in-Some.ensures), f)) c.swap_at.result c.swap_at.ensures
 
 pub returns-in-None : goal.returns-in-None
 returns-in-None g c =
     let files = files_change (g.F.Files.bytes c.args.files.now) (g.F.Files.faults c.args.files.now) (g.F.Files.faults c.args.files.now) (g.F.Files.taken c.args.files.now) in
     let source = named files c.args.source.now in
     let schedule = named files c.args.schedule.now in
-    let failed = FailedAmong files (c.args.source.now ∷ c.args.schedule.now ∷ []) in
-    words_stop (IsSwap source schedule c.args.place.now) failed 2 usage_line c.refuse_words.result (no_number c.in-None.ensures refl) c.refuse_words.ensures
+    words_stop (IsSwap source schedule c.args.place.now) (UnreadSwap source schedule c.args.place.now) 2 usage_line c.refuse_words.result (no_number c.in-None.ensures refl) c.refuse_words.ensures

@@ -1,17 +1,17 @@
-use Rattle.std.proofs.Common.{[], ◌∷◌, Ok, Err, ap, inl, inr}
+use Rattle.std.proofs.Common.{Ok, Err, ap, inl, inr}
 use Rattle.std.proofs.lemmas.Result.{err_from_is_err_and}
 use Rattle.pc_ann.specs.declared.annotation.Ann.{Ann}
 use Rattle.pc_deriv.specs.Text.{deriv_text}
 use Rattle.pc_deriv.specs.declared.version.Version.TheVariants as version
 use Rattle.pc_refusals.specs.Derivation.{DerivationStage, Judging, derivation_limit}
-use Rattle.pc_refusals.specs.Named.{FailedAmong, files_change, named}
+use Rattle.pc_refusals.specs.Named.{files_change, named}
 use Rattle.pc_refusals.specs.Source.{SourceStage, source_limit}
 use Rattle.pc_refusals.specs.Verdict.{EndsAs, done}
 use Rattle.pc_refusals.specs.declared.source.Source.{Source}
 use Rattle.pc_refusals.proofs.Derivations.{few}
 use Rattle.pc_refusals.proofs.Ending.{both_answer, both_stop, last_stops, part_stops}
 use Rattle.pc_refusals.proofs.TwoFiles.{second_gives, second_stops}
-use Rattle.pc_top.specs.Shapes.{OfJudged}
+use Rattle.pc_top.specs.Shapes.{OfJudged, UnreadDerivation}
 use Rattle.pc_top.proofs.Deriving.{never_longer}
 use Rattle.pc_top.proofs.commands.upgrade.upgrade_derivation.Goals as goal
 
@@ -21,7 +21,7 @@ returns-in_err-read g c =
     let s = c.args.source.now in
     let d = c.args.derivation.now in
     let files = files_change (g.F.Files.bytes c.args.files.now) (g.F.Files.faults c.args.files.now) (g.F.Files.faults c.read_source.new.files) (g.F.Files.taken c.read_source.new.files) in
-    rw (p.1, p.2) (part_stops source_limit (SourceStage s) (OfJudged (deriv_text version.Two) (named files s) (named files d)) (FailedAmong files (s ∷ d ∷ [])) (named files s) _ (λ n f. inl f) c.in_err-read.ensures.stage)
+    rw (p.1, p.2) (part_stops source_limit (SourceStage s) (OfJudged (deriv_text version.Two) (named files s) (named files d)) (UnreadDerivation (named files s) (named files d)) (named files s) _ (λ n f. inl f) c.in_err-read.ensures.stage)
 
 pub returns-in_err-ann : goal.returns-in_err-ann
 returns-in_err-ann g c =
@@ -30,7 +30,7 @@ returns-in_err-ann g c =
     let d = c.args.derivation.now in
     let files = files_change (g.F.Files.bytes c.args.files.now) (g.F.Files.faults c.args.files.now) (g.F.Files.faults c.read_derivation.new.files) (g.F.Files.taken c.read_derivation.new.files) in
     rw (p.1, p.2)
-    (both_stop source_limit derivation_limit (SourceStage s) (DerivationStage d) (λ (x : Source) (note : Ann). EndsAs (λ _. deriv_text version.Two note) (Judging s d x note)) (FailedAmong files (s ∷ d ∷ [])) (named files s) (named files d) _ (λ n f. inl f) (λ n f. inr (inl f))
+    (both_stop source_limit derivation_limit (SourceStage s) (DerivationStage d) (λ (x : Source) (note : Ann). EndsAs (λ _. deriv_text version.Two note) (Judging s d x note)) (UnreadDerivation (named files s) (named files d)) (named files s) (named files d) _ (λ n f. inl f) (λ n p f. inr (p, f))
     (second_stops source_limit derivation_limit (SourceStage s) (DerivationStage d) s d (g.F.Files.bytes c.args.files.now) (g.F.Files.bytes c.read_source.new.files)
     (g.F.Files.faults c.args.files.now) (g.F.Files.faults c.read_source.new.files) (g.F.Files.faults c.read_derivation.new.files) (g.F.Files.taken c.read_source.new.files) (g.F.Files.taken c.read_derivation.new.files) (g.F.Files.taken c.read_derivation.new.files)
     c.in_ok-read.read (never_longer s c.in_ok-read.read) c.in_ok-read.ensures.stage (c.in_ok-read.ensures.same d) (c.in_ok-read.ensures.later d) (c.in_err-ann.ensures.later d) _ c.in_err-ann.ensures.stage))
@@ -44,7 +44,7 @@ returns-in_err-judge_annotation g c =
     let read = c.in_ok-read.read in
     let ann = c.in_ok-ann.ann in
     rw (p.1, p.2)
-    (both_answer source_limit derivation_limit (SourceStage s) (DerivationStage d) (λ (x : Source) (note : Ann). EndsAs (λ _. deriv_text version.Two note) (Judging s d x note)) (FailedAmong files (s ∷ d ∷ [])) (named files s) (named files d) read ann
+    (both_answer source_limit derivation_limit (SourceStage s) (DerivationStage d) (λ (x : Source) (note : Ann). EndsAs (λ _. deriv_text version.Two note) (Judging s d x note)) (UnreadDerivation (named files s) (named files d)) (named files s) (named files d) read ann
     (second_gives source_limit derivation_limit (SourceStage s) (DerivationStage d) s d (g.F.Files.bytes c.args.files.now) (g.F.Files.bytes c.read_source.new.files)
     (g.F.Files.faults c.args.files.now) (g.F.Files.faults c.read_source.new.files) (g.F.Files.faults c.read_derivation.new.files) (g.F.Files.taken c.read_source.new.files) (g.F.Files.taken c.read_derivation.new.files) (g.F.Files.taken c.read_derivation.new.files)
     c.in_ok-read.read (never_longer s c.in_ok-read.read) c.in_ok-read.ensures.stage (c.in_ok-read.ensures.same d) (c.in_ok-read.ensures.later d) (c.in_ok-ann.ensures.later d) ann c.in_ok-ann.ensures.stage) (Err _)
@@ -60,7 +60,7 @@ returns g c =
     let files = files_change (g.F.Files.bytes c.args.files.now) (g.F.Files.faults c.args.files.now) (g.F.Files.faults c.read_derivation.new.files) (g.F.Files.taken c.read_derivation.new.files) in
     let read = c.in_ok-read.read in
     let ann = c.in_ok-ann.ann in
-    both_answer source_limit derivation_limit (SourceStage s) (DerivationStage d) (λ (x : Source) (note : Ann). EndsAs (λ _. deriv_text version.Two note) (Judging s d x note)) (FailedAmong files (s ∷ d ∷ [])) (named files s) (named files d) read ann
+    both_answer source_limit derivation_limit (SourceStage s) (DerivationStage d) (λ (x : Source) (note : Ann). EndsAs (λ _. deriv_text version.Two note) (Judging s d x note)) (UnreadDerivation (named files s) (named files d)) (named files s) (named files d) read ann
     (second_gives source_limit derivation_limit (SourceStage s) (DerivationStage d) s d (g.F.Files.bytes c.args.files.now) (g.F.Files.bytes c.read_source.new.files)
     (g.F.Files.faults c.args.files.now) (g.F.Files.faults c.read_source.new.files) (g.F.Files.faults c.read_derivation.new.files) (g.F.Files.taken c.read_source.new.files) (g.F.Files.taken c.read_derivation.new.files) (g.F.Files.taken c.read_derivation.new.files)
     c.in_ok-read.read (never_longer s c.in_ok-read.read) c.in_ok-read.ensures.stage (c.in_ok-read.ensures.same d) (c.in_ok-read.ensures.later d) (c.in_ok-ann.ensures.later d) ann c.in_ok-ann.ensures.stage) (Ok c.in_ok-text.text)
