@@ -56,3 +56,8 @@ named files name = file_at files.told files.before files.now files.taken name
 abbrev pub AllTold : (Text → Option Text) → List Text → Type 0
 AllTold told [] = Unit {0}
 AllTold told (n ∷ ns) = IsSome (told n) × AllTold told ns
+
+-- No reading of these failed.
+abbrev pub NoneFailed : Files → List Text → Type 0
+NoneFailed files [] = Unit {0}
+NoneFailed files (n ∷ ns) = (files.now n ≡ files.before n) × NoneFailed files ns

@@ -6,7 +6,7 @@ use Rattle.pc_ann.specs.declared.annotation.Ann.{Ann}
 use Rattle.pc_lists.specs.Texts.{Text}
 use Rattle.pc_args.specs.Asked.{Asked}
 use Rattle.pc_io.specs.Change.{Change}
-use Rattle.pc_refusals.specs.Named.{AllTold, Files, Named}
+use Rattle.pc_refusals.specs.Named.{AllTold, Files, Named, NoneFailed}
 use Rattle.pc_refusals.specs.Verdict.{Verdict, IsAccepting}
 use Rattle.pc_refusals.proofs.Statuses.{IsOwn, other_not_one, other_own}
 use Rattle.pc_top.specs.Commands.{IsVerdictOf, OnOutOf, files_of, infers, source_of}
@@ -20,7 +20,7 @@ abbrev pub BothTell : Named → Named → Type 0
 BothTell file derivation = IsSome file.told × (file.now ≡ file.before) × IsSome derivation.told × (derivation.now ≡ derivation.before)
 
 module _ (text : Ann → Text) (files : Files) (asked : Asked) (source : Text) (file derivation : Named) (its : source_of asked ≡ Some source) (told : file.told ≡ files.told source) (looks : infers asked ≡ false)
-    (is_of : (v : Verdict) → IsVerdictOf files (Some asked) v → OfDerivation text file derivation v) (tell : ((n : Text) → files.now n ≡ files.before n) → AllTold files.told (files_of asked) → BothTell file derivation)
+    (is_of : (v : Verdict) → IsVerdictOf files (Some asked) v → OfDerivation text file derivation v) (tell : NoneFailed files (files_of asked) → AllTold files.told (files_of asked) → BothTell file derivation)
     (writes : (v : Verdict) (out : Change) → IsAccepting v.status → Appends out.before out.now v.out → Derives text file derivation v → OnOutOf files.told (Some asked) out) where
   pub derivation_room : Room files asked
   derivation_room = record {

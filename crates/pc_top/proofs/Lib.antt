@@ -5,6 +5,7 @@ mod Deriving
 mod DerivingRoom
 mod Ending
 mod Exact
+mod ExactJudging
 mod Facts
 mod Failures
 mod InOrder

@@ -6,7 +6,7 @@ use Rattle.std.proofs.lemmas.Option.{none-some, same_Some}
 use Rattle.pc_lists.specs.Texts.{Text}
 use Rattle.pc_args.specs.Asked.{Asked}
 use Rattle.pc_io.specs.Change.{Change}
-use Rattle.pc_refusals.specs.Named.{AllTold, Files, named}
+use Rattle.pc_refusals.specs.Named.{AllTold, Files, NoneFailed, named}
 use Rattle.pc_refusals.specs.Verdict.{Verdict, IsAccepting}
 use Rattle.pc_refusals.proofs.OneSource.{SourceLaws}
 use Rattle.pc_refusals.proofs.Statuses.{IsOwn}
@@ -20,7 +20,7 @@ use Rattle.pc_top.proofs.Premises.{Laws, Refusing}
 
 pub record Room (files : Files) (asked : Asked) : Type 0 where
   -- where its files tell their bytes and no reading failed, it has one verdict
-  pub one : Laws → ((n : Text) → files.now n ≡ files.before n) → AllTold files.told (files_of asked) → (v w : Verdict) → IsVerdictOf files (Some asked) v → IsVerdictOf files (Some asked) w → v ≡ w
+  pub one : Laws → NoneFailed files (files_of asked) → AllTold files.told (files_of asked) → (v w : Verdict) → IsVerdictOf files (Some asked) v → IsVerdictOf files (Some asked) w → v ≡ w
   -- whose status is that of no failure
   pub own : (v : Verdict) → IsVerdictOf files (Some asked) v → IsOwn v.status
   -- an accepting one says that its source has a derivation, if it has to have one
@@ -89,7 +89,7 @@ module _ (files : Files) (asked : Asked) (source : Text) (its : source_of asked 
 
   -- Its room, from what is its own.
   pub inferring : ((v : Verdict) → IsVerdictOf files (Some asked) v → Goes v)
-      → (Laws → ((n : Text) → files.now n ≡ files.before n) → AllTold files.told (files_of asked) → (v w : Verdict) → IsVerdictOf files (Some asked) v → IsVerdictOf files (Some asked) w → v ≡ w)
+      → (Laws → NoneFailed files (files_of asked) → AllTold files.told (files_of asked) → (v w : Verdict) → IsVerdictOf files (Some asked) v → IsVerdictOf files (Some asked) w → v ≡ w)
       → (TablesTell → (v : Verdict) (out : Change) → IsVerdictOf files (Some asked) v → IsAccepting v.status → Appends out.before out.now v.out → OnOutOf files.told (Some asked) out)
       → Room files asked
   inferring goes one writes = record {

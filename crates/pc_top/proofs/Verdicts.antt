@@ -19,7 +19,7 @@ use Rattle.pc_top.specs.CoreOf.{DerivableIsIsolated, DerivableIsSafe, IsDerivabl
 use Rattle.pc_top.specs.CoresFormed.{CoresAreFormed}
 use Rattle.pc_top.specs.Failures.{NoVerdictIsAFailure}
 use Rattle.pc_top.specs.OnOut.{OnOut, Swaps, Traces}
-use Rattle.pc_top.specs.One.{TellsOf, VerdictIsOne}
+use Rattle.pc_top.specs.One.{TellsOf, UnfailedOf, VerdictIsOne}
 use Rattle.pc_top.proofs.Accepted.{accepting, some_by}
 use Rattle.pc_top.proofs.Premises.{Laws, Refusing}
 use Rattle.pc_top.proofs.Room.{two_not_one, two_own, two_refuses}
@@ -33,12 +33,12 @@ two v files is = ap (λ (x : Verdict). x.status) is
 
 -- ---- one verdict
 
-one_of : Laws → (files : Files) → ((n : Text) → files.now n ≡ files.before n) → (asked : Option Asked) (v w : Verdict) → TellsOf files.told asked → IsVerdictOf files asked v → IsVerdictOf files asked w → v ≡ w
-one_of laws files unfailed None v w t a b = a ∙ sym b
-one_of laws files unfailed (Some asked) v w t a b = (room_of files asked).one laws unfailed t v w a b
+one_of : Laws → (files : Files) (asked : Option Asked) (v w : Verdict) → UnfailedOf files asked → TellsOf files.told asked → IsVerdictOf files asked v → IsVerdictOf files asked w → v ≡ w
+one_of laws files None v w n t a b = a ∙ sym b
+one_of laws files (Some asked) v w n t a b = (room_of files asked).one laws n t v w a b
 
 pub verdict_one : Laws → VerdictIsOne
-verdict_one laws files words v w n t a b = one_of laws files n (command_of words) v w t a b
+verdict_one laws files words v w n t a b = one_of laws files (command_of words) v w n t a b
 
 -- ---- its status is that of no failure
 

@@ -1,16 +1,19 @@
--- What `check` writes, `judge` accepts.
+-- What `check` writes, `judge` accepts; and so is what `upgrade` writes.
 use Rattle.std.proofs.Common.{◌≡◌, ◌≤◌, ℕ, length, Option, Some, Ok, inl, refl, sym, ap, subst}
 use Rattle.std.specs.Prelude.{IfSome}
+use Rattle.pc_ann.specs.declared.annotation.Ann.{Ann}
 use Rattle.pc_lists.specs.Texts.{Text}
 use Rattle.pc_args.specs.Asked.{Asked}
 use Rattle.pc_deriv.specs.Faults.{IsText}
+use Rattle.pc_deriv.specs.Text.{deriv_text}
+use Rattle.pc_deriv.specs.declared.version.Version.TheVariants as version
 use Rattle.pc_refusals.specs.Accepting.{AcceptedStage}
 use Rattle.pc_refusals.specs.After.After.{goes}
-use Rattle.pc_refusals.specs.Derivation.{derivation_limit}
+use Rattle.pc_refusals.specs.Derivation.{derivation_limit, in_parts}
 use Rattle.pc_refusals.specs.Derivation.Deriving.{reads}
 use Rattle.pc_refusals.specs.Derivation.Judging.{holds}
 use Rattle.pc_refusals.specs.FromFile.FromFile.{goes_on}
-use Rattle.pc_refusals.specs.Named.{Files, Reading, whole, IsReadingOf, named}
+use Rattle.pc_refusals.specs.Named.{Files, Reading, whole, IsReadingOf, file_at, named}
 use Rattle.pc_refusals.specs.Source.{SourceStage, source_limit}
 use Rattle.pc_refusals.specs.Source.Length.{fits}
 use Rattle.pc_refusals.specs.Verdict.{Verdict, done}
@@ -20,9 +23,12 @@ use Rattle.pc_refusals.proofs.Statuses.{accepted_refuses}
 use Rattle.pc_top.specs.Commands.{IsVerdictOf}
 use Rattle.pc_top.specs.Commands.Check.{Derived, IsCheck}
 use Rattle.pc_top.specs.Commands.Judge.{IsJudge, accepted_text}
-use Rattle.pc_top.specs.OnOut.{WrittenIsAccepted}
+use Rattle.pc_top.specs.Commands.Upgrade.{IsUpgrade}
+use Rattle.pc_top.specs.OnOut.{UpgradedIsAccepted, WrittenIsAccepted}
+use Rattle.pc_top.specs.Shapes.{OfDerivation}
 use Rattle.pc_top.proofs.Accepted.{source_whole}
 use Rattle.pc_top.proofs.Deriving.{source_says, accepted_source}
+use Rattle.pc_top.proofs.Shapes.{Derives, derivation_derives}
 
 told_same : (limit : ℕ) (given other : Option Text) (bytes : Text) → other ≡ given → (length bytes ≤ limit) × IfSome given (λ b. bytes ≡ b) → (length bytes ≤ limit) × IfSome other (λ b. bytes ≡ b)
 told_same limit given other bytes e g = (g.0, subst (λ (o : Option Text). IfSome o (λ b. bytes ≡ b)) (sym e) g.1)
@@ -49,3 +55,41 @@ written_accepted files later words later_words source derivation text checks jud
     let done_by : IsCheck (named files source) (done text) = subst (λ (o : Option Asked). IsVerdictOf files o (done text)) checks c in
     subst (λ (o : Option Asked). IsVerdictOf later o (done accepted_text)) (sym judges)
     (source_accepted files later source derivation text same given done_by)
+
+-- ---- what `upgrade` writes
+
+module _ (files later : Files) (source derivation other text : Text) (same : later.told source ≡ files.told source) (given : later.told other ≡ Some text)
+    (is : IsUpgrade (named files source) (named files derivation) (done text)) where
+  found : Derives (deriv_text version.Two) (named files source) (named files derivation) (done text)
+  found = derivation_derives (deriv_text version.Two) (named files source) (named files derivation) (done text) (inl refl) is
+
+  same_text : text ≡ deriv_text version.Two found.ann
+  same_text = out_same text (deriv_text version.Two found.ann) found.done_with
+
+  in_two : IsText text found.ann
+  in_two = record { version = version.Two; slots = found.is_text.slots; notes = found.is_text.notes; within = found.is_text.within; same = same_text }
+
+  -- it is read again with the same source, whatever is written of it
+  read_again : (shown : Ann → Text) (taken : ℕ) → OfDerivation shown (named later source) (file_at later.told later.before later.now taken other) (done (shown found.ann))
+  read_again shown taken =
+      let s = found.source in
+      let read = source_whole (named files source) found.reading s found.is_reading found.passes in
+      let again : IsReadingOf (named later source) source_limit (whole s.bytes) = told_same source_limit (files.told source) (later.told source) s.bytes same read in
+      let passes : SourceStage source (whole s.bytes) (Ok s) = subst (λ (q : Reading). SourceStage source q (Ok s)) (source_says found.passes).0 found.passes in
+      let short = text_within text found.ann in_two in
+      goes_on (whole s.bytes) s again passes
+      (goes_on (whole text) found.ann (told_same derivation_limit (Some text) (later.told other) text given (short, refl)) (goes (fits short) (reads in_two))
+      (Ok tt, holds found.valid, refl))
+
+pub upgraded_accepted : UpgradedIsAccepted
+upgraded_accepted = record {
+  judged = λ files later words later_words source derivation other text asks judges same given c.
+      let is : IsUpgrade (named files source) (named files derivation) (done text) = subst (λ (o : Option Asked). IsVerdictOf files o (done text)) asks c in
+      subst (λ (o : Option Asked). IsVerdictOf later o (done accepted_text)) (sym judges)
+      (read_again files later source derivation other text same given is (λ ann. accepted_text) (in_parts (named later other)).taken);
+  again = λ files later words later_words source derivation other text asks upgrades same given c.
+      let is : IsUpgrade (named files source) (named files derivation) (done text) = subst (λ (o : Option Asked). IsVerdictOf files o (done text)) asks c in
+      subst (λ (o : Option Asked). IsVerdictOf later o (done text)) (sym upgrades)
+      (subst (λ (t : Text). IsUpgrade (named later source) (named later other) (done t)) (sym (same_text files later source derivation other text same given is))
+      (read_again files later source derivation other text same given is (deriv_text version.Two) later.taken));
+}

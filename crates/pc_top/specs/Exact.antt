@@ -1,13 +1,17 @@
 -- What the statuses 0 and 1 say of a source, exactly.
-use Rattle.std.specs.Prelude.{ℕ, ◌≡◌, ◌↔◌, Some, List, IsTrue}
+use Rattle.std.specs.Prelude.{ℕ, ◌≡◌, ◌↔◌, Some, List, [], ◌∷◌, IsTrue}
+use Rattle.pc_ann.specs.declared.annotation.Ann.{Ann}
+use Rattle.pc_core.specs.CoreData.{CoreData}
+use Rattle.pc_deriv.specs.Faults.{IsText}
+use Rattle.pc_rules.specs.Valid.{Valid}
 use Rattle.pc_args.specs.Numbers.{IsSeed, IsSize}
 use Rattle.pc_lists.specs.Texts.{Text}
-use Rattle.pc_args.specs.Asked.{Asked, check, make, swap, command_of}
+use Rattle.pc_args.specs.Asked.{Asked, check, judge, make, swap, upgrade, command_of}
 use Rattle.pc_top.specs.Asked.{IsVerdict}
 use Rattle.pc_top.specs.Commands.{infers, source_of}
-use Rattle.pc_top.specs.CoreOf.{IsDerivable, IsUnderivable}
+use Rattle.pc_top.specs.CoreOf.{CoreOf, IsDerivable, IsUnderivable}
 use Rattle.pc_top.specs.Commands.Make.{made_text}
-use Rattle.pc_refusals.specs.Named.{Files}
+use Rattle.pc_refusals.specs.Named.{Files, NoneFailed}
 use Rattle.pc_top.specs.Commands.Swap.{IsPlace}
 use Rattle.pc_refusals.specs.Verdict.{Verdict}
 
@@ -33,3 +37,24 @@ pub record StatusesAreExact : Type 0 where
       → IsTrue (infers asked) → (v.status ≡ 1) ↔ IsUnderivable bytes
   pub made : (files : Files) (words : List Text) (seed size : Text) (a b : ℕ) (v : Verdict) → command_of words ≡ Some (make seed size) → IsSeed seed a → IsSize size b
       → IsVerdict files words v → (v.status ≡ 1) ↔ IsUnderivable (made_text a b)
+
+-- ---- a derivation
+
+-- The text is that of a valid annotation of the source's core.
+abbrev pub IsDerivationOf : (source text : Text) → Type 0
+IsDerivationOf source text = (core : CoreData) × CoreOf source core × (ann : Ann) × IsText text ann × Valid core ann
+
+-- The words ask for this, and this verdict is theirs. The two files of the command tell these bytes, and no reading of them failed.
+pub record ReadsBoth (files : Files) (words : List Text) (asked : Asked) (source derivation bytes text : Text) (v : Verdict) : Type 0 where
+  pub asks : command_of words ≡ Some asked
+  pub tells : files.told source ≡ Some bytes
+  pub tells_text : files.told derivation ≡ Some text
+  pub unfailed : NoneFailed files (source ∷ derivation ∷ [])
+  pub verdict : IsVerdict files words v
+
+-- `judge` and `upgrade` answer 0 exactly when the derivation is the text of a valid annotation of the source's core.
+pub record JudgedAreExact : Type 0 where
+  pub judged : (files : Files) (words : List Text) (source derivation bytes text : Text) (v : Verdict) → ReadsBoth files words (judge source derivation) source derivation bytes text v
+      → (v.status ≡ 0) ↔ IsDerivationOf bytes text
+  pub upgraded : (files : Files) (words : List Text) (source derivation bytes text : Text) (v : Verdict) → ReadsBoth files words (upgrade source derivation) source derivation bytes text v
+      → (v.status ≡ 0) ↔ IsDerivationOf bytes text

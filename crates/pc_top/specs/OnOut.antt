@@ -1,7 +1,7 @@
 -- What stands on out where a command went through all its stages.
 use Rattle.std.specs.Prelude.{ℕ, ◌≡◌, Option, Some, List, IfSome}
 use Rattle.pc_lists.specs.Texts.{Text}
-use Rattle.pc_args.specs.Asked.{check, judge, swap, trace, command_of}
+use Rattle.pc_args.specs.Asked.{check, judge, swap, trace, upgrade, command_of}
 use Rattle.pc_io.specs.Change.{Change}
 use Rattle.pc_refusals.specs.Named.{Files}
 use Rattle.pc_refusals.specs.Verdict.{done}
@@ -39,3 +39,12 @@ WrittenIsAccepted =
     (files later : Files) (words later_words : List Text) (source derivation text : Text) → command_of words ≡ Some (check source)
     → command_of later_words ≡ Some (judge source derivation) → later.told source ≡ files.told source → later.told derivation ≡ Some text
     → IsVerdict files words (done text) → IsVerdict later later_words (done accepted_text)
+
+-- What `upgrade` is done with for a source, `judge` accepts for the same source, and `upgrade` is done with the same text again.
+pub record UpgradedIsAccepted : Type 0 where
+  pub judged : (files later : Files) (words later_words : List Text) (source derivation other text : Text) → command_of words ≡ Some (upgrade source derivation)
+      → command_of later_words ≡ Some (judge source other) → later.told source ≡ files.told source → later.told other ≡ Some text
+      → IsVerdict files words (done text) → IsVerdict later later_words (done accepted_text)
+  pub again : (files later : Files) (words later_words : List Text) (source derivation other text : Text) → command_of words ≡ Some (upgrade source derivation)
+      → command_of later_words ≡ Some (upgrade source other) → later.told source ≡ files.told source → later.told other ≡ Some text
+      → IsVerdict files words (done text) → IsVerdict later later_words (done text)

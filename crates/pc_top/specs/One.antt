@@ -4,7 +4,7 @@ use Rattle.pc_lists.specs.Texts.{Text}
 use Rattle.pc_args.specs.Asked.{Asked, command_of}
 use Rattle.pc_top.specs.Asked.{IsVerdict}
 use Rattle.pc_top.specs.Commands.{files_of}
-use Rattle.pc_refusals.specs.Named.{Files, AllTold}
+use Rattle.pc_refusals.specs.Named.{AllTold, Files, NoneFailed}
 use Rattle.pc_refusals.specs.Verdict.{Verdict}
 
 -- The files that the words name tell their bytes.
@@ -12,7 +12,12 @@ abbrev pub TellsOf : (Text → Option Text) → Option Asked → Type 0
 TellsOf told None = Unit {0}
 TellsOf told (Some asked) = AllTold told (files_of asked)
 
--- Where they do, and no reading failed, no two verdicts differ.
+-- No reading of them failed.
+abbrev pub UnfailedOf : Files → Option Asked → Type 0
+UnfailedOf files None = Unit {0}
+UnfailedOf files (Some asked) = NoneFailed files (files_of asked)
+
+-- Then no two verdicts differ.
 abbrev pub VerdictIsOne : Type 0
-VerdictIsOne = (files : Files) (words : List Text) (v w : Verdict) → ((n : Text) → files.now n ≡ files.before n) → TellsOf files.told (command_of words)
+VerdictIsOne = (files : Files) (words : List Text) (v w : Verdict) → UnfailedOf files (command_of words) → TellsOf files.told (command_of words)
     → IsVerdict files words v → IsVerdict files words w → v ≡ w

@@ -2,9 +2,9 @@
 ghost use Rattle.pc_top.specs.Asked.{RefusedIsUnderivable};
 ghost use Rattle.pc_top.specs.CoreOf.{DerivableIsIsolated, DerivableIsSafe};
 ghost use Rattle.pc_top.specs.CoresFormed.{CoresAreFormed};
-ghost use Rattle.pc_top.specs.Exact.{StatusesAreExact};
+ghost use Rattle.pc_top.specs.Exact.{JudgedAreExact, StatusesAreExact};
 ghost use Rattle.pc_top.specs.Failures.{FailuresAreTold, NoVerdictIsAFailure};
-ghost use Rattle.pc_top.specs.OnOut.{WrittenIsAccepted};
+ghost use Rattle.pc_top.specs.OnOut.{UpgradedIsAccepted, WrittenIsAccepted};
 ghost use Rattle.pc_top.specs.One.{VerdictIsOne};
 ghost use Rattle.pc_top.specs.Commands.Sends.{TablesTell};
 
@@ -80,9 +80,21 @@ pub fn statuses_are_exact()
     nothing_is_derivable_with_a_declaration_that_fails();
 }
 
+/// `judge` and `upgrade` answer 0 exactly when the derivation is the text of a valid annotation of the source's core.
+pub fn judged_statuses_are_exact()
+    ensures { JudgedAreExact }
+{
+    verdict_is_one();
+}
+
 /// What `check` writes for a source, `judge` accepts for the same source.
 pub fn written_derivations_are_accepted()
     ensures { WrittenIsAccepted }
+{}
+
+/// What `upgrade` writes for a source, `judge` accepts for the same source, and `upgrade` writes it again.
+pub fn upgraded_derivations_are_accepted()
+    ensures { UpgradedIsAccepted }
 {}
 
 /// A source that is refused with status 1 has a core, and the core has no derivation.

@@ -29,7 +29,7 @@ use Rattle.pc_top.proofs.Room.{Room}
 pub judge_room : (files : Files) (source derivation : Text) → Room files (judge source derivation)
 judge_room files source derivation =
     derivation_room (λ ann. accepted_text) files (judge source derivation) source (named files source) (in_parts (named files derivation)) refl refl refl (λ v is. is)
-    (λ unfailed told. (told.0, unfailed source, told.1.0, unfailed derivation))
+    (λ unfailed told. (told.0, unfailed.0, told.1.0, unfailed.1.0))
     (λ v out e o d. subst (λ (w : Verdict). Appends out.before out.now w.out) d.done_with o)
 
 -- ---- what the referee was asked of

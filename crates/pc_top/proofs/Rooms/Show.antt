@@ -49,7 +49,7 @@ pub show_room : (files : Files) (source : Text) → Room files (show source)
 show_room files source =
     let file = named files source in
     record {
-      one = λ laws unfailed told v w. one_from file source_limit (FileStage source) Shown told.0 (unfailed source) (one_file laws.source source) (λ r x h v w l m. l ∙ sym m) v w;
+      one = λ laws unfailed told v w. one_from file source_limit (FileStage source) Shown told.0 unfailed.0 (one_file laws.source source) (λ r x h v w l m. l ∙ sym m) v w;
       own = λ v is. statuses IsOwn other_own zero_own file v is;
       accepts = λ v is e. (tt, λ seed size same. absurd (no_make source seed size same));
       refuses = λ laws v is e. absurd (statuses NotOne other_not_one zero_not_one file v is e);

@@ -121,5 +121,5 @@ swap_done file schedule place v out (no_number none is) e o = absurd (two_refuse
 pub swap_room : (files : Files) (source schedule place : Text) → Room files (swap source schedule place)
 swap_room files source schedule place =
     inferring files (swap source schedule place) source refl refl (goes files source schedule place)
-    (λ laws unfailed told. one_swap laws (named files source) (named files schedule) told.0 (unfailed source) told.1.0 (unfailed schedule) place)
+    (λ laws unfailed told. one_swap laws (named files source) (named files schedule) told.0 unfailed.0 told.1.0 unfailed.1.0 place)
     (λ tells v out is e o. swap_on_out (named files source) (named files schedule) place v out is e o)

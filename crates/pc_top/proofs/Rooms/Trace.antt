@@ -97,6 +97,6 @@ trace_room files source schedule =
     let turns = named files schedule in
     inferring files (trace source schedule) source refl refl
     (λ v is. inl (begins (OfTurns Last turns) file (turns_late Last file turns traced_late) v is))
-    (λ laws unfailed told. scheduled_one Last file turns laws told.0 (unfailed source) told.1.0 (unfailed schedule)
+    (λ laws unfailed told. scheduled_one Last file turns laws told.0 unfailed.0 told.1.0 unfailed.1.0
     (λ name core list. ends_one (λ text. text) (Tracing name core list) (one_tracing core list name)))
     (λ tells v out is e o. both_by (Wrote out v.status) (Grew out) file.told turns.told (λ x y. grew_by out v.status x y) (wrote_on_out file turns v out is e o))

@@ -28,5 +28,5 @@ upgrade_on_out file derivation v out o d =
 pub upgrade_room : (files : Files) (source derivation : Text) → Room files (upgrade source derivation)
 upgrade_room files source derivation =
     derivation_room (deriv_text version.Two) files (upgrade source derivation) source (named files source) (named files derivation) refl refl refl (λ v is. is)
-    (λ unfailed told. (told.0, unfailed source, told.1.0, unfailed derivation))
+    (λ unfailed told. (told.0, unfailed.0, told.1.0, unfailed.1.0))
     (λ v out e o d. upgrade_on_out (named files source) (named files derivation) v out o d)

@@ -1,0 +1,82 @@
+-- When `judge` and `upgrade` answer 0.
+use Rattle.std.proofs.Common.{◌≡◌, List, [], ◌∷◌, Option, Some, Ok, inl, refl, sym, ap, subst}
+use Rattle.std.specs.Prelude.{◌↔◌, IfSome, IsSome}
+use Rattle.pc_ann.specs.declared.annotation.Ann.{Ann}
+use Rattle.pc_deriv.specs.Text.{deriv_text}
+use Rattle.pc_deriv.specs.declared.version.Version.TheVariants as version
+use Rattle.pc_lists.specs.Texts.{Text}
+use Rattle.pc_args.specs.Asked.{Asked, judge, upgrade, command_of}
+use Rattle.pc_refusals.specs.After.After.{goes}
+use Rattle.pc_refusals.specs.Derivation.{derivation_limit, in_parts}
+use Rattle.pc_refusals.specs.Derivation.Deriving.{reads}
+use Rattle.pc_refusals.specs.Derivation.Judging.{holds}
+use Rattle.pc_refusals.specs.FromFile.FromFile.{goes_on}
+use Rattle.pc_refusals.specs.Named.{AllTold, Files, Named, IsReadingOf, NoneFailed, named, whole}
+use Rattle.pc_refusals.specs.Source.{source_limit}
+use Rattle.pc_refusals.specs.Source.Length.{fits}
+use Rattle.pc_refusals.specs.Verdict.{Verdict, done}
+use Rattle.pc_refusals.proofs.Lengths.{text_within}
+use Rattle.pc_top.specs.Commands.{IsVerdictOf, files_of}
+use Rattle.pc_top.specs.Commands.Judge.{accepted_text}
+use Rattle.pc_top.specs.Exact.{IsDerivationOf, JudgedAreExact, ReadsBoth}
+use Rattle.pc_top.specs.One.{TellsOf, UnfailedOf, VerdictIsOne}
+use Rattle.pc_top.specs.Shapes.{OfDerivation}
+use Rattle.pc_top.proofs.Accepted.{of_source, of_told}
+use Rattle.pc_top.proofs.Deriving.{core_passes, source_says}
+use Rattle.pc_top.proofs.Shapes.{derivation_derives}
+
+-- Of two files that tell these bytes.
+module _ (shown : Ann → Text) (file derivation : Named) (bytes text : Text) (tells : file.told ≡ Some bytes) (tells_text : derivation.told ≡ Some text) where
+  -- done, so the text is that of a valid annotation
+  pub done_says : (v : Verdict) → v.status ≡ 0 → OfDerivation shown file derivation v → IsDerivationOf bytes text
+  done_says v e is =
+      let d = derivation_derives shown file derivation v (inl e) is in
+      let both : IfSome file.told (λ b. IfSome derivation.told (IsDerivationOf b)) =
+          of_source (λ b. IfSome derivation.told (IsDerivationOf b)) file d.reading d.source d.is_reading d.passes
+          (of_told (IsDerivationOf d.source.bytes) derivation.told d.bytes (d.source.core, (source_says d.passes).1, d.ann, d.is_text, d.valid) d.of_file) in
+      let one : IfSome derivation.told (IsDerivationOf bytes) = subst (λ (o : Option Text). IfSome o (λ b. IfSome derivation.told (IsDerivationOf b))) tells both in
+      subst (λ (o : Option Text). IfSome o (IsDerivationOf bytes)) tells_text one
+
+  -- a valid annotation's text, so done is a verdict
+  pub says_done : (d : IsDerivationOf bytes text) → OfDerivation shown file derivation (done (shown d.2.0))
+  says_done d =
+      let core = d.0 in
+      let of_bytes = d.1 in
+      let ann = d.2.0 in
+      let first : IsReadingOf file source_limit (whole bytes) = (of_bytes.short, subst (λ (o : Option Text). IfSome o (λ b. bytes ≡ b)) (sym tells) refl) in
+      let short = text_within text ann d.2.1 in
+      let second : IsReadingOf derivation derivation_limit (whole text) = (short, subst (λ (o : Option Text). IfSome o (λ b. text ≡ b)) (sym tells_text) refl) in
+      goes_on (whole bytes) (record { bytes = bytes; core = core }) first (core_passes file.name bytes core of_bytes)
+      (goes_on (whole text) ann second (goes (fits short) (reads d.2.1)) (Ok tt, holds d.2.2, refl))
+
+some_told : (o : Option Text) (x : Text) → o ≡ Some x → IsSome o
+some_told (Some y) x e = tt
+
+module _ (one : VerdictIsOne) (files : Files) (words : List Text) (asked : Asked) (source derivation bytes text : Text) (v : Verdict) (reads_both : ReadsBoth files words asked source derivation bytes text v)
+    (is_files : files_of asked ≡ source ∷ derivation ∷ []) where
+  -- the one verdict is this, if this is one
+  the_one : (w : Verdict) → IsVerdictOf files (Some asked) w → v ≡ w
+  the_one w is =
+      let unfailed : UnfailedOf files (command_of words) = subst (λ (o : Option Asked). UnfailedOf files o) (sym reads_both.asks) (subst (λ (l : List Text). NoneFailed files l) (sym is_files) reads_both.unfailed) in
+      let some = some_told (files.told source) bytes reads_both.tells in
+      let some_text = some_told (files.told derivation) text reads_both.tells_text in
+      let told : TellsOf files.told (command_of words) = subst (λ (o : Option Asked). TellsOf files.told o) (sym reads_both.asks) (subst (λ (l : List Text). AllTold files.told l) (sym is_files) (some, some_text, tt)) in
+      one files words v w unfailed told reads_both.verdict (subst (λ (o : Option Asked). IsVerdictOf files o w) (sym reads_both.asks) is)
+
+  own : IsVerdictOf files (Some asked) v
+  own = subst (λ (o : Option Asked). IsVerdictOf files o v) reads_both.asks reads_both.verdict
+
+pub judged_exact : VerdictIsOne → JudgedAreExact
+judged_exact one = record {
+  judged = λ files words source derivation bytes text v r.
+      let file = named files source in
+      let parts = in_parts (named files derivation) in
+      (λ e. done_says (λ ann. accepted_text) file parts bytes text r.tells r.tells_text v e (own one files words (judge source derivation) source derivation bytes text v r refl),
+      λ d. ap (λ (x : Verdict). x.status) (the_one one files words (judge source derivation) source derivation bytes text v r refl (done accepted_text) (says_done (λ ann. accepted_text) file parts bytes text r.tells r.tells_text d)));
+  upgraded = λ files words source derivation bytes text v r.
+      let file = named files source in
+      let other = named files derivation in
+      let shown = deriv_text version.Two in
+      (λ e. done_says shown file other bytes text r.tells r.tells_text v e (own one files words (upgrade source derivation) source derivation bytes text v r refl),
+      λ d. ap (λ (x : Verdict). x.status) (the_one one files words (upgrade source derivation) source derivation bytes text v r refl (done (shown d.2.0)) (says_done shown file other bytes text r.tells r.tells_text d)));
+}
