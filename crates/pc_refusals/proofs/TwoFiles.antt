@@ -1,5 +1,5 @@
 -- Two files that are read one after the other.
-use Rattle.std.proofs.Common.{◌≡◌, ◌≤◌, ℕ, Option, Ok, inr}
+use Rattle.std.proofs.Common.{◌≡◌, ◌∙◌, ◌≤◌, ℕ, Option, Ok, inr, arith}
 use Rattle.std.specs.Prelude.{Result}
 use Rattle.pc_lists.specs.Texts.{Text}
 use Rattle.pc_refusals.specs.Inner.Stages.{PartGives, PartStops}
@@ -30,3 +30,14 @@ module _ {T U : Type 0} (first second : ℕ) (One : Reading → Result T Verdict
   -- b gave y
   pub second_gives : (y : U) → PartGives second Two (file_at later mid now second_taken b) y → BothGive first second One Two (named files a) behind x y
   second_gives y h = (still, gives_from_start second Two behind (later b) (mid b) y same risen rises h)
+
+-- ---- what two readings leave of all files
+
+pub both_later : (first middle last : Text → ℕ) → ((n : Text) → first n ≤ middle n) → ((n : Text) → middle n ≤ last n) → (n : Text) → first n ≤ last n
+both_later first middle last one two n =
+    let rises = one n in
+    let again = two n in
+    omega (arith, rises, again)
+
+pub both_same : (first middle last : Text → Option Text) → ((n : Text) → middle n ≡ first n) → ((n : Text) → last n ≡ middle n) → (n : Text) → last n ≡ first n
+both_same first middle last one two n = two n ∙ one n

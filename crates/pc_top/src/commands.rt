@@ -1,5 +1,6 @@
 //! The commands, each in a file of its own, and which of them the words ask for.
-ghost use Rattle.std.specs.Prelude.{◌≤◌, Some};
+ghost use Rattle.std.specs.Prelude.{◌≡◌, ◌≤◌, Some};
+ghost use Rattle.pc_lists.specs.Texts.{Text};
 ghost use Rattle.pc_args.specs.Asked.{asked_by};
 ghost use Rattle.pc_io.specs.Change.{change};
 ghost use Rattle.pc_refusals.specs.Inner.Answering.{Ends};
@@ -43,6 +44,8 @@ pub fn run_command<F: Files, O: Sink, R: Referee>(
     out: &mut O,
     referee: &mut R,
 ) -> Result<(), Stop>
+    ensures later { (n : Text) → F.faults files.old n ≤ F.faults files.new n }
+    ensures same { (n : Text) → F.bytes files.new n ≡ F.bytes files.old n }
     ensures out_later { O.faults out.old ≤ O.faults out.new }
     ensures ends { let files = files_change (F.bytes files.old) (F.faults files.old) (F.faults files.new) (F.taken files.new) in
         Ends (IsVerdictOf files (Some (asked_by command.entry))) (FailedOf files (Some (asked_by command.entry)))

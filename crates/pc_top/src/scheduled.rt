@@ -1,4 +1,6 @@
 //! A source that has to be accepted, and then a schedule.
+ghost use Rattle.std.specs.Prelude.{◌≡◌, ◌≤◌};
+ghost use Rattle.pc_lists.specs.Texts.{Text};
 ghost use Rattle.pc_refusals.specs.Named.{files_change};
 ghost use Rattle.pc_top.specs.Inner.Scheduling.{ScheduledEnds};
 
@@ -25,7 +27,9 @@ pub fn read_scheduled<F: Files>(
     source: &str,
     schedule: &str,
 ) -> Result<Scheduled, Stop>
-    ensures { ScheduledEnds (files_change (F.bytes files.old) (F.faults files.old) (F.faults files.new) (F.taken files.new)) source.now schedule.now result }
+    ensures later { (n : Text) → F.faults files.old n ≤ F.faults files.new n }
+    ensures same { (n : Text) → F.bytes files.new n ≡ F.bytes files.old n }
+    ensures reads { ScheduledEnds (files_change (F.bytes files.old) (F.faults files.old) (F.faults files.new) (F.taken files.new)) source.now schedule.now result }
 {
     let accepted = accept_source(alloc, files, source)?;
     let turns = read_schedule(alloc, files, schedule)?;

@@ -1,5 +1,6 @@
 //! The top call.
 ghost use Rattle.std.specs.Prelude.{◌≡◌, ◌≤◌};
+ghost use Rattle.pc_lists.specs.Texts.{Text};
 ghost use Rattle.pc_refusals.specs.Answer.{Answer};
 ghost use Rattle.pc_refusals.specs.Complete.{Completes};
 ghost use Rattle.pc_refusals.specs.Inner.Answering.{Ends};
@@ -43,6 +44,12 @@ pub fn rcap<F: Files, O: Sink, E: Sink, R: Referee>(
     err: &mut E,
     referee: &mut R,
 ) -> u8
+    // The files tell what they told, and of no name, nor of out or err, failures were taken back.
+    ensures same { (n : Text) → F.bytes files.new n ≡ F.bytes files.old n }
+    ensures later { (n : Text) → F.faults files.old n ≤ F.faults files.new n }
+    ensures out_later { O.faults out.old ≤ O.faults out.new }
+    ensures err_later { E.faults err.old ≤ E.faults err.new }
+
     // The status, the text on out and the line on err are the verdict's, or the answer is a fault with its cause, or memory
     // ran out.
     ensures answers { let files = files_change (F.bytes files.old) (F.faults files.old) (F.faults files.new) (F.taken files.new) in
@@ -92,8 +99,8 @@ pub fn rcap<F: Files, O: Sink, E: Sink, R: Referee>(
         (change (O.written out.old) (O.written out.new) (O.faults out.old) (O.faults out.new))
         (change (E.written err.old) (E.written err.new) (E.faults err.old) (E.faults err.new)) result }
 
-    // Where `judge` answers 0, the referee was asked of each node of the source's core, in order, with its note in the
-    // derivation. No other command asks it.
+    // If `judge` answers 0, what the referee was asked of grew by each node of the source's core, in order, with its note in the
+    // derivation. At any other command what it was asked of is as before.
     ensures asks { Asks (F.bytes files.old) (command_of (texts words.now)) result (R.asked referee.old) (R.asked referee.new) }
 {
     refused_sources_have_no_derivation();
@@ -112,6 +119,8 @@ fn run_words<F: Files, O: Sink, R: Referee>(
     out: &mut O,
     referee: &mut R,
 ) -> Result<(), Stop>
+    ensures later { (n : Text) → F.faults files.old n ≤ F.faults files.new n }
+    ensures same { (n : Text) → F.bytes files.new n ≡ F.bytes files.old n }
     ensures out_later { O.faults out.old ≤ O.faults out.new }
     ensures ends { let files = files_change (F.bytes files.old) (F.faults files.old) (F.faults files.new) (F.taken files.new) in
         Ends (IsVerdict files (texts words.now)) (FailedIn files (texts words.now))

@@ -1,4 +1,6 @@
 //! `judge SRC DERIV`.
+ghost use Rattle.std.specs.Prelude.{◌≡◌, ◌≤◌};
+ghost use Rattle.pc_lists.specs.Texts.{Text};
 ghost use Rattle.pc_refusals.specs.Inner.Answering.{AnswersText};
 ghost use Rattle.pc_refusals.specs.Named.{files_change, named};
 ghost use Rattle.pc_top.specs.Commands.Judge.{IsJudge};
@@ -20,6 +22,8 @@ pub fn judge_source<F: Files, R: Referee>(
     derivation: &str,
     referee: &mut R,
 ) -> Result<List<u8>, Stop>
+    ensures later { (n : Text) → F.faults files.old n ≤ F.faults files.new n }
+    ensures same { (n : Text) → F.bytes files.new n ≡ F.bytes files.old n }
     ensures answers { let files = files_change (F.bytes files.old) (F.faults files.old) (F.faults files.new) (F.taken files.new) in
         AnswersText (IsJudge (named files source.now) (named files derivation.now)) (UnreadDerivation (named files source.now) (named files derivation.now)) result }
     ensures asks { JudgeAsks (F.bytes files.old source.now) (F.bytes files.old derivation.now) (R.asked referee.old) (R.asked referee.new) result }

@@ -1,5 +1,6 @@
 //! `run SRC SCHED`.
-ghost use Rattle.std.specs.Prelude.{◌≤◌};
+ghost use Rattle.std.specs.Prelude.{◌≡◌, ◌≤◌};
+ghost use Rattle.pc_lists.specs.Texts.{Text};
 ghost use Rattle.pc_io.specs.Change.{change};
 ghost use Rattle.pc_run.specs.Ends.{NeverLacks};
 ghost use Rattle.pc_run.specs.Spreading.{spread};
@@ -29,6 +30,8 @@ pub fn run_source<F: Files, O: Sink>(
     source: &str,
     schedule: &str,
 ) -> Result<(), Stop>
+    ensures later { (n : Text) → F.faults files.old n ≤ F.faults files.new n }
+    ensures same { (n : Text) → F.bytes files.new n ≡ F.bytes files.old n }
     ensures out_later { O.faults out.old ≤ O.faults out.new }
     ensures ends { let files = files_change (F.bytes files.old) (F.faults files.old) (F.faults files.new) (F.taken files.new) in
         Ends (IsRun (named files source.now) (named files schedule.now)) (UnreadScheduled (named files source.now) (named files schedule.now))

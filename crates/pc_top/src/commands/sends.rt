@@ -1,5 +1,6 @@
 //! `sends SRC`.
-ghost use Rattle.std.specs.Prelude.{IfOk};
+ghost use Rattle.std.specs.Prelude.{◌≡◌, ◌≤◌, IfOk};
+ghost use Rattle.pc_lists.specs.Texts.{Text};
 ghost use Rattle.pc_rules.specs.Valid.{Valid};
 ghost use Rattle.pc_refusals.specs.Inner.Answering.{AnswersText};
 ghost use Rattle.pc_refusals.specs.Named.{FailedAt, files_change, named};
@@ -29,7 +30,9 @@ fn write_sends(alloc: Global, core: &Core, ann: &Ann) -> Result<List<u8>, AllocE
 /// Tells who sends what in the source of this name, over every run at once: answers a line for each entity and each method that its
 /// methods may send, and then a line for each behaviour and constructor of an actor that nothing ever sends.
 pub fn tell_sends<F: Files>(alloc: Global, files: &mut F, source: &str) -> Result<List<u8>, Stop>
-    ensures { let files = files_change (F.bytes files.old) (F.faults files.old) (F.faults files.new) (F.taken files.new) in
+    ensures later { (n : Text) → F.faults files.old n ≤ F.faults files.new n }
+    ensures same { (n : Text) → F.bytes files.new n ≡ F.bytes files.old n }
+    ensures answers { let files = files_change (F.bytes files.old) (F.faults files.old) (F.faults files.new) (F.taken files.new) in
         AnswersText (IsSends (named files source.now)) (FailedAt (named files source.now)) result }
 {
     let accepted = accept_source(alloc, files, source)?;

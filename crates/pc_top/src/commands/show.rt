@@ -1,4 +1,6 @@
 //! `show SRC`.
+ghost use Rattle.std.specs.Prelude.{◌≡◌, ◌≤◌};
+ghost use Rattle.pc_lists.specs.Texts.{Text};
 ghost use Rattle.pc_refusals.specs.Inner.Answering.{AnswersText};
 ghost use Rattle.pc_refusals.specs.Named.{FailedAt, files_change, named};
 ghost use Rattle.pc_top.specs.Commands.Show.{IsShow};
@@ -11,7 +13,9 @@ use std::alloc::Global;
 
 /// Shows the source of this name: answers the printed text of its tree.
 pub fn show_source<F: Files>(alloc: Global, files: &mut F, source: &str) -> Result<List<u8>, Stop>
-    ensures { let files = files_change (F.bytes files.old) (F.faults files.old) (F.faults files.new) (F.taken files.new) in
+    ensures later { (n : Text) → F.faults files.old n ≤ F.faults files.new n }
+    ensures same { (n : Text) → F.bytes files.new n ≡ F.bytes files.old n }
+    ensures answers { let files = files_change (F.bytes files.old) (F.faults files.old) (F.faults files.new) (F.taken files.new) in
         AnswersText (IsShow (named files source.now)) (FailedAt (named files source.now)) result }
 {
     let bytes = read_file(alloc, files, source, SOURCE_LIMIT)?;

@@ -1,5 +1,6 @@
 //! `swap SRC SCHED PLACE`.
 ghost use Rattle.std.specs.Prelude.{◌≡◌, ◌<◌, ◌≤◌, ◌^◌, IfOk, length};
+ghost use Rattle.pc_lists.specs.Texts.{Text};
 ghost use Rattle.pc_args.specs.Numbers.{IsNumber, Reads};
 ghost use Rattle.pc_run.specs.Spreading.{spread};
 ghost use Rattle.pc_sched.specs.Limits.{turn_limit};
@@ -121,7 +122,9 @@ fn swap_at<F: Files>(
     place: u32,
 ) -> Result<List<u8>, Stop>
     requires first { 1 ≤ place }
-    ensures { let files = files_change (F.bytes files.old) (F.faults files.old) (F.faults files.new) (F.taken files.new) in
+    ensures later { (n : Text) → F.faults files.old n ≤ F.faults files.new n }
+    ensures same { (n : Text) → F.bytes files.new n ≡ F.bytes files.old n }
+    ensures answers { let files = files_change (F.bytes files.old) (F.faults files.old) (F.faults files.new) (F.taken files.new) in
         AnswersText (IsSwapAt (named files source.now) (named files schedule.now) place) (UnreadScheduled (named files source.now) (named files schedule.now)) result }
 {
     cores_of_sources_are_formed();
@@ -145,7 +148,9 @@ pub fn swap_turns<F: Files>(
     schedule: &str,
     place: &str,
 ) -> Result<List<u8>, Stop>
-    ensures { let files = files_change (F.bytes files.old) (F.faults files.old) (F.faults files.new) (F.taken files.new) in
+    ensures later { (n : Text) → F.faults files.old n ≤ F.faults files.new n }
+    ensures same { (n : Text) → F.bytes files.new n ≡ F.bytes files.old n }
+    ensures answers { let files = files_change (F.bytes files.old) (F.faults files.old) (F.faults files.new) (F.taken files.new) in
         AnswersText (IsSwap (named files source.now) (named files schedule.now) place.now) (UnreadSwap (named files source.now) (named files schedule.now) place.now) result }
 {
     match place_of(place) {

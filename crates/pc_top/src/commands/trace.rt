@@ -1,5 +1,6 @@
 //! `trace SRC SCHED`.
-ghost use Rattle.std.specs.Prelude.{◌≤◌, length};
+ghost use Rattle.std.specs.Prelude.{◌≡◌, ◌≤◌, length};
+ghost use Rattle.pc_lists.specs.Texts.{Text};
 ghost use Rattle.pc_run.specs.Spreading.{spread};
 ghost use Rattle.pc_sched.specs.Limits.{turn_limit};
 ghost use Rattle.pc_sched.specs.Schedules.{total};
@@ -61,7 +62,9 @@ pub fn trace_run<F: Files>(
     source: &str,
     schedule: &str,
 ) -> Result<List<u8>, Stop>
-    ensures { let files = files_change (F.bytes files.old) (F.faults files.old) (F.faults files.new) (F.taken files.new) in
+    ensures later { (n : Text) → F.faults files.old n ≤ F.faults files.new n }
+    ensures same { (n : Text) → F.bytes files.new n ≡ F.bytes files.old n }
+    ensures answers { let files = files_change (F.bytes files.old) (F.faults files.old) (F.faults files.new) (F.taken files.new) in
         AnswersText (IsTrace (named files source.now) (named files schedule.now)) (UnreadScheduled (named files source.now) (named files schedule.now)) result }
 {
     cores_of_sources_are_formed();

@@ -1,4 +1,6 @@
 //! `upgrade SRC DERIV`.
+ghost use Rattle.std.specs.Prelude.{◌≡◌, ◌≤◌};
+ghost use Rattle.pc_lists.specs.Texts.{Text};
 ghost use Rattle.pc_refusals.specs.Inner.Answering.{AnswersText};
 ghost use Rattle.pc_refusals.specs.Named.{files_change, named};
 ghost use Rattle.pc_top.specs.Commands.Upgrade.{IsUpgrade};
@@ -19,7 +21,9 @@ pub fn upgrade_derivation<F: Files>(
     source: &str,
     derivation: &str,
 ) -> Result<List<u8>, Stop>
-    ensures { let files = files_change (F.bytes files.old) (F.faults files.old) (F.faults files.new) (F.taken files.new) in
+    ensures later { (n : Text) → F.faults files.old n ≤ F.faults files.new n }
+    ensures same { (n : Text) → F.bytes files.new n ≡ F.bytes files.old n }
+    ensures answers { let files = files_change (F.bytes files.old) (F.faults files.old) (F.faults files.new) (F.taken files.new) in
         AnswersText (IsUpgrade (named files source.now) (named files derivation.now)) (UnreadDerivation (named files source.now) (named files derivation.now)) result }
 {
     let read = read_source(alloc, files, source)?;

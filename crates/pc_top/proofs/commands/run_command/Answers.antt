@@ -11,7 +11,7 @@ pub returns-in-Check-clause-ends : goal.returns-in-Check-clause-ends
 returns-in-Check-clause-ends g c =
     let files = files_change (g.F.Files.bytes c.args.files.now) (g.F.Files.faults c.args.files.now) (g.F.Files.faults c.check_source.new.files) (g.F.Files.taken c.check_source.new.files) in
     let out = change (g.O.Sink.written c.args.out.now) (g.O.Sink.written c.put_answer.new.out) (g.O.Sink.faults c.args.out.now) (g.O.Sink.faults c.put_answer.new.out) in
-    command_puts files out (asked_by c.args.command) (check c.in-Check.source.now) c.check_source.result c.put_answer.result (ap asked_by c.in-Check.is) c.check_source.ensures c.put_answer.ensures.puts
+    command_puts files out (asked_by c.args.command) (check c.in-Check.source.now) c.check_source.result c.put_answer.result (ap asked_by c.in-Check.is) c.check_source.ensures.answers c.put_answer.ensures.puts
 
 pub returns-in-Check-clause-asks : goal.returns-in-Check-clause-asks
 returns-in-Check-clause-asks g c = asks_other (g.F.Files.bytes c.args.files.now) (asked_by c.args.command) (check c.in-Check.source.now) (g.R.Referee.asked c.args.referee.now) c.put_answer.result (ap asked_by c.in-Check.is) (λ s d e. cc)
@@ -35,7 +35,7 @@ pub returns-in-Show-clause-ends : goal.returns-in-Show-clause-ends
 returns-in-Show-clause-ends g c =
     let files = files_change (g.F.Files.bytes c.args.files.now) (g.F.Files.faults c.args.files.now) (g.F.Files.faults c.show_source.new.files) (g.F.Files.taken c.show_source.new.files) in
     let out = change (g.O.Sink.written c.args.out.now) (g.O.Sink.written c.put_answer-in-Show.new.out) (g.O.Sink.faults c.args.out.now) (g.O.Sink.faults c.put_answer-in-Show.new.out) in
-    command_puts files out (asked_by c.args.command) (show c.in-Show.source.now) c.show_source.result c.put_answer-in-Show.result (ap asked_by c.in-Show.is) c.show_source.ensures c.put_answer-in-Show.ensures.puts
+    command_puts files out (asked_by c.args.command) (show c.in-Show.source.now) c.show_source.result c.put_answer-in-Show.result (ap asked_by c.in-Show.is) c.show_source.ensures.answers c.put_answer-in-Show.ensures.puts
 
 pub returns-in-Show-clause-asks : goal.returns-in-Show-clause-asks
 returns-in-Show-clause-asks g c = asks_other (g.F.Files.bytes c.args.files.now) (asked_by c.args.command) (show c.in-Show.source.now) (g.R.Referee.asked c.args.referee.now) c.put_answer-in-Show.result (ap asked_by c.in-Show.is) (λ s d e. cc)
@@ -44,7 +44,7 @@ pub returns-in-Swap-clause-ends : goal.returns-in-Swap-clause-ends
 returns-in-Swap-clause-ends g c =
     let files = files_change (g.F.Files.bytes c.args.files.now) (g.F.Files.faults c.args.files.now) (g.F.Files.faults c.swap_turns.new.files) (g.F.Files.taken c.swap_turns.new.files) in
     let out = change (g.O.Sink.written c.args.out.now) (g.O.Sink.written c.put_answer-in-Swap.new.out) (g.O.Sink.faults c.args.out.now) (g.O.Sink.faults c.put_answer-in-Swap.new.out) in
-    command_puts files out (asked_by c.args.command) (swap c.in-Swap.source.now c.in-Swap.schedule.now c.in-Swap.place.now) c.swap_turns.result c.put_answer-in-Swap.result (ap asked_by c.in-Swap.is) c.swap_turns.ensures c.put_answer-in-Swap.ensures.puts
+    command_puts files out (asked_by c.args.command) (swap c.in-Swap.source.now c.in-Swap.schedule.now c.in-Swap.place.now) c.swap_turns.result c.put_answer-in-Swap.result (ap asked_by c.in-Swap.is) c.swap_turns.ensures.answers c.put_answer-in-Swap.ensures.puts
 
 pub returns-in-Swap-clause-asks : goal.returns-in-Swap-clause-asks
 returns-in-Swap-clause-asks g c = asks_other (g.F.Files.bytes c.args.files.now) (asked_by c.args.command) (swap c.in-Swap.source.now c.in-Swap.schedule.now c.in-Swap.place.now) (g.R.Referee.asked c.args.referee.now) c.put_answer-in-Swap.result (ap asked_by c.in-Swap.is) (λ s d e. cc)
@@ -53,7 +53,7 @@ pub returns-in-Trace-clause-ends : goal.returns-in-Trace-clause-ends
 returns-in-Trace-clause-ends g c =
     let files = files_change (g.F.Files.bytes c.args.files.now) (g.F.Files.faults c.args.files.now) (g.F.Files.faults c.trace_run.new.files) (g.F.Files.taken c.trace_run.new.files) in
     let out = change (g.O.Sink.written c.args.out.now) (g.O.Sink.written c.put_answer-in-Trace.new.out) (g.O.Sink.faults c.args.out.now) (g.O.Sink.faults c.put_answer-in-Trace.new.out) in
-    command_puts files out (asked_by c.args.command) (trace c.in-Trace.source.now c.in-Trace.schedule.now) c.trace_run.result c.put_answer-in-Trace.result (ap asked_by c.in-Trace.is) c.trace_run.ensures c.put_answer-in-Trace.ensures.puts
+    command_puts files out (asked_by c.args.command) (trace c.in-Trace.source.now c.in-Trace.schedule.now) c.trace_run.result c.put_answer-in-Trace.result (ap asked_by c.in-Trace.is) c.trace_run.ensures.answers c.put_answer-in-Trace.ensures.puts
 
 pub returns-in-Trace-clause-asks : goal.returns-in-Trace-clause-asks
 returns-in-Trace-clause-asks g c = asks_other (g.F.Files.bytes c.args.files.now) (asked_by c.args.command) (trace c.in-Trace.source.now c.in-Trace.schedule.now) (g.R.Referee.asked c.args.referee.now) c.put_answer-in-Trace.result (ap asked_by c.in-Trace.is) (λ s d e. cc)
@@ -62,7 +62,7 @@ pub returns-in-Sends-clause-ends : goal.returns-in-Sends-clause-ends
 returns-in-Sends-clause-ends g c =
     let files = files_change (g.F.Files.bytes c.args.files.now) (g.F.Files.faults c.args.files.now) (g.F.Files.faults c.tell_sends.new.files) (g.F.Files.taken c.tell_sends.new.files) in
     let out = change (g.O.Sink.written c.args.out.now) (g.O.Sink.written c.put_answer-in-Sends.new.out) (g.O.Sink.faults c.args.out.now) (g.O.Sink.faults c.put_answer-in-Sends.new.out) in
-    command_puts files out (asked_by c.args.command) (sends c.in-Sends.source.now) c.tell_sends.result c.put_answer-in-Sends.result (ap asked_by c.in-Sends.is) c.tell_sends.ensures c.put_answer-in-Sends.ensures.puts
+    command_puts files out (asked_by c.args.command) (sends c.in-Sends.source.now) c.tell_sends.result c.put_answer-in-Sends.result (ap asked_by c.in-Sends.is) c.tell_sends.ensures.answers c.put_answer-in-Sends.ensures.puts
 
 pub returns-in-Sends-clause-asks : goal.returns-in-Sends-clause-asks
 returns-in-Sends-clause-asks g c = asks_other (g.F.Files.bytes c.args.files.now) (asked_by c.args.command) (sends c.in-Sends.source.now) (g.R.Referee.asked c.args.referee.now) c.put_answer-in-Sends.result (ap asked_by c.in-Sends.is) (λ s d e. cc)
@@ -71,7 +71,7 @@ pub returns-in-Upgrade-clause-ends : goal.returns-in-Upgrade-clause-ends
 returns-in-Upgrade-clause-ends g c =
     let files = files_change (g.F.Files.bytes c.args.files.now) (g.F.Files.faults c.args.files.now) (g.F.Files.faults c.upgrade_derivation.new.files) (g.F.Files.taken c.upgrade_derivation.new.files) in
     let out = change (g.O.Sink.written c.args.out.now) (g.O.Sink.written c.put_answer-in-Upgrade.new.out) (g.O.Sink.faults c.args.out.now) (g.O.Sink.faults c.put_answer-in-Upgrade.new.out) in
-    command_puts files out (asked_by c.args.command) (upgrade c.in-Upgrade.source.now c.in-Upgrade.derivation.now) c.upgrade_derivation.result c.put_answer-in-Upgrade.result (ap asked_by c.in-Upgrade.is) c.upgrade_derivation.ensures c.put_answer-in-Upgrade.ensures.puts
+    command_puts files out (asked_by c.args.command) (upgrade c.in-Upgrade.source.now c.in-Upgrade.derivation.now) c.upgrade_derivation.result c.put_answer-in-Upgrade.result (ap asked_by c.in-Upgrade.is) c.upgrade_derivation.ensures.answers c.put_answer-in-Upgrade.ensures.puts
 
 pub returns-in-Upgrade-clause-asks : goal.returns-in-Upgrade-clause-asks
 returns-in-Upgrade-clause-asks g c = asks_other (g.F.Files.bytes c.args.files.now) (asked_by c.args.command) (upgrade c.in-Upgrade.source.now c.in-Upgrade.derivation.now) (g.R.Referee.asked c.args.referee.now) c.put_answer-in-Upgrade.result (ap asked_by c.in-Upgrade.is) (λ s d e. cc)

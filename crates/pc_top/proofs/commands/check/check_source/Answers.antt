@@ -9,8 +9,8 @@ use Rattle.pc_top.specs.Commands.Check.{Derived}
 use Rattle.pc_top.proofs.Deriving.{accepted_source, first, small_notes, source_formed}
 use Rattle.pc_top.proofs.commands.check.check_source.Goals as goal
 
-pub returns-in_err-accepted : goal.returns-in_err-accepted
-returns-in_err-accepted g c =
+pub returns-in_err-accepted-clause-answers : goal.returns-in_err-accepted-clause-answers
+returns-in_err-accepted-clause-answers g c =
     let p = err_from_is_err_and c.from_residual.result c.from_residual.ensures.1 in
     let s = c.args.source.now in
     let files = files_change (g.F.Files.bytes c.args.files.now) (g.F.Files.faults c.args.files.now) (g.F.Files.faults c.accept_source.new.files) (g.F.Files.taken c.accept_source.new.files) in
@@ -22,8 +22,8 @@ write-requires g c =
     let small = (source_formed c.cores_of_sources_are_formed.ensures s.0).1 in
     small_notes c.in_ok-accepted.accepted.source.core c.in_ok-accepted.accepted.ann small s.1
 
-pub returns : goal.returns
-returns g c =
+pub returns-clause-answers : goal.returns-clause-answers
+returns-clause-answers g c =
     let one = first c.in_ok-accepted.accepted.ann c.in_ok-text.text c.in_ok-text.ensures.read_back c.in_ok-text.ensures.text in
     let derived : Derived c.in_ok-accepted.accepted (done c.in_ok-text.text) = (c.in_ok-text.text, one.0, one.1, refl) in
     let s = c.args.source.now in

@@ -8,6 +8,7 @@ use Rattle.pc_top.specs.Shapes.{OfJudged, UnreadDerivation}
 use Rattle.pc_top.proofs.Judging.{derivation_refused, derivation_told}
 use Rattle.pc_top.proofs.Rooms.Judge.{judged_all, source_not_done}
 use Rattle.pc_refusals.proofs.Ending.{part_stops}
+use Rattle.pc_refusals.proofs.TwoFiles.{both_later, both_same}
 use Rattle.pc_top.proofs.commands.judge.judge_source.Goals as goal
 
 pub returns-in_err-read-clause-answers : goal.returns-in_err-read-clause-answers
@@ -53,3 +54,21 @@ returns-clause-asks g c =
     let d = c.args.derivation.now in
     let source = file_at (g.F.Files.bytes c.args.files.now) (g.F.Files.faults c.args.files.now) (g.F.Files.faults c.read_source.new.files) (g.F.Files.taken c.read_source.new.files) c.args.source.now in
     judged_all source (g.F.Files.bytes c.args.files.now d) (g.F.Files.bytes c.read_source.new.files d) c.in_ok-read.read (g.R.Referee.asked c.args.referee.now) (g.R.Referee.asked c.judge_derivation.new.referee) (c.in_ok-read.ensures.same d) c.in_ok-read.ensures.stage c.in_ok-judge_derivation.ensures.asks
+
+pub returns-in_err-judge_derivation-clause-later : goal.returns-in_err-judge_derivation-clause-later
+returns-in_err-judge_derivation-clause-later g c = both_later _ _ _ c.in_ok-read.ensures.later c.in_err-judge_derivation.ensures.later
+
+pub returns-in_err-judge_derivation-clause-same : goal.returns-in_err-judge_derivation-clause-same
+returns-in_err-judge_derivation-clause-same g c = both_same _ _ _ c.in_ok-read.ensures.same c.in_err-judge_derivation.ensures.same
+
+pub returns-in_err-text-clause-later : goal.returns-in_err-text-clause-later
+returns-in_err-text-clause-later g c = both_later _ _ _ c.in_ok-read.ensures.later c.in_ok-judge_derivation.ensures.later
+
+pub returns-in_err-text-clause-same : goal.returns-in_err-text-clause-same
+returns-in_err-text-clause-same g c = both_same _ _ _ c.in_ok-read.ensures.same c.in_ok-judge_derivation.ensures.same
+
+pub returns-clause-later : goal.returns-clause-later
+returns-clause-later g c = both_later _ _ _ c.in_ok-read.ensures.later c.in_ok-judge_derivation.ensures.later
+
+pub returns-clause-same : goal.returns-clause-same
+returns-clause-same g c = both_same _ _ _ c.in_ok-read.ensures.same c.in_ok-judge_derivation.ensures.same

@@ -24,13 +24,13 @@ returns-in_err-read-clause-ends g c =
     let files = files_change (g.F.Files.bytes c.args.files.now) (g.F.Files.faults c.args.files.now) (g.F.Files.faults c.read_scheduled.new.files) (g.F.Files.taken c.read_scheduled.new.files) in
     let out = change (g.O.Sink.written c.args.out.now) (g.O.Sink.written c.args.out.now) (g.O.Sink.faults c.args.out.now) (g.O.Sink.faults c.args.out.now) in
     rw (p.1, p.2) (stop_ends (IsRun (named files s) (named files d)) (UnreadScheduled (named files s) (named files d)) out _
-    (both_stop source_limit schedule_limit (AcceptedStage s) (ScheduleStage d) (λ (a : Accepted) (turns : List Turn). Ran d a.source.core (spread turns)) (UnreadScheduled (named files s) (named files d)) (named files s) (named files d) _ (λ n f. inl f) (λ n p f. inr (p, f)) c.in_err-read.ensures) refl)
+    (both_stop source_limit schedule_limit (AcceptedStage s) (ScheduleStage d) (λ (a : Accepted) (turns : List Turn). Ran d a.source.core (spread turns)) (UnreadScheduled (named files s) (named files d)) (named files s) (named files d) _ (λ n f. inl f) (λ n p f. inr (p, f)) c.in_err-read.ensures.reads) refl)
 
 pub run_turns-requires-clause-few : goal.run_turns-requires-clause-few
-run_turns-requires-clause-few g c = rw c.as_slice.ensures (few_turns c.in_ok-read.ensures.1.2)
+run_turns-requires-clause-few g c = rw c.as_slice.ensures (few_turns c.in_ok-read.ensures.reads.1.2)
 
 pub run_turns-requires-clause-never_lacks : goal.run_turns-requires-clause-never_lacks
-run_turns-requires-clause-never_lacks g c = accepted_lacks_nothing c.cores_of_sources_are_formed.ensures c.accepted_never_lacks.ensures c.in_ok-read.ensures.0.2
+run_turns-requires-clause-never_lacks g c = accepted_lacks_nothing c.cores_of_sources_are_formed.ensures c.accepted_never_lacks.ensures c.in_ok-read.ensures.reads.0.2
 
 pub returns-clause-ends : goal.returns-clause-ends
 returns-clause-ends g c =
@@ -39,4 +39,4 @@ returns-clause-ends g c =
     let files = files_change (g.F.Files.bytes c.args.files.now) (g.F.Files.faults c.args.files.now) (g.F.Files.faults c.read_scheduled.new.files) (g.F.Files.taken c.read_scheduled.new.files) in
     let read = c.in_ok-read.read in
     let out = change (g.O.Sink.written c.args.out.now) (g.O.Sink.written c.run_turns.new.out) (g.O.Sink.faults c.args.out.now) (g.O.Sink.faults c.run_turns.new.out) in
-    both_end source_limit schedule_limit (AcceptedStage s) (ScheduleStage d) (λ (a : Accepted) (turns : List Turn). Ran d a.source.core (spread turns)) (UnreadScheduled (named files s) (named files d)) (named files s) (named files d) read.accepted read.turns c.in_ok-read.ensures out _ (rw (← c.as_slice.ensures) c.run_turns.ensures.ends)
+    both_end source_limit schedule_limit (AcceptedStage s) (ScheduleStage d) (λ (a : Accepted) (turns : List Turn). Ran d a.source.core (spread turns)) (UnreadScheduled (named files s) (named files d)) (named files s) (named files d) read.accepted read.turns c.in_ok-read.ensures.reads out _ (rw (← c.as_slice.ensures) c.run_turns.ensures.ends)

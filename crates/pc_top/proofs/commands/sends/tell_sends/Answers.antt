@@ -9,8 +9,8 @@ use Rattle.pc_top.specs.Commands.Sends.{Sent}
 use Rattle.pc_top.proofs.Deriving.{accepted_source}
 use Rattle.pc_top.proofs.commands.sends.tell_sends.Goals as goal
 
-pub returns-in_err-accepted : goal.returns-in_err-accepted
-returns-in_err-accepted g c =
+pub returns-in_err-accepted-clause-answers : goal.returns-in_err-accepted-clause-answers
+returns-in_err-accepted-clause-answers g c =
     let p = err_from_is_err_and c.from_residual.result c.from_residual.ensures.1 in
     let s = c.args.source.now in
     let files = files_change (g.F.Files.bytes c.args.files.now) (g.F.Files.faults c.args.files.now) (g.F.Files.faults c.accept_source.new.files) (g.F.Files.taken c.accept_source.new.files) in
@@ -19,8 +19,8 @@ returns-in_err-accepted g c =
 pub write_sends-requires : goal.write_sends-requires
 write_sends-requires g c = (accepted_source c.in_ok-accepted.ensures.stage.2).1
 
-pub returns : goal.returns
-returns g c =
+pub returns-clause-answers : goal.returns-clause-answers
+returns-clause-answers g c =
     let sent : Sent c.in_ok-accepted.accepted (done c.in_ok-text.text) = (c.in_ok-text.text, c.in_ok-text.ensures, refl) in
     let s = c.args.source.now in
     let files = files_change (g.F.Files.bytes c.args.files.now) (g.F.Files.faults c.args.files.now) (g.F.Files.faults c.accept_source.new.files) (g.F.Files.taken c.accept_source.new.files) in

@@ -16,25 +16,25 @@ use Rattle.pc_top.specs.Shapes.{UnreadScheduled}
 use Rattle.pc_top.proofs.Deriving.{accepted_core_safe}
 use Rattle.pc_top.proofs.commands.swap.swap_at.Goals as goal
 
-pub returns-in_err-read : goal.returns-in_err-read
-returns-in_err-read g c =
+pub returns-in_err-read-clause-answers : goal.returns-in_err-read-clause-answers
+returns-in_err-read-clause-answers g c =
     let p = err_from_is_err_and c.from_residual.result c.from_residual.ensures.1 in
     let s = c.args.source.now in
     let d = c.args.schedule.now in
     let files = files_change (g.F.Files.bytes c.args.files.now) (g.F.Files.faults c.args.files.now) (g.F.Files.faults c.read_scheduled.new.files) (g.F.Files.taken c.read_scheduled.new.files) in
-    rw (p.1, p.2) (both_stop source_limit schedule_limit (AcceptedStage s) (ScheduleStage d) (λ (a : Accepted) (turns : List Turn). EndsWith (Swapping d a.source.core (spread turns) c.args.place)) (UnreadScheduled (named files s) (named files d)) (named files s) (named files d) _ (λ n f. inl f) (λ n p f. inr (p, f)) c.in_err-read.ensures)
+    rw (p.1, p.2) (both_stop source_limit schedule_limit (AcceptedStage s) (ScheduleStage d) (λ (a : Accepted) (turns : List Turn). EndsWith (Swapping d a.source.core (spread turns) c.args.place)) (UnreadScheduled (named files s) (named files d)) (named files s) (named files d) _ (λ n f. inl f) (λ n p f. inr (p, f)) c.in_err-read.ensures.reads)
 
 pub swap_scheduled-requires-clause-safe : goal.swap_scheduled-requires-clause-safe
-swap_scheduled-requires-clause-safe g c = accepted_core_safe c.cores_of_sources_are_formed.ensures c.valid_is_safe.ensures c.in_ok-read.ensures.0.2
+swap_scheduled-requires-clause-safe g c = accepted_core_safe c.cores_of_sources_are_formed.ensures c.valid_is_safe.ensures c.in_ok-read.ensures.reads.0.2
 
 pub swap_scheduled-requires-clause-few : goal.swap_scheduled-requires-clause-few
-swap_scheduled-requires-clause-few g c = rw c.as_slice.ensures (few_turns c.in_ok-read.ensures.1.2)
+swap_scheduled-requires-clause-few g c = rw c.as_slice.ensures (few_turns c.in_ok-read.ensures.reads.1.2)
 
-pub returns : goal.returns
-returns g c =
+pub returns-clause-answers : goal.returns-clause-answers
+returns-clause-answers g c =
     let s = c.args.source.now in
     let d = c.args.schedule.now in
     let files = files_change (g.F.Files.bytes c.args.files.now) (g.F.Files.faults c.args.files.now) (g.F.Files.faults c.read_scheduled.new.files) (g.F.Files.taken c.read_scheduled.new.files) in
     let read = c.in_ok-read.read in
-    both_answer source_limit schedule_limit (AcceptedStage s) (ScheduleStage d) (λ (a : Accepted) (turns : List Turn). EndsWith (Swapping d a.source.core (spread turns) c.args.place)) (UnreadScheduled (named files s) (named files d)) (named files s) (named files d) read.accepted read.turns c.in_ok-read.ensures c.swap_scheduled.result
+    both_answer source_limit schedule_limit (AcceptedStage s) (ScheduleStage d) (λ (a : Accepted) (turns : List Turn). EndsWith (Swapping d a.source.core (spread turns) c.args.place)) (UnreadScheduled (named files s) (named files d)) (named files s) (named files d) read.accepted read.turns c.in_ok-read.ensures.reads c.swap_scheduled.result
     (last_ends (Swapping d read.accepted.source.core (spread read.turns) c.args.place) (λ n. ⊥) c.swap_scheduled.result (rw (← c.as_slice.ensures) c.swap_scheduled.ensures))

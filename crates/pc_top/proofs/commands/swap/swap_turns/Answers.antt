@@ -7,17 +7,17 @@ use Rattle.pc_top.specs.Commands.Swap.IsSwap.{no_number, placed}
 use Rattle.pc_top.specs.Shapes.{UnreadScheduled}
 use Rattle.pc_top.proofs.commands.swap.swap_turns.Goals as goal
 
-pub returns-in-Some : goal.returns-in-Some
-returns-in-Some g c =
+pub returns-in-Some-clause-answers : goal.returns-in-Some-clause-answers
+returns-in-Some-clause-answers g c =
     let files = files_change (g.F.Files.bytes c.args.files.now) (g.F.Files.faults c.args.files.now) (g.F.Files.faults c.swap_at.new.files) (g.F.Files.taken c.swap_at.new.files) in
     let source = named files c.args.source.now in
     let schedule = named files c.args.schedule.now in
     let place = c.in-Some.place in
     answers_by (IsSwapAt source schedule place) (IsSwap source schedule c.args.place.now) (UnreadScheduled source schedule) (UnreadSwap source schedule c.args.place.now)
-    (λ v m. placed place c.in-Some.ensures m) (λ n f. ((place, c.in-Some.ensures), f)) c.swap_at.result c.swap_at.ensures
+    (λ v m. placed place c.in-Some.ensures m) (λ n f. ((place, c.in-Some.ensures), f)) c.swap_at.result c.swap_at.ensures.answers
 
-pub returns-in-None : goal.returns-in-None
-returns-in-None g c =
+pub returns-in-None-clause-answers : goal.returns-in-None-clause-answers
+returns-in-None-clause-answers g c =
     let files = files_change (g.F.Files.bytes c.args.files.now) (g.F.Files.faults c.args.files.now) (g.F.Files.faults c.args.files.now) (g.F.Files.taken c.args.files.now) in
     let source = named files c.args.source.now in
     let schedule = named files c.args.schedule.now in

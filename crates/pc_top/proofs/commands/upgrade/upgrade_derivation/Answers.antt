@@ -10,21 +10,21 @@ use Rattle.pc_refusals.specs.Verdict.{EndsAs, done}
 use Rattle.pc_refusals.specs.declared.source.Source.{Source}
 use Rattle.pc_refusals.proofs.Derivations.{few}
 use Rattle.pc_refusals.proofs.Ending.{both_answer, both_stop, last_stops, part_stops}
-use Rattle.pc_refusals.proofs.TwoFiles.{second_gives, second_stops}
+use Rattle.pc_refusals.proofs.TwoFiles.{both_later, both_same, second_gives, second_stops}
 use Rattle.pc_top.specs.Shapes.{OfJudged, UnreadDerivation}
 use Rattle.pc_top.proofs.Deriving.{never_longer}
 use Rattle.pc_top.proofs.commands.upgrade.upgrade_derivation.Goals as goal
 
-pub returns-in_err-read : goal.returns-in_err-read
-returns-in_err-read g c =
+pub returns-in_err-read-clause-answers : goal.returns-in_err-read-clause-answers
+returns-in_err-read-clause-answers g c =
     let p = err_from_is_err_and c.from_residual.result c.from_residual.ensures.1 in
     let s = c.args.source.now in
     let d = c.args.derivation.now in
     let files = files_change (g.F.Files.bytes c.args.files.now) (g.F.Files.faults c.args.files.now) (g.F.Files.faults c.read_source.new.files) (g.F.Files.taken c.read_source.new.files) in
     rw (p.1, p.2) (part_stops source_limit (SourceStage s) (OfJudged (deriv_text version.Two) (named files s) (named files d)) (UnreadDerivation (named files s) (named files d)) (named files s) _ (λ n f. inl f) c.in_err-read.ensures.stage)
 
-pub returns-in_err-ann : goal.returns-in_err-ann
-returns-in_err-ann g c =
+pub returns-in_err-ann-clause-answers : goal.returns-in_err-ann-clause-answers
+returns-in_err-ann-clause-answers g c =
     let p = err_from_is_err_and c.from_residual-in_err-ann.result c.from_residual-in_err-ann.ensures.1 in
     let s = c.args.source.now in
     let d = c.args.derivation.now in
@@ -35,8 +35,8 @@ returns-in_err-ann g c =
     (g.F.Files.faults c.args.files.now) (g.F.Files.faults c.read_source.new.files) (g.F.Files.faults c.read_derivation.new.files) (g.F.Files.taken c.read_source.new.files) (g.F.Files.taken c.read_derivation.new.files) (g.F.Files.taken c.read_derivation.new.files)
     c.in_ok-read.read (never_longer s c.in_ok-read.read) c.in_ok-read.ensures.stage (c.in_ok-read.ensures.same d) (c.in_ok-read.ensures.later d) (c.in_err-ann.ensures.later d) _ c.in_err-ann.ensures.stage))
 
-pub returns-in_err-judge_annotation : goal.returns-in_err-judge_annotation
-returns-in_err-judge_annotation g c =
+pub returns-in_err-judge_annotation-clause-answers : goal.returns-in_err-judge_annotation-clause-answers
+returns-in_err-judge_annotation-clause-answers g c =
     let p = err_from_is_err_and c.from_residual-in_err-judge_annotation.result c.from_residual-in_err-judge_annotation.ensures.1 in
     let s = c.args.source.now in
     let d = c.args.derivation.now in
@@ -53,8 +53,8 @@ returns-in_err-judge_annotation g c =
 pub write2-requires : goal.write2-requires
 write2-requires g c = few c.in_ok-ann.ensures.stage.2
 
-pub returns : goal.returns
-returns g c =
+pub returns-clause-answers : goal.returns-clause-answers
+returns-clause-answers g c =
     let s = c.args.source.now in
     let d = c.args.derivation.now in
     let files = files_change (g.F.Files.bytes c.args.files.now) (g.F.Files.faults c.args.files.now) (g.F.Files.faults c.read_derivation.new.files) (g.F.Files.taken c.read_derivation.new.files) in
@@ -65,3 +65,27 @@ returns g c =
     (g.F.Files.faults c.args.files.now) (g.F.Files.faults c.read_source.new.files) (g.F.Files.faults c.read_derivation.new.files) (g.F.Files.taken c.read_source.new.files) (g.F.Files.taken c.read_derivation.new.files) (g.F.Files.taken c.read_derivation.new.files)
     c.in_ok-read.read (never_longer s c.in_ok-read.read) c.in_ok-read.ensures.stage (c.in_ok-read.ensures.same d) (c.in_ok-read.ensures.later d) (c.in_ok-ann.ensures.later d) ann c.in_ok-ann.ensures.stage) (Ok c.in_ok-text.text)
     (Ok tt, c.in_ok-judge_annotation.ensures, ap done c.in_ok-text.ensures.text)
+
+pub returns-in_err-ann-clause-later : goal.returns-in_err-ann-clause-later
+returns-in_err-ann-clause-later g c = both_later _ _ _ c.in_ok-read.ensures.later c.in_err-ann.ensures.later
+
+pub returns-in_err-ann-clause-same : goal.returns-in_err-ann-clause-same
+returns-in_err-ann-clause-same g c = both_same _ _ _ c.in_ok-read.ensures.same c.in_err-ann.ensures.same
+
+pub returns-in_err-judge_annotation-clause-later : goal.returns-in_err-judge_annotation-clause-later
+returns-in_err-judge_annotation-clause-later g c = both_later _ _ _ c.in_ok-read.ensures.later c.in_ok-ann.ensures.later
+
+pub returns-in_err-judge_annotation-clause-same : goal.returns-in_err-judge_annotation-clause-same
+returns-in_err-judge_annotation-clause-same g c = both_same _ _ _ c.in_ok-read.ensures.same c.in_ok-ann.ensures.same
+
+pub returns-in_err-text-clause-later : goal.returns-in_err-text-clause-later
+returns-in_err-text-clause-later g c = both_later _ _ _ c.in_ok-read.ensures.later c.in_ok-ann.ensures.later
+
+pub returns-in_err-text-clause-same : goal.returns-in_err-text-clause-same
+returns-in_err-text-clause-same g c = both_same _ _ _ c.in_ok-read.ensures.same c.in_ok-ann.ensures.same
+
+pub returns-clause-later : goal.returns-clause-later
+returns-clause-later g c = both_later _ _ _ c.in_ok-read.ensures.later c.in_ok-ann.ensures.later
+
+pub returns-clause-same : goal.returns-clause-same
+returns-clause-same g c = both_same _ _ _ c.in_ok-read.ensures.same c.in_ok-ann.ensures.same
