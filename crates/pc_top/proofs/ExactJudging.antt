@@ -38,19 +38,19 @@ module _ (shown : Ann → Text) (file derivation : Named) (bytes text : Text) (t
       subst (λ (o : Option Text). IfSome o (IsDerivationOf bytes)) tells_text one
 
   -- a valid annotation's text, so done is a verdict
-  pub says_done : (d : IsDerivationOf bytes text) → OfDerivation shown file derivation (done (shown d.2.0))
+  pub says_done : (d : IsDerivationOf bytes text) → OfDerivation shown file derivation (done (shown d.2))
   says_done d =
       let core = d.0 in
       let of_bytes = d.1 in
-      let ann = d.2.0 in
+      let ann = d.2 in
       let first : IsReadingOf file source_limit (whole bytes) = (of_bytes.short, subst (λ (o : Option Text). IfSome o (λ b. bytes ≡ b)) (sym tells) refl) in
-      let short = text_within text ann d.2.1 in
+      let short = text_within text ann d.3 in
       let second : IsReadingOf derivation derivation_limit (whole text) = (short, subst (λ (o : Option Text). IfSome o (λ b. text ≡ b)) (sym tells_text) refl) in
       goes_on (whole bytes) (record { bytes = bytes; core = core }) first (core_passes file.name bytes core of_bytes)
-      (goes_on (whole text) ann second (goes (fits short) (reads d.2.1)) (Ok tt, holds d.2.2, refl))
+      (goes_on (whole text) ann second (goes (fits short) (reads d.3)) (Ok tt, holds d.4, refl))
 
 some_told : (o : Option Text) (x : Text) → o ≡ Some x → IsSome o
-some_told (Some y) x e = tt
+some_told o x e = subst IsSome (sym e) tt
 
 module _ (one : VerdictIsOne) (files : Files) (words : List Text) (asked : Asked) (source derivation bytes text : Text) (v : Verdict) (reads_both : ReadsBoth files words asked source derivation bytes text v)
     (is_files : files_of asked ≡ source ∷ derivation ∷ []) where
@@ -60,7 +60,7 @@ module _ (one : VerdictIsOne) (files : Files) (words : List Text) (asked : Asked
       let unfailed : UnfailedOf files (command_of words) = subst (λ (o : Option Asked). UnfailedOf files o) (sym reads_both.asks) (subst (λ (l : List Text). NoneFailed files l) (sym is_files) reads_both.unfailed) in
       let some = some_told (files.told source) bytes reads_both.tells in
       let some_text = some_told (files.told derivation) text reads_both.tells_text in
-      let told : TellsOf files.told (command_of words) = subst (λ (o : Option Asked). TellsOf files.told o) (sym reads_both.asks) (subst (λ (l : List Text). AllTold files.told l) (sym is_files) (some, some_text, tt)) in
+      let told : TellsOf files.told (command_of words) = subst (λ (o : Option Asked). TellsOf files.told o) (sym reads_both.asks) (subst (λ (l : List Text). AllTold files.told l) (sym is_files) (some, (some_text, tt))) in
       one files words v w unfailed told reads_both.verdict (subst (λ (o : Option Asked). IsVerdictOf files o w) (sym reads_both.asks) is)
 
   own : IsVerdictOf files (Some asked) v
@@ -78,5 +78,5 @@ judged_exact one = record {
       let other = named files derivation in
       let shown = deriv_text version.Two in
       (λ e. done_says shown file other bytes text r.tells r.tells_text v e (own one files words (upgrade source derivation) source derivation bytes text v r refl),
-      λ d. ap (λ (x : Verdict). x.status) (the_one one files words (upgrade source derivation) source derivation bytes text v r refl (done (shown d.2.0)) (says_done shown file other bytes text r.tells r.tells_text d)));
+      λ d. ap (λ (x : Verdict). x.status) (the_one one files words (upgrade source derivation) source derivation bytes text v r refl (done (shown d.2)) (says_done shown file other bytes text r.tells r.tells_text d)));
 }
