@@ -50,7 +50,7 @@ module _ (shown : Ann → Text) (file derivation : Named) (bytes text : Text) (t
       (goes_on (whole text) ann second (goes (fits short) (reads d.3)) (Ok tt, holds d.4, refl))
 
 some_told : (o : Option Text) (x : Text) → o ≡ Some x → IsSome o
-some_told o x e = subst IsSome (sym e) tt
+some_told o x e = subst IsSome (sym e) refl
 
 module _ (one : VerdictIsOne) (files : Files) (words : List Text) (asked : Asked) (source derivation bytes text : Text) (v : Verdict) (reads_both : ReadsBoth files words asked source derivation bytes text v)
     (is_files : files_of asked ≡ source ∷ derivation ∷ []) where
