@@ -1,0 +1,38 @@
+-- Where a line points.
+use Rattle.std.specs.Prelude.{ℕ, ◌≡◌, ◌≤◌, ◌++◌, List, length, take, codes, decimal, Option, Some, None}
+use Rattle.pc_lists.specs.Texts.{Text}
+use Rattle.pc_refusals.specs.Place.{line_behind, column_behind}
+use Rattle.pc_buffers.specs.declared.place.Place.{Place}
+
+-- How a line begins that points at a byte: `NAME:LINE:COLUMN: `.
+abbrev pub place_front : Text → (line column : ℕ) → Text
+place_front name line column = name ++ (codes ":" ++ (decimal line ++ (codes ":" ++ (decimal column ++ codes ": "))))
+
+-- The line begins so.
+abbrev pub BeginsWith : Text → Text → Type 0
+BeginsWith line front = (rest : Text) × (line ≡ front ++ rest)
+
+-- The line points at the byte before which the text of this name has so many bytes, or at the text's end.
+abbrev pub PointsTo : (name text line : Text) → ℕ → Type 0
+PointsTo name text line at = BeginsWith line (place_front name (line_behind (take at text)) (column_behind (take at text)))
+
+-- It points at this place of the text, which is that of this number.
+pub record PointsAt (number : ℕ) (name text line : Text) (place : Place) : Type 0 where
+  pub number_is : place.text ≡ number
+  pub within : place.offset ≤ length text
+  pub line_is : place.line ≡ line_behind (take place.offset text)
+  pub column_is : place.column ≡ column_behind (take place.offset text)
+  pub points : PointsTo name text line place.offset
+
+-- It points at no byte of the text, and not at its end.
+abbrev pub PointsNowhere : (name text line : Text) → Type 0
+PointsNowhere name text line = (at : ℕ) → at ≤ length text → PointsTo name text line at → ⊥
+
+-- What is found where it is looked for in this text.
+abbrev pub Finds : (number : ℕ) → (name text line : Text) → Option Place → Type 0
+Finds number name text line None = PointsNowhere name text line
+Finds number name text line (Some place) = PointsAt number name text line place
+
+-- No place, all of whose numbers are 0.
+abbrev pub no_place : Place
+no_place = record { text = 0; line = 0; column = 0; offset = 0 }
