@@ -1,0 +1,71 @@
+-- From the answer of `rcap` over files in memory to that of a call.
+use Rattle.std.proofs.Common.{◌≡◌, ℕ, List, [], ◌∷◌, Option, Some, None, inl, inr, refl, subst, arith}
+use Rattle.std.specs.Prelude.{◌⊎◌, length}
+use Rattle.std.specs.Io.KnownBytes.{Appends}
+use Rattle.pc_args.specs.Asked.{Asked, command_of}
+use Rattle.pc_buffers.specs.Laying.{laid}
+use Rattle.pc_buffers.specs.Places.{no_place}
+use Rattle.pc_buffers.specs.declared.place.Place.{Place}
+use Rattle.pc_io.specs.Change.{change}
+use Rattle.pc_io.specs.Sink.{Rose}
+use Rattle.pc_io.specs.declared.entries.Entry.{Entry}
+use Rattle.pc_lists.specs.Texts.{Text}
+use Rattle.pc_refusals.specs.Complete.{Completes}
+use Rattle.pc_refusals.specs.Named.{FailedAmong}
+use Rattle.pc_refusals.specs.Verdict.{IsAccepting, Verdict}
+use Rattle.pc_top.specs.Asked.{FailedIn, FailedOf, IsVerdict}
+use Rattle.pc_top.specs.Commands.{files_of}
+use Rattle.pc_call.specs.Answers.{Answers, Buffer, Holds, buffer, no_memory, verdict}
+use Rattle.pc_call.specs.Inner.Shelves.{HoldsTexts, IsVerdictOn, shelf}
+use Rattle.pc_call.specs.Points.{Pointing, Points}
+use Rattle.pc_call.specs.declared.beside.Beside.{Beside}
+
+-- no reading of a shelf fails
+never_among : (entries : List Entry) (taken : ℕ) (names : List Text) (name : Text) → FailedAmong (shelf entries taken) names name → ⊥
+never_among entries taken [] name f = f
+never_among entries taken (n ∷ ns) name (inl f) = omega (arith, f.1)
+never_among entries taken (n ∷ ns) name (inr f) = never_among entries taken ns name f
+
+never_fails : (entries : List Entry) (taken : ℕ) (asked : Option Asked) (name : Text) → FailedOf (shelf entries taken) asked name → ⊥
+never_fails entries taken None name f = f
+never_fails entries taken (Some asked) name f = never_among entries taken (files_of asked) name f
+
+-- a count that stands did not rise
+never_rose : Rose 0 0 → ⊥
+never_rose r = omega (arith, r)
+
+module _ (entries : List Entry) (taken : ℕ) (source : Text) (beside : Beside) (holds : HoldsTexts entries source beside) (words : List Text) (out err : Text) (status : ℕ) (a b : Buffer) (place : Place) where
+  whole : (status ≡ 11 → ⊥) → Holds a out → Holds b err → Points source beside err place
+      → ((status ≡ 11) ⊎ ((v : Verdict) × IsVerdict (shelf entries taken) words v × (status ≡ v.status) × Appends (Some []) (Some out) v.out × Appends (Some []) (Some err) v.err))
+      → Answers (IsVerdictOn source beside words) (Points source beside) status a b place
+  whole other l m p (inl e) = absurd (other e)
+  whole other l m p (inr h) =
+      verdict h.0 (entries, holds, taken, h.1) h.2 (subst (Holds a) h.3 l) (subst (Holds b) h.4 m) (subst (λ (t : Text). Points source beside t place) h.4 p)
+
+  -- The sinks were empty, nothing failed, and memory did not run out.
+  pub answers : (old_out old_err : Text) → old_out ≡ [] → old_err ≡ []
+      → Completes (IsVerdict (shelf entries taken) words) (FailedIn (shelf entries taken) words) (change (Some old_out) (Some out) 0 0) (change (Some old_err) (Some err) 0 0) status
+      → (status ≡ 11 → ⊥) → Holds a out → Holds b err → Points source beside err place → Answers (IsVerdictOn source beside words) (Points source beside) status a b place
+  answers old_out old_err e f done other l m p =
+      let begins : Completes (IsVerdict (shelf entries taken) words) (FailedIn (shelf entries taken) words) (change (Some []) (Some out) 0 0) (change (Some []) (Some err) 0 0) status =
+      subst (λ (x : Text). Completes (IsVerdict (shelf entries taken) words) (FailedIn (shelf entries taken) words) (change (Some x) (Some out) 0 0) (change (Some []) (Some err) 0 0) status) e
+      (subst (λ (x : Text). Completes (IsVerdict (shelf entries taken) words) (FailedIn (shelf entries taken) words) (change (Some old_out) (Some out) 0 0) (change (Some x) (Some err) 0 0) status) f done) in
+      whole other l m p (begins (λ name g. never_fails entries taken (command_of words) name g) never_rose never_rose)
+
+-- A text that was laid is the one that a sink holds.
+pub holds_of : (b : Buffer) (text held : Text) → text ≡ held → b.answered ≡ length text → b.now ≡ laid text b.before → Holds b held
+holds_of b text held e s h = subst (Holds b) e (s, h)
+
+-- Memory ran out, and nothing was laid.
+pub refused : (V : Verdict → Type 0) (P : Pointing) (status : ℕ) (out err : Text) (n m : ℕ) (place : Place) → status ≡ 11 → n ≡ 0 → m ≡ 0 → place ≡ no_place
+    → Answers V P status (buffer out out n) (buffer err err m) place
+refused V P status out err n m place s a b p = no_memory s (a, refl) (b, refl) p
+
+pub not_accepting : (status : ℕ) → status ≡ 11 → IsAccepting status → ⊥
+not_accepting status e (inl z) = omega (arith, e, z)
+not_accepting status e (inr z) = omega (arith, e, z)
+
+-- What answers a verdict answers whatever follows from it.
+pub answers_as : (V W : Verdict → Type 0) (P : Pointing) (status : ℕ) (a b : Buffer) (place : Place) → ((v : Verdict) → V v → W v) → Answers V P status a b place → Answers W P status a b place
+answers_as V W P status a b place f (verdict v h s l m p) = verdict v (f v h) s l m p
+answers_as V W P status a b place f (no_memory s l m p) = no_memory s l m p

@@ -1,0 +1,129 @@
+-- What each call asks for.
+use Rattle.std.proofs.Common.{◌≡◌, ◌<◌, ℕ, List, [], ◌∷◌, Option, Some, refl, subst, true}
+use Rattle.std.specs.Prelude.{◌^◌, codes, decimal, unwrap_or}
+use Rattle.std.specs.Borrow.{Bor}
+use Rattle.std.specs.declared.result.Result.{Result}
+use Rattle.pc_args.specs.Asked.{Asked, check, command_of, judge, run, sends, show, swap, trace, upgrade}
+use Rattle.pc_args.specs.Forms.{WrittenFormsAreTaken, check_words, is_plain, judge_words, run_words, sends_words, show_words, swap_words, trace_words, upgrade_words}
+use Rattle.pc_deriv.specs.Text.{deriv_text}
+use Rattle.pc_deriv.specs.declared.version.Version.TheVariants as version
+use Rattle.pc_io.specs.Entries.{held}
+use Rattle.pc_io.specs.declared.entries.Entry.{Entry}
+use Rattle.pc_lists.specs.Texts.{Text}
+use Rattle.pc_refusals.specs.Accepting.{AcceptedStage}
+use Rattle.pc_refusals.specs.Named.{Files, Named, named}
+use Rattle.pc_refusals.specs.Source.{FileStage}
+use Rattle.pc_refusals.specs.Verdict.{EndsWith, Verdict}
+use Rattle.pc_top.specs.Commands.{IsVerdictOf}
+use Rattle.pc_top.specs.Commands.Check.{Derived, IsCheck}
+use Rattle.pc_top.specs.Commands.Judge.{IsJudge, accepted_text}
+use Rattle.pc_top.specs.Commands.Run.{IsRun, Ran}
+use Rattle.pc_top.specs.Commands.Sends.{IsSends, Sent}
+use Rattle.pc_top.specs.Commands.Show.{IsShow, Shown}
+use Rattle.pc_top.specs.Commands.Swap.{IsSwap}
+use Rattle.pc_top.specs.Commands.Trace.{IsTrace, Tracing}
+use Rattle.pc_top.specs.Commands.Upgrade.{IsUpgrade}
+use Rattle.pc_call.specs.Inner.Shelves.{HoldsBeside, IsVerdictOn, shelf}
+use Rattle.pc_call.specs.Verdicts.{IsChecked, IsJudged, IsRunOf, IsSendsOf, IsShown, IsSwapped, IsTraced, IsUpgraded, schedule_file, source_file}
+use Rattle.pc_call.specs.declared.beside.Beside.{Beside}
+use Rattle.pc_call.specs.declared.beside.Beside.TheVariants.{Nothing, Derivation, Schedule}
+use Rattle.pc_call.proofs.Exactly.{plain}
+use Rattle.pc_call.proofs.Readings.{derivation_as, file_of, parts_as, scheduled_as, source_as, swap_as}
+
+-- the file of a name, which may be missing
+abbrev seen : Text → Option Text → ℕ → Named
+seen name bytes taken = record { name = name; told = Some (unwrap_or bytes []); before = 0; now = 0; taken = taken }
+
+-- The words ask for this, and its verdict is one on the file of the source.
+alone : (Is : Named → Verdict → Type 0) (asked : Asked) (words : List Text) (source : Text) → command_of words ≡ Some asked
+    → ((files : Files) (v : Verdict) → IsVerdictOf files (Some asked) v → Is (named files (codes "source")) v) → (v : Verdict) → IsVerdictOn source Nothing words v
+    → (taken : ℕ) × Is (file_of (codes "source") source taken) v
+alone Is asked words source asks opens v h = (
+  h.2,
+  subst (λ (o : Option Text). Is (seen (codes "source") o h.2) v) h.1.0
+      (opens (shelf h.0 h.2) v (subst (λ (o : Option Asked). IsVerdictOf (shelf h.0 h.2) o v) asks h.3)),
+)
+
+-- The same of the files of the source and of the text beside it.
+together : (Is : Named → Named → Verdict → Type 0) (asked : Asked) (words : List Text) (source name second : Text) (beside : Beside) → command_of words ≡ Some asked
+    → ((files : Files) (v : Verdict) → IsVerdictOf files (Some asked) v → Is (named files (codes "source")) (named files name) v)
+    → ((entries : List Entry) → HoldsBeside entries beside → held entries name ≡ Some second) → (v : Verdict) → IsVerdictOn source beside words v
+    → (taken : ℕ) × Is (file_of (codes "source") source taken) (file_of name second taken) v
+together Is asked words source name second beside asks opens has v h = (
+  h.2,
+  subst (λ (o : Option Text). Is (file_of (codes "source") source h.2) (seen name o h.2) v) (has h.0 h.1.1)
+      (subst (λ (o : Option Text). Is (seen (codes "source") o h.2) (seen name (held h.0 name) h.2) v) h.1.0
+      (opens (shelf h.0 h.2) v (subst (λ (o : Option Asked). IsVerdictOf (shelf h.0 h.2) o v) asks h.3))),
+)
+
+module _ (forms : WrittenFormsAreTaken) (source : Text) where
+  -- ---- a source alone
+
+  pub check_asks : command_of (check_words (codes "source")) ≡ Some (check (codes "source"))
+  check_asks = (forms.checks (codes "source") refl).1
+
+  pub show_asks : command_of (show_words (codes "source")) ≡ Some (show (codes "source"))
+  show_asks = (forms.shows (codes "source") refl).1
+
+  pub sends_asks : command_of (sends_words (codes "source")) ≡ Some (sends (codes "source"))
+  sends_asks = (forms.sendings (codes "source") refl).1
+
+  pub checked : (v : Verdict) → IsVerdictOn source Nothing (check_words (codes "source")) v → IsChecked source v
+  checked v h =
+      let t = alone IsCheck (check (codes "source")) (check_words (codes "source")) source check_asks (λ files w k. k) v h in
+      source_as (AcceptedStage (codes "source")) Derived source t.0 v t.1
+
+  pub shown : (v : Verdict) → IsVerdictOn source Nothing (show_words (codes "source")) v → IsShown source v
+  shown v h =
+      let t = alone IsShow (show (codes "source")) (show_words (codes "source")) source show_asks (λ files w k. k) v h in
+      source_as (FileStage (codes "source")) Shown source t.0 v t.1
+
+  pub sent : (v : Verdict) → IsVerdictOn source Nothing (sends_words (codes "source")) v → IsSendsOf source v
+  sent v h =
+      let t = alone IsSends (sends (codes "source")) (sends_words (codes "source")) source sends_asks (λ files w k. k) v h in
+      source_as (AcceptedStage (codes "source")) Sent source t.0 v t.1
+
+  -- ---- a source and a derivation
+
+  pub judge_asks : command_of (judge_words (codes "source") (codes "derivation")) ≡ Some (judge (codes "source") (codes "derivation"))
+  judge_asks = (forms.judges (codes "source") (codes "derivation") refl refl).1
+
+  pub upgrade_asks : command_of (upgrade_words (codes "source") (codes "derivation")) ≡ Some (upgrade (codes "source") (codes "derivation"))
+  upgrade_asks = (forms.upgrades (codes "source") (codes "derivation") refl refl).1
+
+  pub judged : (derivation : Bor Text) (v : Verdict) → IsVerdictOn source (Derivation derivation) (judge_words (codes "source") (codes "derivation")) v → IsJudged source derivation.now v
+  judged derivation v h =
+      let t = together IsJudge (judge (codes "source") (codes "derivation")) (judge_words (codes "source") (codes "derivation")) source (codes "derivation") derivation.now (Derivation derivation) judge_asks (λ files w k. k) (λ entries e. e) v h in
+      parts_as (λ ann. accepted_text) source derivation.now t.0 v t.1
+
+  pub upgraded : (derivation : Bor Text) (v : Verdict) → IsVerdictOn source (Derivation derivation) (upgrade_words (codes "source") (codes "derivation")) v → IsUpgraded source derivation.now v
+  upgraded derivation v h =
+      let t = together IsUpgrade (upgrade (codes "source") (codes "derivation")) (upgrade_words (codes "source") (codes "derivation")) source (codes "derivation") derivation.now (Derivation derivation) upgrade_asks (λ files w k. k) (λ entries e. e) v h in
+      derivation_as (deriv_text version.Two) source derivation.now t.0 v t.1
+
+  -- ---- a source and a schedule
+
+  pub run_asks : command_of (run_words (codes "source") (codes "schedule")) ≡ Some (run (codes "source") (codes "schedule"))
+  run_asks = (forms.runs (codes "source") (codes "schedule") refl refl).1
+
+  pub trace_asks : command_of (trace_words (codes "source") (codes "schedule")) ≡ Some (trace (codes "source") (codes "schedule"))
+  trace_asks = (forms.traces (codes "source") (codes "schedule") refl refl).1
+
+  pub swap_asks : (place : Text) → is_plain place ≡ true → command_of (swap_words (codes "source") (codes "schedule") place) ≡ Some (swap (codes "source") (codes "schedule") place)
+  swap_asks place plain = (forms.swaps (codes "source") (codes "schedule") place refl refl plain).1
+
+  pub ran : (schedule : Bor Text) (v : Verdict) → IsVerdictOn source (Schedule schedule) (run_words (codes "source") (codes "schedule")) v → IsRunOf source schedule.now v
+  ran schedule v h =
+      let t = together IsRun (run (codes "source") (codes "schedule")) (run_words (codes "source") (codes "schedule")) source (codes "schedule") schedule.now (Schedule schedule) run_asks (λ files w k. k) (λ entries e. e) v h in
+      scheduled_as Ran source schedule.now t.0 v t.1
+
+  pub traced : (schedule : Bor Text) (v : Verdict) → IsVerdictOn source (Schedule schedule) (trace_words (codes "source") (codes "schedule")) v → IsTraced source schedule.now v
+  traced schedule v h =
+      let t = together IsTrace (trace (codes "source") (codes "schedule")) (trace_words (codes "source") (codes "schedule")) source (codes "schedule") schedule.now (Schedule schedule) trace_asks (λ files w k. k) (λ entries e. e) v h in
+      scheduled_as (λ name core list. EndsWith (Tracing name core list)) source schedule.now t.0 v t.1
+
+  pub swapped : (schedule : Bor Text) (n : ℕ) (place : Text) → place ≡ decimal n → n < 2 ^ 64 → (v : Verdict) → IsVerdictOn source (Schedule schedule) (swap_words (codes "source") (codes "schedule") place) v
+      → IsSwapped source schedule.now n v
+  swapped schedule n place is fits v h =
+      let t = together (λ a b. IsSwap a b place) (swap (codes "source") (codes "schedule") place) (swap_words (codes "source") (codes "schedule") place) source (codes "schedule") schedule.now (Schedule schedule) (swap_asks place (plain n place is fits)) (λ files w k. k) (λ entries e. e) v h in
+      subst (λ (p : Text). IsSwap (source_file source) (schedule_file schedule.now) p v) is (swap_as source schedule.now place t.0 v t.1)

@@ -1,0 +1,14 @@
+-- The files of a call have its texts.
+use Rattle.std.proofs.Common.{◌≡◌, ◌∙◌, ℕ, List, Some}
+use Rattle.std.specs.Prelude.{codes}
+use Rattle.pc_io.specs.declared.entries.Entry.{Entry}
+use Rattle.pc_lists.specs.Texts.{Text}
+use Rattle.pc_call.specs.Inner.Shelves.{Adds, AddsBeside, HoldsTexts}
+use Rattle.pc_call.specs.declared.beside.Beside.{Beside}
+use Rattle.pc_call.specs.declared.beside.Beside.TheVariants.{Nothing, Derivation, Schedule}
+
+-- First the source was added, and then the text beside it.
+pub holds : (none one all : List Entry) (source : Text) (beside : Beside) → Adds none one (codes "source") source → AddsBeside one all beside → HoldsTexts all source beside
+holds none one all source Nothing first second = (second (codes "source") ∙ first (codes "source"), tt)
+holds none one all source (Derivation derivation) first second = (second (codes "source") ∙ first (codes "source"), second (codes "derivation"))
+holds none one all source (Schedule schedule) first second = (second (codes "source") ∙ first (codes "source"), second (codes "schedule"))

@@ -1,0 +1,57 @@
+-- The verdicts on texts in memory. Each text is seen as a file with a name, whose bytes are known and whose reading does not fail.
+use Rattle.std.specs.Prelude.{ℕ, ◌≤◌, codes, decimal}
+use Rattle.pc_lists.specs.Texts.{Text}
+use Rattle.pc_refusals.specs.Named.{Named, text_as}
+use Rattle.pc_refusals.specs.Verdict.{Verdict}
+use Rattle.pc_top.specs.Commands.Check.{IsCheck}
+use Rattle.pc_top.specs.Commands.Judge.{IsJudge}
+use Rattle.pc_top.specs.Commands.Run.{IsRun}
+use Rattle.pc_top.specs.Commands.Sends.{IsSends}
+use Rattle.pc_top.specs.Commands.Show.{IsShow}
+use Rattle.pc_top.specs.Commands.Swap.{IsSwap}
+use Rattle.pc_top.specs.Commands.Trace.{IsTrace}
+use Rattle.pc_top.specs.Commands.Upgrade.{IsUpgrade}
+
+abbrev pub source_file : Text → Named
+source_file = text_as (codes "source")
+
+abbrev pub derivation_file : Text → Named
+derivation_file = text_as (codes "derivation")
+
+abbrev pub schedule_file : Text → Named
+schedule_file = text_as (codes "schedule")
+
+-- ---- of a source
+
+abbrev pub IsChecked : Text → Verdict → Type 0
+IsChecked source = IsCheck (source_file source)
+
+abbrev pub IsShown : Text → Verdict → Type 0
+IsShown source = IsShow (source_file source)
+
+abbrev pub IsSendsOf : Text → Verdict → Type 0
+IsSendsOf source = IsSends (source_file source)
+
+-- ---- of a source and a derivation
+
+abbrev pub IsJudged : (source derivation : Text) → Verdict → Type 0
+IsJudged source derivation = IsJudge (source_file source) (derivation_file derivation)
+
+abbrev pub IsUpgraded : (source derivation : Text) → Verdict → Type 0
+IsUpgraded source derivation = IsUpgrade (source_file source) (derivation_file derivation)
+
+-- ---- of a source and a schedule
+
+abbrev pub IsRunOf : (source schedule : Text) → Verdict → Type 0
+IsRunOf source schedule = IsRun (source_file source) (schedule_file schedule)
+
+abbrev pub IsTraced : (source schedule : Text) → Verdict → Type 0
+IsTraced source schedule = IsTrace (source_file source) (schedule_file schedule)
+
+-- What may be a place of a schedule: others are refused with 2.
+abbrev pub MayBePlace : ℕ → Type 0
+MayBePlace place = (1 ≤ place) × (place ≤ 9999999)
+
+-- The place is written as a word, in decimal.
+abbrev pub IsSwapped : (source schedule : Text) → ℕ → Verdict → Type 0
+IsSwapped source schedule place = IsSwap (source_file source) (schedule_file schedule) (decimal place)

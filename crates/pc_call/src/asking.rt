@@ -1,0 +1,66 @@
+//! Asking `rcap` over texts in memory.
+ghost use Rattle.std.specs.Prelude.{◌≡◌};
+ghost use Rattle.pc_args.specs.Asked.{texts};
+ghost use Rattle.pc_refusals.specs.Verdict.{IsAccepting};
+ghost use Rattle.pc_top.specs.CoreOf.{HasSafeCore, IsDerivable};
+ghost use Rattle.pc_call.specs.Answers.{Answers, buffer};
+ghost use Rattle.pc_call.specs.Inner.Shelves.{HoldsTexts, IsVerdictOn, OfSourceOn};
+ghost use Rattle.pc_call.specs.Points.{Points};
+
+use crate::Answer;
+use crate::answer::{OUT_OF_MEMORY, refuse_memory};
+use crate::beside::{Beside, find_in, make_files};
+use pc_buffers::lay;
+use pc_io::{NeverFiles, NeverSink};
+use pc_referee::Rules;
+use pc_top::rcap;
+use std::alloc::Global;
+
+// Does what the words ask for, on these files, which have these texts.
+fn ask_files(
+    alloc: Global,
+    words: &[&str],
+    files: &mut NeverFiles,
+    source: &[u8],
+    beside: Beside<'_>,
+    out: &mut [u8],
+    err: &mut [u8],
+    answer: &mut Answer,
+) -> u8
+    requires { HoldsTexts files.old.entries source.now beside }
+    ensures answers { Answers (IsVerdictOn source.now beside.entry (texts words.now)) (Points source.now beside.entry) result (buffer out.old out.new answer.new.out_length) (buffer err.old err.new answer.new.err_length) answer.new.place }
+    ensures accepted { IsAccepting result → OfSourceOn IsDerivable source.now beside.entry (texts words.now) }
+    ensures safe { IsAccepting result → OfSourceOn HasSafeCore source.now beside.entry (texts words.now) }
+{
+    let mut to_out = NeverSink::new(alloc);
+    let mut to_err = NeverSink::new(alloc);
+    let mut referee = Rules;
+    let status = rcap(alloc, words, files, &mut to_out, &mut to_err, &mut referee);
+    if status == OUT_OF_MEMORY {
+        return refuse_memory(answer);
+    }
+    answer.place = find_in(to_err.bytes(), source, beside);
+    answer.out_length = lay(out, to_out.bytes());
+    answer.err_length = lay(err, to_err.bytes());
+    status
+}
+
+/// Does what the words ask for, on these texts.
+pub fn ask(
+    alloc: Global,
+    words: &[&str],
+    source: &[u8],
+    beside: Beside<'_>,
+    out: &mut [u8],
+    err: &mut [u8],
+    answer: &mut Answer,
+) -> u8
+    ensures answers { Answers (IsVerdictOn source.now beside.entry (texts words.now)) (Points source.now beside.entry) result (buffer out.old out.new answer.new.out_length) (buffer err.old err.new answer.new.err_length) answer.new.place }
+    ensures accepted { IsAccepting result → OfSourceOn IsDerivable source.now beside.entry (texts words.now) }
+    ensures safe { IsAccepting result → OfSourceOn HasSafeCore source.now beside.entry (texts words.now) }
+{
+    match make_files(alloc, source, beside) {
+        Ok(mut files) => ask_files(alloc, words, &mut files, source, beside, out, err, answer),
+        Err(_) => refuse_memory(answer),
+    }
+}

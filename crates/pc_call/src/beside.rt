@@ -1,0 +1,76 @@
+//! The texts of a call, each with the name that lines have for it.
+ghost use Rattle.std.specs.Prelude.{◌≡◌, List, ℕ, Some, codes, IfOk, OnOk, if◌then◌else◌};
+ghost use Rattle.std.specs.Str.{bytes_eq};
+ghost use Rattle.pc_io.specs.Entries.{held};
+ghost use Rattle.pc_call.specs.Inner.Shelves.{AddsBeside, HoldsTexts};
+ghost use Rattle.pc_call.specs.Points.{Points, PointsBeside};
+
+use pc_buffers::{NO_PLACE, Place, find_place};
+use pc_io::NeverFiles;
+use std::alloc::{AllocError, Global};
+
+/// The number of the source among the texts of a call.
+const FIRST_TEXT: usize = 1;
+
+/// The number of the text beside it.
+const SECOND_TEXT: usize = 2;
+
+/// What a command is given beside its source.
+#[derive(Clone, Copy, Debug)]
+pub enum Beside<'a> {
+    /// No other text.
+    Nothing,
+    /// A derivation's text.
+    Derivation(&'a [u8]),
+    /// A schedule's text.
+    Schedule(&'a [u8]),
+}
+
+// Adds the text beside the source.
+fn add_beside(files: &mut NeverFiles, beside: Beside<'_>) -> Result<(), AllocError>
+    ensures { OnOk result (AddsBeside files.old.entries files.new.entries beside.entry) }
+{
+    match beside {
+        Beside::Nothing => Ok(()),
+        Beside::Derivation(bytes) => files.add("derivation", bytes),
+        Beside::Schedule(bytes) => files.add("schedule", bytes),
+    }
+}
+
+/// The texts as files.
+pub fn make_files(
+    alloc: Global,
+    source: &[u8],
+    beside: Beside<'_>,
+) -> Result<NeverFiles, AllocError>
+    ensures { IfOk result (λ files. HoldsTexts files.entries source.now beside.entry) }
+{
+    let mut files = NeverFiles::new(alloc);
+    files.add("source", source)?;
+    add_beside(&mut files, beside)?;
+    Ok(files)
+}
+
+// The place in the text beside the source at which a line points.
+fn find_beside(line: &[u8], beside: Beside<'_>) -> Place
+    ensures { PointsBeside beside.entry line.now result }
+{
+    match beside {
+        Beside::Nothing => NO_PLACE,
+        Beside::Derivation(_) => NO_PLACE,
+        Beside::Schedule(bytes) => match find_place(line, "schedule", bytes, SECOND_TEXT) {
+            Some(place) => place,
+            None => NO_PLACE,
+        },
+    }
+}
+
+/// The place at which a line points. No line names a byte of a derivation.
+pub fn find_in(line: &[u8], source: &[u8], beside: Beside<'_>) -> Place
+    ensures { Points source.now beside.entry line.now result }
+{
+    match find_place(line, "source", source, FIRST_TEXT) {
+        Some(place) => place,
+        None => find_beside(line, beside),
+    }
+}

@@ -1,0 +1,62 @@
+//! The commands of a source and a derivation.
+ghost use Rattle.pc_refusals.specs.Verdict.{IsAccepting};
+ghost use Rattle.pc_top.specs.CoreOf.{HasSafeCore, IsDerivable};
+ghost use Rattle.pc_call.specs.Answers.{Answers, buffer};
+ghost use Rattle.pc_call.specs.Points.{PointsIntoSource};
+ghost use Rattle.pc_call.specs.Verdicts.{IsJudged, IsUpgraded};
+
+use crate::Answer;
+use crate::asking::ask;
+use crate::beside::Beside;
+use pc_args::written_forms_are_taken;
+use std::alloc::Global;
+
+/// Says whether a text is a derivation of the source.
+pub fn judge(
+    alloc: Global,
+    source: &[u8],
+    derivation: &[u8],
+    out: &mut [u8],
+    err: &mut [u8],
+    answer: &mut Answer,
+) -> u8
+    ensures answers { Answers (IsJudged source.now derivation.now) (PointsIntoSource source.now) result (buffer out.old out.new answer.new.out_length) (buffer err.old err.new answer.new.err_length) answer.new.place }
+    ensures accepted { IsAccepting result → IsDerivable source.now }
+    ensures safe { IsAccepting result → HasSafeCore source.now }
+{
+    written_forms_are_taken();
+    ask(
+        alloc,
+        &["judge", "source", "derivation"],
+        source,
+        Beside::Derivation(derivation),
+        out,
+        err,
+        answer,
+    )
+}
+
+/// Judges a derivation of the source as `judge` does, and writes it in version 2 of its text: a line for each node, with its note.
+pub fn upgrade(
+    alloc: Global,
+    source: &[u8],
+    derivation: &[u8],
+    out: &mut [u8],
+    err: &mut [u8],
+    answer: &mut Answer,
+) -> u8
+    ensures answers { Answers (IsUpgraded source.now derivation.now) (PointsIntoSource source.now) result (buffer out.old out.new answer.new.out_length) (buffer err.old err.new answer.new.err_length) answer.new.place }
+    ensures accepted { IsAccepting result → IsDerivable source.now }
+    ensures safe { IsAccepting result → HasSafeCore source.now }
+{
+    written_forms_are_taken();
+    ask(
+        alloc,
+        &["upgrade", "source", "derivation"],
+        source,
+        Beside::Derivation(derivation),
+        out,
+        err,
+        answer,
+    )
+}

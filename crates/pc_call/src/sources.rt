@@ -1,0 +1,81 @@
+//! The commands of a source alone.
+ghost use Rattle.std.specs.Prelude.{◌≡◌, ◌≢◌, ◌↔◌};
+ghost use Rattle.pc_refusals.specs.Verdict.{IsAccepting};
+ghost use Rattle.pc_top.specs.CoreOf.{HasSafeCore, IsDerivable, IsUnderivable};
+ghost use Rattle.pc_call.specs.Answers.{Answers, buffer};
+ghost use Rattle.pc_call.specs.Points.{PointsIntoSource};
+ghost use Rattle.pc_call.specs.Verdicts.{IsChecked, IsSendsOf, IsShown};
+
+use crate::Answer;
+use crate::asking::ask;
+use crate::beside::Beside;
+use pc_args::written_forms_are_taken;
+use pc_top::statuses_are_exact;
+use std::alloc::Global;
+
+/// Looks for a derivation of the source, and writes it.
+pub fn check(
+    alloc: Global,
+    source: &[u8],
+    out: &mut [u8],
+    err: &mut [u8],
+    answer: &mut Answer,
+) -> u8
+    ensures answers { Answers (IsChecked source.now) (PointsIntoSource source.now) result (buffer out.old out.new answer.new.out_length) (buffer err.old err.new answer.new.err_length) answer.new.place }
+    ensures exact { result ≢ 11 → ((result ≡ 0) ↔ IsDerivable source.now) × ((result ≡ 1) ↔ IsUnderivable source.now) }
+    ensures safe { IsAccepting result → HasSafeCore source.now }
+{
+    written_forms_are_taken();
+    statuses_are_exact();
+    ask(
+        alloc,
+        &["check", "source"],
+        source,
+        Beside::Nothing,
+        out,
+        err,
+        answer,
+    )
+}
+
+/// Prints the source.
+pub fn show(alloc: Global, source: &[u8], out: &mut [u8], err: &mut [u8], answer: &mut Answer) -> u8
+    ensures { Answers (IsShown source.now) (PointsIntoSource source.now) result (buffer out.old out.new answer.new.out_length) (buffer err.old err.new answer.new.err_length) answer.new.place }
+{
+    written_forms_are_taken();
+    ask(
+        alloc,
+        &["show", "source"],
+        source,
+        Beside::Nothing,
+        out,
+        err,
+        answer,
+    )
+}
+
+/// Reports which entity of the source may send which message in any run, and what is never sent.
+pub fn sends(
+    alloc: Global,
+    source: &[u8],
+    out: &mut [u8],
+    err: &mut [u8],
+    answer: &mut Answer,
+) -> u8
+    ensures answers { Answers (IsSendsOf source.now) (PointsIntoSource source.now) result (buffer out.old out.new answer.new.out_length) (buffer err.old err.new answer.new.err_length) answer.new.place }
+    ensures exact { result ≢ 11 → (result ≡ 1) ↔ IsUnderivable source.now }
+    ensures accepted { IsAccepting result → IsDerivable source.now }
+    ensures safe { IsAccepting result → HasSafeCore source.now }
+{
+    written_forms_are_taken();
+    statuses_are_exact();
+    ask(
+        alloc,
+        &["sends", "source"],
+        source,
+        Beside::Nothing,
+        out,
+        err,
+        answer,
+    )
+}
