@@ -1,0 +1,152 @@
+//! The commands for C: one export for each call of `pc_call`, with its contract.
+//!
+//! A slice crosses as a pointer and a length, and `Global` takes no bytes, so C passes nothing for it. `lib/rcap.h` has the
+//! declarations, and what a caller has to keep.
+#![tactic(auto)]
+
+ghost use Rattle.std.specs.Prelude.{◌≡◌, ◌≢◌, ◌↔◌};
+ghost use Rattle.pc_refusals.specs.Verdict.{IsAccepting};
+ghost use Rattle.pc_top.specs.CoreOf.{HasSafeCore, IsDerivable, IsUnderivable};
+ghost use Rattle.pc_call.specs.Answers.{Answers, buffer};
+ghost use Rattle.pc_call.specs.Points.{PointsIntoBoth, PointsIntoSource};
+ghost use Rattle.pc_call.specs.Verdicts.{IsChecked, IsJudged, IsRunOf, IsSendsOf, IsShown, IsSwapped, IsTraced, IsUpgraded, MayBePlace};
+
+use pc_call::Answer;
+use std::alloc::Global;
+
+/// Looks for a derivation of the source, and writes it.
+#[unsafe(no_mangle)]
+pub extern "C" fn rcap_check(
+    alloc: Global,
+    source: &[u8],
+    out: &mut [u8],
+    err: &mut [u8],
+    answer: &mut Answer,
+) -> u8
+    ensures answers { Answers (IsChecked source.now) (PointsIntoSource source.now) result (buffer out.old out.new answer.new.out_length) (buffer err.old err.new answer.new.err_length) answer.new.place }
+    ensures exact { result ≢ 11 → ((result ≡ 0) ↔ IsDerivable source.now) × ((result ≡ 1) ↔ IsUnderivable source.now) }
+    ensures safe { IsAccepting result → HasSafeCore source.now }
+{
+    pc_call::check(alloc, source, out, err, answer)
+}
+
+/// Says whether a text is a derivation of the source.
+#[unsafe(no_mangle)]
+pub extern "C" fn rcap_judge(
+    alloc: Global,
+    source: &[u8],
+    derivation: &[u8],
+    out: &mut [u8],
+    err: &mut [u8],
+    answer: &mut Answer,
+) -> u8
+    ensures answers { Answers (IsJudged source.now derivation.now) (PointsIntoSource source.now) result (buffer out.old out.new answer.new.out_length) (buffer err.old err.new answer.new.err_length) answer.new.place }
+    ensures accepted { IsAccepting result → IsDerivable source.now }
+    ensures safe { IsAccepting result → HasSafeCore source.now }
+{
+    pc_call::judge(alloc, source, derivation, out, err, answer)
+}
+
+/// Judges a derivation of the source as `judge` does, and writes it in version 2 of its text: a line for each node, with its note.
+#[unsafe(no_mangle)]
+pub extern "C" fn rcap_upgrade(
+    alloc: Global,
+    source: &[u8],
+    derivation: &[u8],
+    out: &mut [u8],
+    err: &mut [u8],
+    answer: &mut Answer,
+) -> u8
+    ensures answers { Answers (IsUpgraded source.now derivation.now) (PointsIntoSource source.now) result (buffer out.old out.new answer.new.out_length) (buffer err.old err.new answer.new.err_length) answer.new.place }
+    ensures accepted { IsAccepting result → IsDerivable source.now }
+    ensures safe { IsAccepting result → HasSafeCore source.now }
+{
+    pc_call::upgrade(alloc, source, derivation, out, err, answer)
+}
+
+/// Checks the source, and writes what it prints over the schedule.
+#[unsafe(no_mangle)]
+pub extern "C" fn rcap_run(
+    alloc: Global,
+    source: &[u8],
+    schedule: &[u8],
+    out: &mut [u8],
+    err: &mut [u8],
+    answer: &mut Answer,
+) -> u8
+    ensures answers { Answers (IsRunOf source.now schedule.now) (PointsIntoBoth source.now schedule.now) result (buffer out.old out.new answer.new.out_length) (buffer err.old err.new answer.new.err_length) answer.new.place }
+    ensures exact { result ≢ 11 → (result ≡ 1) ↔ IsUnderivable source.now }
+    ensures accepted { IsAccepting result → IsDerivable source.now }
+    ensures safe { IsAccepting result → HasSafeCore source.now }
+{
+    pc_call::run(alloc, source, schedule, out, err, answer)
+}
+
+/// Prints the source.
+#[unsafe(no_mangle)]
+pub extern "C" fn rcap_show(
+    alloc: Global,
+    source: &[u8],
+    out: &mut [u8],
+    err: &mut [u8],
+    answer: &mut Answer,
+) -> u8
+    ensures { Answers (IsShown source.now) (PointsIntoSource source.now) result (buffer out.old out.new answer.new.out_length) (buffer err.old err.new answer.new.err_length) answer.new.place }
+{
+    pc_call::show(alloc, source, out, err, answer)
+}
+
+/// Checks the source, and writes each access of its run over the schedule to a field, with its clock.
+#[unsafe(no_mangle)]
+pub extern "C" fn rcap_trace(
+    alloc: Global,
+    source: &[u8],
+    schedule: &[u8],
+    out: &mut [u8],
+    err: &mut [u8],
+    answer: &mut Answer,
+) -> u8
+    ensures answers { Answers (IsTraced source.now schedule.now) (PointsIntoBoth source.now schedule.now) result (buffer out.old out.new answer.new.out_length) (buffer err.old err.new answer.new.err_length) answer.new.place }
+    ensures exact { result ≢ 11 → (result ≡ 1) ↔ IsUnderivable source.now }
+    ensures accepted { IsAccepting result → IsDerivable source.now }
+    ensures safe { IsAccepting result → HasSafeCore source.now }
+{
+    pc_call::trace(alloc, source, schedule, out, err, answer)
+}
+
+/// Exchanges the turns at a place of the schedule, counted from 1, and at the next, or says why they stay. A place that is not from
+/// 1 to 9,999,999 is refused with 2.
+#[unsafe(no_mangle)]
+pub extern "C" fn rcap_swap(
+    alloc: Global,
+    source: &[u8],
+    schedule: &[u8],
+    place: u32,
+    out: &mut [u8],
+    err: &mut [u8],
+    answer: &mut Answer,
+) -> u8
+    ensures answers { Answers (IsSwapped source.now schedule.now place) (PointsIntoBoth source.now schedule.now) result (buffer out.old out.new answer.new.out_length) (buffer err.old err.new answer.new.err_length) answer.new.place }
+    ensures exact { MayBePlace place → result ≢ 11 → (result ≡ 1) ↔ IsUnderivable source.now }
+    ensures accepted { IsAccepting result → IsDerivable source.now }
+    ensures safe { IsAccepting result → HasSafeCore source.now }
+{
+    pc_call::swap(alloc, source, schedule, place, out, err, answer)
+}
+
+/// Reports which entity of the source may send which message in any run, and what is never sent.
+#[unsafe(no_mangle)]
+pub extern "C" fn rcap_sends(
+    alloc: Global,
+    source: &[u8],
+    out: &mut [u8],
+    err: &mut [u8],
+    answer: &mut Answer,
+) -> u8
+    ensures answers { Answers (IsSendsOf source.now) (PointsIntoSource source.now) result (buffer out.old out.new answer.new.out_length) (buffer err.old err.new answer.new.err_length) answer.new.place }
+    ensures exact { result ≢ 11 → (result ≡ 1) ↔ IsUnderivable source.now }
+    ensures accepted { IsAccepting result → IsDerivable source.now }
+    ensures safe { IsAccepting result → HasSafeCore source.now }
+{
+    pc_call::sends(alloc, source, out, err, answer)
+}

@@ -1,0 +1,145 @@
+"""What is asked, and what the program answers to it."""
+
+import dataclasses
+import functools
+import pathlib
+import re
+import subprocess
+import tempfile
+
+import built
+
+# The names that the library has for its texts.
+SOURCE, DERIVATION, SCHEDULE = "source", "derivation", "schedule"
+
+OF_SOURCE = ("check", "show", "sends")
+OF_DERIVATION = ("judge", "upgrade")
+OF_SCHEDULE = ("run", "trace")
+
+PLACES = (0, 1, 2, 88, 9_999_999, 10_000_000, 4_294_967_295)
+
+# Sources beside those of the examples: none, line ends, every byte, a fault at the end of many lines, of one long line and of the
+# longest text, and a text that is too long.
+MORE_SOURCES = (
+    b"",
+    b"\n\n\r\n",
+    bytes(range(256)),
+    b"class C\n" * 500 + b"?",
+    b" " * 5000 + b"?",
+    b"actor Main" + b"\n" * (1_048_576 - 11) + b"?",
+    b" " * 1_048_577,
+)
+SCHEDULES = (b"", b"1*200 0*10", b"7 1*0 x", b"1*1000000 0", b"1*200 2*300 3*300 0*10\n", b"\n\n 1*7 +", b" " * 1_048_577)
+DERIVATIONS = (b"", b"rcap-derivation 1 4 7\ns 6 ref\nx\n", b"rcap-derivation 1 700000 7\n")
+
+LINE = re.compile(rb"(source|schedule):(\d+):(\d+): ")
+
+
+@dataclasses.dataclass(frozen=True)
+class Case:
+    """A command, its source, the text beside it, if there is one, and a place, if it has one."""
+
+    command: str
+    source: bytes
+    beside: bytes | None = None
+    place: int | None = None
+
+    def beside_name(self):
+        return DERIVATION if self.command in OF_DERIVATION else SCHEDULE
+
+    def title(self):
+        beside = "" if self.beside is None else f", {self.beside[:20]!r} of {len(self.beside)}"
+        return f"{self.command} {self.source[:30]!r} of {len(self.source)}{beside}, place {self.place}"
+
+
+@dataclasses.dataclass(frozen=True)
+class Answer:
+    """What is answered: a status, both texts, and the text, line, column and offset of the place."""
+
+    status: int
+    out: bytes
+    err: bytes
+    place: tuple
+
+
+def place_of(case, line):
+    """The place that a line names, worked out from the line and the text."""
+    found = LINE.match(line)
+    if found is None:
+        return 0, 0, 0, 0
+    number = 1 if found[1] == b"source" else 2
+    text = case.source if number == 1 else case.beside
+    row, column = int(found[2]), int(found[3])
+    before = text.split(b"\n")[: row - 1]
+    return number, row, column, sum(len(it) + 1 for it in before) + column - 1
+
+
+def write(case, folder):
+    """Writes the texts of a case into a folder, and returns the words that name them."""
+    words = [case.command, SOURCE]
+    (folder / SOURCE).write_bytes(case.source)
+    if case.beside is not None:
+        (folder / case.beside_name()).write_bytes(case.beside)
+        words.append(case.beside_name())
+    return words if case.place is None else [*words, str(case.place)]
+
+
+@functools.cache
+def wanted(case):
+    """What the program answers, over files that have the names which the library has for its texts."""
+    with tempfile.TemporaryDirectory() as folder:
+        words = write(case, pathlib.Path(folder))
+        ran = subprocess.run([built.program, *words], cwd=folder, stdin=subprocess.DEVNULL, capture_output=True, check=False)
+    return Answer(ran.returncode, ran.stdout, ran.stderr, place_of(case, ran.stderr))
+
+
+@functools.cache
+def sources():
+    """The sources of all examples, and more."""
+    return (*(it.read_bytes() for it in sorted((built.TOP / "examples").rglob("*.pony"))), *MORE_SOURCES)
+
+
+def derivations(source):
+    """Texts that are judged for a source: some that are none, those of another source, and its own in both versions."""
+    first = (built.TOP / "examples" / "first.pony").read_bytes()
+    yield from DERIVATIONS
+    for it in (first, source):
+        own = wanted(Case("check", it))
+        if own.status == 0:
+            yield own.out
+            yield wanted(Case("upgrade", it, own.out)).out
+
+
+@functools.cache
+def all_cases():
+    """Every case."""
+    schedules = (*(it.read_bytes() for it in sorted((built.TOP / "examples").rglob("*.sched"))), *SCHEDULES)
+    found = []
+    for source in sources():
+        found += [Case(command, source) for command in OF_SOURCE]
+        found += [Case(command, source, it) for command in OF_DERIVATION for it in derivations(source)]
+        found += [Case(command, source, it) for command in OF_SCHEDULE for it in schedules]
+        found += [Case("swap", source, it, place) for it in schedules[:3] for place in PLACES]
+    return tuple(dict.fromkeys(found))
+
+
+def small_cases():
+    """One or two cases of each command, which are soon answered."""
+    examples = built.TOP / "examples"
+    first, refused, bank = ((examples / name).read_bytes() for name in ("first.pony", "refused.pony", "bank.pony"))
+    readers, turns = (examples / "readers.pony").read_bytes(), (examples / "readers.sched").read_bytes()
+    schedule = (examples / "bank.sched").read_bytes()
+    own = wanted(Case("check", first)).out
+    return (
+        Case("check", first),
+        Case("check", refused),
+        Case("show", bank),
+        Case("sends", (examples / "unsent.pony").read_bytes()),
+        Case("judge", first, own),
+        Case("judge", first, DERIVATIONS[1]),
+        Case("upgrade", first, own),
+        Case("run", bank, schedule),
+        Case("run", bank, b"7 1*0 x"),
+        Case("trace", readers, turns),
+        Case("swap", readers, turns, 88),
+    )

@@ -1,0 +1,115 @@
+"""The header in C++, and the examples in C, Rust and Python."""
+
+import os
+import pathlib
+import re
+import shutil
+import sys
+import tempfile
+import unittest
+
+import built
+
+ACCEPTED = "class C\nactor Main\n  new create(env: Env) =>\n    let a: C iso = C\n"
+REFUSED = ACCEPTED + "    let b: C iso = a\n"
+
+# Worked out by hand from the rules.
+DERIVATION = """rcap-derivation 1 4 7
+s 6 ref
+s 7 ref
+s 4 val
+s 6 iso
+n prim 0 val 1 0 1 0
+n seq 0 val 1 0 1 0
+n body - 1 0 1 0
+n new 6 iso^ 3 0 3 0
+n define - 3 0 7 0
+n seq - 3 0 3 0
+n body - 3 0 3 0
+"""
+REFUSAL = """b.pony: status 1, line 5, column 5, byte 70
+source:5:5: no rule
+    let b: C iso = a
+    ^
+"""
+
+ACCEPTED_LINE = f"a.pony: accepted, with a derivation of {len(DERIVATION)} bytes\n"
+
+
+class Examples(unittest.TestCase):
+    """What is shown to callers compiles without a warning, and answers what was worked out by hand."""
+
+    def setUp(self):
+        room = tempfile.TemporaryDirectory(prefix="lib-test-")
+        self.addCleanup(room.cleanup)
+        self.room = pathlib.Path(room.name)
+        for name, text in {"a.pony": ACCEPTED, "b.pony": REFUSED, "empty.pony": ""}.items():
+            (self.room / name).write_text(text)
+
+    def test_header_in_cpp(self):
+        source = self.room / "asks.cpp"
+        source.write_text(ASKS)
+        for compiler in built.CPP_COMPILERS:
+            program = self.room / compiler
+            built.must([compiler, "-std=c++11", *built.WARNINGS, "-I", built.LIB, "-o", program, source, built.library / "librcap.a"])
+            built.must([program])
+
+    def test_header_is_whole(self):
+        self.assertEqual((built.library / "rcap.h").read_bytes(), (built.LIB / "rcap.h").read_bytes())
+
+    def test_c(self):
+        for compiler in built.COMPILERS:
+            program = built.compiled(compiler, (built.LIB / "example.c",))
+            for name, status, out in (("a.pony", 0, DERIVATION), ("b.pony", 1, REFUSAL)):
+                ran = built.run([program, name], cwd=self.room)
+                self.assertEqual((ran.returncode, ran.stdout.decode(), ran.stderr), (status, out, b""))
+            ran = built.run([program, "empty.pony"], cwd=self.room)
+            self.assertEqual(ran.stdout.decode(), "empty.pony: status 3, line 1, column 1, byte 0\nsource:1:1: unexpected\n\n^\n")
+
+    def test_confirming(self):
+        for compiler in built.COMPILERS:
+            ran = built.must([built.compiled(compiler, (built.LIB / "confirm.c",))])
+            self.assertEqual(ran.stdout, b"confirmed\nnot confirmed\n")
+            self.assertEqual(ran.stderr, b"internal error: derivation: node 3\n")
+
+    def test_page_shows_the_example(self):
+        page = (built.TOP / "docs" / "library.md").read_text()
+        shown = re.findall(r"```c\n(.*?)```", page, re.DOTALL)
+        self.assertTrue(shown)
+        for block in shown:
+            self.assertIn(block, (built.LIB / "confirm.c").read_text())
+
+    def test_python(self):
+        copy = self.room / "lib" / "python"
+        shutil.copytree(built.LIB / "python", copy, ignore=shutil.ignore_patterns("__pycache__"))
+        (self.room / "out").mkdir()
+        (self.room / "out" / "lib").symlink_to(built.library)
+        ran = built.must([sys.executable, "-B", copy / "example.py", "a.pony", "b.pony"], cwd=self.room)
+        wanted = ACCEPTED_LINE + "b.pony: status 1, line 5, column 5, byte 70: source:5:5: no rule\n"
+        self.assertEqual(ran.stdout.decode(), wanted)
+
+    def test_rust(self):
+        copy = self.room / "lib" / "rust"
+        shutil.copytree(built.LIB / "rust", copy, ignore=shutil.ignore_patterns("target"))
+        (self.room / "out").mkdir()
+        (self.room / "out" / "lib").symlink_to(built.library)
+        surroundings = {**os.environ, "CARGO_TARGET_DIR": str(self.room / "target"), "RUSTC_WRAPPER": ""}
+        surroundings.pop("RUSTFLAGS", None)
+        built.must(["cargo", "test", "--offline", "--quiet"], cwd=copy, env=surroundings)
+        words = ["cargo", "run", "--offline", "--quiet", "--example", "check", "--", self.room / "a.pony", self.room / "b.pony"]
+        ran = built.must(words, cwd=copy, env=surroundings)
+        wanted = ACCEPTED_LINE + "b.pony: NoDerivation, line 5, column 5, byte 70: source:5:5: no rule\n"
+        self.assertEqual(ran.stdout.decode().replace(f"{self.room}/", ""), wanted)
+
+
+ASKS = """
+#include "rcap.h"
+#include <cstring>
+int main() {
+    unsigned char out[64], err[64];
+    rcap_answer answer;
+    const char *source = "actor Main";
+    unsigned char status = rcap_show(reinterpret_cast<const unsigned char *>(source), std::strlen(source), out, sizeof out, err, sizeof err, &answer);
+    return status == RCAP_DONE && answer.place.text == RCAP_NOWHERE ? 0 : 1;
+}
+"""
