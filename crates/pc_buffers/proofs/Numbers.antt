@@ -1,6 +1,6 @@
 -- A line that begins with a name and two numbers.
-use Rattle.std.proofs.Common.{◌≡◌, ◌≤◌, ℕ, true, List, [], ◌∷◌, ◌++◌, Option, Some, None, refl, sym, ap, ◌∙◌, subst, append_assoc}
-use Rattle.std.specs.Prelude.{is_some, codes, decimal, length, take}
+use Rattle.std.proofs.Common.{◌≡◌, ℕ, true, ◌∷◌, ◌++◌, Option, Some, None, sym, ap, ◌∙◌, append_assoc}
+use Rattle.std.specs.Prelude.{is_some, codes, decimal, take}
 use Rattle.std.proofs.lemmas.Option.{same_Some}
 use Rattle.pc_deriv.specs.Reading.{after}
 use Rattle.pc_deriv.proofs.NameReading.{after_sound, after_own}
@@ -8,9 +8,9 @@ use Rattle.pc_lists.specs.Options.{◌>>=◌}
 use Rattle.pc_lists.specs.Texts.{Text}
 use Rattle.pc_lists.proofs.Options.{none_some, bind_some, bind_is}
 use Rattle.pc_refusals.specs.Place.{line_behind, column_behind}
-use Rattle.pc_buffers.specs.Finding.{AreOf, FindsIn}
+use Rattle.pc_buffers.specs.Finding.{FindsIn}
 use Rattle.pc_buffers.specs.Fronts.{after_word, after_numbers}
-use Rattle.pc_buffers.specs.Places.{BeginsWith, Finds, PointsTo, place_front}
+use Rattle.pc_buffers.specs.Places.{BeginsWith, Finds, place_front}
 use Rattle.pc_buffers.specs.declared.place.Place.{Place}
 use Rattle.pc_buffers.proofs.Options.{some_is}
 

@@ -1,5 +1,5 @@
 -- The bytes of a text up to a mark.
-use Rattle.std.proofs.Common.{◌≡◌, ◌<◌, ◌≤◌, ℕ, ◌+◌, Bool, true, false, cond, List, get_or, length, take, refl, sym, ap, ap₂, ◌∙◌, subst, true≢false, below_more, arith}
+use Rattle.std.proofs.Common.{◌≡◌, ◌<◌, ◌≤◌, ℕ, ◌+◌, true, false, cond, get_or, length, take, refl, sym, ap, ap₂, ◌∙◌, subst, true≢false, below_more, arith}
 use Rattle.std.specs.Prelude.{is_some, decimal}
 use Rattle.pc_lists.specs.Texts.{Text}
 use Rattle.pc_refusals.specs.Place.{is_line_end, line_behind, column_behind}

@@ -1,5 +1,5 @@
 -- Where in a text two numbers point, which are all that is left of a line. The contract of a part of `find_place` speaks of it.
-use Rattle.std.specs.Prelude.{ℕ, ◌≡◌, ◌≤◌, true, List, length, take, is_some, Option, Some, None}
+use Rattle.std.specs.Prelude.{ℕ, ◌≡◌, ◌≤◌, true, length, take, is_some, Option, Some, None}
 use Rattle.pc_lists.specs.Texts.{Text}
 use Rattle.pc_refusals.specs.Place.{line_behind, column_behind}
 use Rattle.pc_buffers.specs.Fronts.{after_numbers}

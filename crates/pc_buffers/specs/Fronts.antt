@@ -1,5 +1,5 @@
 -- What follows the front of a line. The contracts of the parts of `find_place` speak of it.
-use Rattle.std.specs.Prelude.{ℕ, ◌∷◌, [], codes, decimal, Option}
+use Rattle.std.specs.Prelude.{ℕ, codes, decimal, Option}
 use Rattle.pc_deriv.specs.Reading.{after}
 use Rattle.pc_lists.specs.Options.{◌>>=◌}
 use Rattle.pc_lists.specs.Texts.{Text}

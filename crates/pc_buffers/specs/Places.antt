@@ -1,5 +1,5 @@
 -- Where a line points.
-use Rattle.std.specs.Prelude.{ℕ, ◌≡◌, ◌≤◌, ◌++◌, List, length, take, codes, decimal, Option, Some, None}
+use Rattle.std.specs.Prelude.{ℕ, ◌≡◌, ◌≤◌, ◌++◌, length, take, codes, decimal, Option, Some, None}
 use Rattle.pc_lists.specs.Texts.{Text}
 use Rattle.pc_refusals.specs.Place.{line_behind, column_behind}
 use Rattle.pc_buffers.specs.declared.place.Place.{Place}

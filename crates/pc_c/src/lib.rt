@@ -6,7 +6,8 @@
 
 ghost use Rattle.std.specs.Prelude.{◌≡◌, ◌≢◌, ◌↔◌};
 ghost use Rattle.pc_refusals.specs.Verdict.{IsAccepting};
-ghost use Rattle.pc_top.specs.CoreOf.{HasSafeCore, IsDerivable, IsUnderivable};
+ghost use Rattle.pc_top.specs.CoreOf.{HasIsolatedCore, HasSafeCore, IsDerivable, IsUnderivable};
+ghost use Rattle.pc_top.specs.Exact.{IsDerivationOf};
 ghost use Rattle.pc_call.specs.Answers.{Answers, buffer};
 ghost use Rattle.pc_call.specs.Points.{PointsIntoBoth, PointsIntoSource};
 ghost use Rattle.pc_call.specs.Verdicts.{IsChecked, IsJudged, IsRunOf, IsSendsOf, IsShown, IsSwapped, IsTraced, IsUpgraded, MayBePlace};
@@ -26,6 +27,7 @@ pub extern "C" fn rcap_check(
     ensures answers { Answers (IsChecked source.now) (PointsIntoSource source.now) result (buffer out.old out.new answer.new.out_length) (buffer err.old err.new answer.new.err_length) answer.new.place }
     ensures exact { result ≢ 11 → ((result ≡ 0) ↔ IsDerivable source.now) × ((result ≡ 1) ↔ IsUnderivable source.now) }
     ensures safe { IsAccepting result → HasSafeCore source.now }
+    ensures isolated { IsAccepting result → HasIsolatedCore source.now }
 {
     pc_call::check(alloc, source, out, err, answer)
 }
@@ -41,8 +43,10 @@ pub extern "C" fn rcap_judge(
     answer: &mut Answer,
 ) -> u8
     ensures answers { Answers (IsJudged source.now derivation.now) (PointsIntoSource source.now) result (buffer out.old out.new answer.new.out_length) (buffer err.old err.new answer.new.err_length) answer.new.place }
+    ensures exact { result ≢ 11 → (result ≡ 0) ↔ IsDerivationOf source.now derivation.now }
     ensures accepted { IsAccepting result → IsDerivable source.now }
     ensures safe { IsAccepting result → HasSafeCore source.now }
+    ensures isolated { IsAccepting result → HasIsolatedCore source.now }
 {
     pc_call::judge(alloc, source, derivation, out, err, answer)
 }
@@ -58,8 +62,10 @@ pub extern "C" fn rcap_upgrade(
     answer: &mut Answer,
 ) -> u8
     ensures answers { Answers (IsUpgraded source.now derivation.now) (PointsIntoSource source.now) result (buffer out.old out.new answer.new.out_length) (buffer err.old err.new answer.new.err_length) answer.new.place }
+    ensures exact { result ≢ 11 → (result ≡ 0) ↔ IsDerivationOf source.now derivation.now }
     ensures accepted { IsAccepting result → IsDerivable source.now }
     ensures safe { IsAccepting result → HasSafeCore source.now }
+    ensures isolated { IsAccepting result → HasIsolatedCore source.now }
 {
     pc_call::upgrade(alloc, source, derivation, out, err, answer)
 }
@@ -78,6 +84,7 @@ pub extern "C" fn rcap_run(
     ensures exact { result ≢ 11 → (result ≡ 1) ↔ IsUnderivable source.now }
     ensures accepted { IsAccepting result → IsDerivable source.now }
     ensures safe { IsAccepting result → HasSafeCore source.now }
+    ensures isolated { IsAccepting result → HasIsolatedCore source.now }
 {
     pc_call::run(alloc, source, schedule, out, err, answer)
 }
@@ -110,6 +117,7 @@ pub extern "C" fn rcap_trace(
     ensures exact { result ≢ 11 → (result ≡ 1) ↔ IsUnderivable source.now }
     ensures accepted { IsAccepting result → IsDerivable source.now }
     ensures safe { IsAccepting result → HasSafeCore source.now }
+    ensures isolated { IsAccepting result → HasIsolatedCore source.now }
 {
     pc_call::trace(alloc, source, schedule, out, err, answer)
 }
@@ -130,6 +138,7 @@ pub extern "C" fn rcap_swap(
     ensures exact { MayBePlace place → result ≢ 11 → (result ≡ 1) ↔ IsUnderivable source.now }
     ensures accepted { IsAccepting result → IsDerivable source.now }
     ensures safe { IsAccepting result → HasSafeCore source.now }
+    ensures isolated { IsAccepting result → HasIsolatedCore source.now }
 {
     pc_call::swap(alloc, source, schedule, place, out, err, answer)
 }
@@ -147,6 +156,7 @@ pub extern "C" fn rcap_sends(
     ensures exact { result ≢ 11 → (result ≡ 1) ↔ IsUnderivable source.now }
     ensures accepted { IsAccepting result → IsDerivable source.now }
     ensures safe { IsAccepting result → HasSafeCore source.now }
+    ensures isolated { IsAccepting result → HasIsolatedCore source.now }
 {
     pc_call::sends(alloc, source, out, err, answer)
 }

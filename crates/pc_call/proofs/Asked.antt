@@ -1,8 +1,8 @@
 -- From the answer of `rcap` over files in memory to that of a call.
-use Rattle.std.proofs.Common.{◌≡◌, ℕ, List, [], ◌∷◌, Option, Some, None, inl, inr, refl, subst, arith}
-use Rattle.std.specs.Prelude.{◌⊎◌, length}
+use Rattle.std.proofs.Common.{◌≡◌, ℕ, List, [], Option, Some, None, inl, inr, refl, subst, arith}
+use Rattle.std.specs.Prelude.{◌⊎◌, Result, length}
 use Rattle.std.specs.Io.KnownBytes.{Appends}
-use Rattle.pc_args.specs.Asked.{Asked, command_of}
+use Rattle.pc_args.specs.Asked.{Asked, check, command_of, judge, make, run, sends, show, swap, trace, upgrade}
 use Rattle.pc_buffers.specs.Laying.{laid}
 use Rattle.pc_buffers.specs.Places.{no_place}
 use Rattle.pc_buffers.specs.declared.place.Place.{Place}
@@ -10,25 +10,39 @@ use Rattle.pc_io.specs.Change.{change}
 use Rattle.pc_io.specs.Sink.{Rose}
 use Rattle.pc_io.specs.declared.entries.Entry.{Entry}
 use Rattle.pc_lists.specs.Texts.{Text}
+use Rattle.pc_refusals.specs.Accepting.{AcceptedStage}
 use Rattle.pc_refusals.specs.Complete.{Completes}
-use Rattle.pc_refusals.specs.Named.{FailedAmong}
+use Rattle.pc_refusals.specs.FromFile.{FailedInTurn}
+use Rattle.pc_refusals.specs.Named.{FailedAt, Reading, named}
+use Rattle.pc_refusals.specs.Source.{SourceStage, source_limit}
 use Rattle.pc_refusals.specs.Verdict.{IsAccepting, Verdict}
-use Rattle.pc_top.specs.Asked.{FailedIn, FailedOf, IsVerdict}
-use Rattle.pc_top.specs.Commands.{files_of}
+use Rattle.pc_top.specs.Asked.{FailedIn, IsVerdict}
+use Rattle.pc_top.specs.Commands.{FailedOf}
 use Rattle.pc_call.specs.Answers.{Answers, Buffer, Holds, buffer, no_memory, verdict}
 use Rattle.pc_call.specs.Inner.Shelves.{HoldsTexts, IsVerdictOn, shelf}
 use Rattle.pc_call.specs.Points.{Pointing, Points}
 use Rattle.pc_call.specs.declared.beside.Beside.{Beside}
 
 -- no reading of a shelf fails
-never_among : (entries : List Entry) (taken : ℕ) (names : List Text) (name : Text) → FailedAmong (shelf entries taken) names name → ⊥
-never_among entries taken [] name f = f
-never_among entries taken (n ∷ ns) name (inl f) = omega (arith, f.1)
-never_among entries taken (n ∷ ns) name (inr f) = never_among entries taken ns name f
+never_at : (entries : List Entry) (taken : ℕ) (n name : Text) → FailedAt (named (shelf entries taken) n) name → ⊥
+never_at entries taken n name f = omega (arith, f.1)
+
+never_in_turn : {T : Type 0} → (entries : List Entry) (taken : ℕ) (a b : Text) (limit : ℕ) (Stages : Reading → Result T Verdict → Type 0) (name : Text)
+    → FailedInTurn (named (shelf entries taken) a) limit Stages (named (shelf entries taken) b) name → ⊥
+never_in_turn entries taken a b limit Stages name (inl f) = never_at entries taken a name f
+never_in_turn entries taken a b limit Stages name (inr f) = never_at entries taken b name f.1
 
 never_fails : (entries : List Entry) (taken : ℕ) (asked : Option Asked) (name : Text) → FailedOf (shelf entries taken) asked name → ⊥
 never_fails entries taken None name f = f
-never_fails entries taken (Some asked) name f = never_among entries taken (files_of asked) name f
+never_fails entries taken (Some (check source)) name f = never_at entries taken source name f
+never_fails entries taken (Some (judge source derivation)) name f = never_in_turn entries taken source derivation source_limit (SourceStage source) name f
+never_fails entries taken (Some (run source schedule)) name f = never_in_turn entries taken source schedule source_limit (AcceptedStage source) name f
+never_fails entries taken (Some (show source)) name f = never_at entries taken source name f
+never_fails entries taken (Some (make seed size)) name f = f
+never_fails entries taken (Some (swap source schedule place)) name f = never_in_turn entries taken source schedule source_limit (AcceptedStage source) name f.1
+never_fails entries taken (Some (trace source schedule)) name f = never_in_turn entries taken source schedule source_limit (AcceptedStage source) name f
+never_fails entries taken (Some (sends source)) name f = never_at entries taken source name f
+never_fails entries taken (Some (upgrade source derivation)) name f = never_in_turn entries taken source derivation source_limit (SourceStage source) name f
 
 -- a count that stands did not rise
 never_rose : Rose 0 0 → ⊥

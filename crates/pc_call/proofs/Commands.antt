@@ -1,8 +1,7 @@
 -- What each call asks for.
-use Rattle.std.proofs.Common.{◌≡◌, ◌<◌, ℕ, List, [], ◌∷◌, Option, Some, refl, subst, true}
+use Rattle.std.proofs.Common.{◌≡◌, ◌<◌, ℕ, List, [], Option, Some, refl, subst, true}
 use Rattle.std.specs.Prelude.{◌^◌, codes, decimal, unwrap_or}
 use Rattle.std.specs.Borrow.{Bor}
-use Rattle.std.specs.declared.result.Result.{Result}
 use Rattle.pc_args.specs.Asked.{Asked, check, command_of, judge, run, sends, show, swap, trace, upgrade}
 use Rattle.pc_args.specs.Forms.{WrittenFormsAreTaken, check_words, is_plain, judge_words, run_words, sends_words, show_words, swap_words, trace_words, upgrade_words}
 use Rattle.pc_deriv.specs.Text.{deriv_text}

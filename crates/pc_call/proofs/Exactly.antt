@@ -1,11 +1,12 @@
 -- What the statuses of a call say of its source.
 use Rattle.std.proofs.Common.{◌≡◌, ◌≤◌, ◌<◌, ◌∙◌, ℕ, Bool, true, false, not, List, [], ◌∷◌, Option, Some, refl, sym, ap, subst, arith}
-use Rattle.std.specs.Prelude.{◌≢◌, ◌↔◌, ◌^◌, ◌==◌, IfSome, IsTrue, codes, decimal, unwrap_or}
+use Rattle.std.specs.Prelude.{◌≢◌, ◌↔◌, ◌^◌, ◌==◌, IsTrue, codes, decimal, unwrap_or}
+use Rattle.std.specs.Borrow.{Bor}
 use Rattle.std.specs.Char.{digit_value}
 use Rattle.std.specs.Str.Parse.{IsNumeral}
 use Rattle.std.proofs.lemmas.Bool.{eqb-true}
 use Rattle.std.proofs.lemmas.Fmt.{decimal_is_IsNumeral, length-decimal-le}
-use Rattle.pc_args.specs.Asked.{Asked, check, command_of, run, sends, swap, trace}
+use Rattle.pc_args.specs.Asked.{Asked, check, command_of, judge, run, sends, swap, trace, upgrade}
 use Rattle.pc_args.specs.Forms.{is_plain}
 use Rattle.pc_buffers.specs.declared.place.Place.{Place}
 use Rattle.pc_io.specs.Entries.{held_or_empty}
@@ -15,11 +16,12 @@ use Rattle.pc_top.specs.Asked.{OfFile, OfSource}
 use Rattle.pc_top.specs.Commands.{infers, source_of}
 use Rattle.pc_top.specs.Commands.Swap.{IsPlace}
 use Rattle.pc_top.specs.CoreOf.{IsDerivable, IsUnderivable}
-use Rattle.pc_top.specs.Exact.{HasNumber, ReadsSource, StatusesAreExact}
+use Rattle.pc_top.specs.Exact.{HasNumber, IsDerivationOf, JudgedAreExact, ReadsBoth, ReadsSource, StatusesAreExact}
 use Rattle.pc_call.specs.Answers.{Answers, Buffer, no_memory, verdict}
 use Rattle.pc_call.specs.Inner.Shelves.{IsVerdictOn, OfSourceOn, shelf}
 use Rattle.pc_call.specs.Points.{Pointing}
 use Rattle.pc_call.specs.declared.beside.Beside.{Beside}
+use Rattle.pc_call.specs.declared.beside.Beside.TheVariants.{Derivation}
 
 -- What holds of the source that the words name holds of the call's.
 pub of_source : (Is : Text → Type 0) (asked : Asked) (words : List Text) (source : Text) (beside : Beside) → command_of words ≡ Some asked → source_of asked ≡ Some (codes "source")
@@ -54,6 +56,34 @@ pub derivable : StatusesAreExact → (words : List Text) (source : Text) (beside
 derivable exact words source beside asks number P status a b place (verdict v h e l m p) other =
     subst (λ (s : ℕ). (s ≡ 0) ↔ IsDerivable source) (sym e) (exact.accepted (shelf h.0 h.2) words (codes "source") source v (reads exact (check (codes "source")) words source beside asks refl number v h))
 derivable exact words source beside asks number P status a b place (no_memory e l m p) other = absurd (other e)
+
+-- ---- a derivation
+
+module _ (exact : JudgedAreExact) (words : List Text) (source : Text) (derivation : Bor Text) where
+  -- a verdict over the files of the call is one that reads both
+  reads_both : (asked : Asked) → command_of words ≡ Some asked → (v : Verdict) (h : IsVerdictOn source (Derivation derivation) words v)
+      → ReadsBoth (shelf h.0 h.2) words asked (codes "source") (codes "derivation") source derivation.now v
+  reads_both asked asks v h = record {
+    asks = asks;
+    tells = ap (λ (o : Option Text). Some (unwrap_or o [])) h.1.0;
+    tells_text = ap (λ (o : Option Text). Some (unwrap_or o [])) h.1.1;
+    unfailed = (refl, (refl, tt));
+    verdict = h.3;
+  }
+
+  pub judge_exactly : command_of words ≡ Some (judge (codes "source") (codes "derivation")) → (P : Pointing) (status : ℕ) (a b : Buffer) (place : Place)
+      → Answers (IsVerdictOn source (Derivation derivation) words) P status a b place → status ≢ 11 → (status ≡ 0) ↔ IsDerivationOf source derivation.now
+  judge_exactly asks P status a b place (verdict v h e l m p) other =
+      subst (λ (s : ℕ). (s ≡ 0) ↔ IsDerivationOf source derivation.now) (sym e)
+      (exact.judged (shelf h.0 h.2) words (codes "source") (codes "derivation") source derivation.now v (reads_both (judge (codes "source") (codes "derivation")) asks v h))
+  judge_exactly asks P status a b place (no_memory e l m p) other = absurd (other e)
+
+  pub upgrade_exactly : command_of words ≡ Some (upgrade (codes "source") (codes "derivation")) → (P : Pointing) (status : ℕ) (a b : Buffer) (place : Place)
+      → Answers (IsVerdictOn source (Derivation derivation) words) P status a b place → status ≢ 11 → (status ≡ 0) ↔ IsDerivationOf source derivation.now
+  upgrade_exactly asks P status a b place (verdict v h e l m p) other =
+      subst (λ (s : ℕ). (s ≡ 0) ↔ IsDerivationOf source derivation.now) (sym e)
+      (exact.upgraded (shelf h.0 h.2) words (codes "source") (codes "derivation") source derivation.now v (reads_both (upgrade (codes "source") (codes "derivation")) asks v h))
+  upgrade_exactly asks P status a b place (no_memory e l m p) other = absurd (other e)
 
 -- ---- the number among the words
 

@@ -1,5 +1,5 @@
 -- The files of a call have its texts.
-use Rattle.std.proofs.Common.{◌≡◌, ◌∙◌, ℕ, List, Some}
+use Rattle.std.proofs.Common.{◌∙◌, List}
 use Rattle.std.specs.Prelude.{codes}
 use Rattle.pc_io.specs.declared.entries.Entry.{Entry}
 use Rattle.pc_lists.specs.Texts.{Text}

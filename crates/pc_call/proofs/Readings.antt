@@ -1,20 +1,18 @@
 -- A file whose bytes are known is read as its text is, however many bytes the last reading took.
-use Rattle.std.proofs.Common.{◌≡◌, ℕ, Some, refl, arith}
-use Rattle.std.specs.Prelude.{◌<◌, ◌+◌, Result, length, codes}
+use Rattle.std.proofs.Common.{ℕ, Some, refl, arith}
+use Rattle.std.specs.Prelude.{◌<◌, Result, length, codes}
 use Rattle.pc_ann.specs.declared.annotation.Ann.{Ann}
 use Rattle.pc_lists.specs.Texts.{Text}
 use Rattle.pc_refusals.specs.Accepting.{AcceptedStage}
-use Rattle.pc_refusals.specs.Derivation.{DerivationStage, Judging, derivation_limit, in_parts}
+use Rattle.pc_refusals.specs.Derivation.{DerivationStage, derivation_limit, in_parts}
 use Rattle.pc_refusals.specs.FromFile.{FromFile, goes_on, refuses}
 use Rattle.pc_refusals.specs.Named.{IsReadingOf, Named, Reading, longer, text_as, whole}
 use Rattle.pc_refusals.specs.Schedule.{ScheduleStage}
 use Rattle.pc_refusals.specs.Source.{SourceStage, source_limit}
-use Rattle.pc_refusals.specs.Verdict.{EndsAs, EndsWith, Verdict}
-use Rattle.pc_refusals.specs.declared.typing.Accepted.{Accepted}
-use Rattle.pc_run.specs.Spreading.{spread}
+use Rattle.pc_refusals.specs.Verdict.{EndsWith, Verdict}
 use Rattle.pc_sched.specs.Limits.{schedule_limit}
 use Rattle.pc_top.specs.Commands.Swap.{IsSwap, Swapping, no_number, placed}
-use Rattle.pc_top.specs.Shapes.{LastOfTurns, OfAccepted, OfDerivation, OfScheduled, OfTurns}
+use Rattle.pc_top.specs.Shapes.{LastOfTurns, OfDerivation, OfScheduled, OfTurns}
 use Rattle.pc_call.specs.Verdicts.{derivation_file, schedule_file, source_file}
 
 -- The file of this name with these bytes, of which the last reading took so many.

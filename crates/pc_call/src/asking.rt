@@ -2,7 +2,7 @@
 ghost use Rattle.std.specs.Prelude.{◌≡◌};
 ghost use Rattle.pc_args.specs.Asked.{texts};
 ghost use Rattle.pc_refusals.specs.Verdict.{IsAccepting};
-ghost use Rattle.pc_top.specs.CoreOf.{HasSafeCore, IsDerivable};
+ghost use Rattle.pc_top.specs.CoreOf.{HasIsolatedCore, HasSafeCore, IsDerivable};
 ghost use Rattle.pc_call.specs.Answers.{Answers, buffer};
 ghost use Rattle.pc_call.specs.Inner.Shelves.{HoldsTexts, IsVerdictOn, OfSourceOn};
 ghost use Rattle.pc_call.specs.Points.{Points};
@@ -31,6 +31,7 @@ fn ask_files(
     ensures answers { Answers (IsVerdictOn source.now beside.entry (texts words.now)) (Points source.now beside.entry) result (buffer out.old out.new answer.new.out_length) (buffer err.old err.new answer.new.err_length) answer.new.place }
     ensures accepted { IsAccepting result → OfSourceOn IsDerivable source.now beside.entry (texts words.now) }
     ensures safe { IsAccepting result → OfSourceOn HasSafeCore source.now beside.entry (texts words.now) }
+    ensures isolated { IsAccepting result → OfSourceOn HasIsolatedCore source.now beside.entry (texts words.now) }
 {
     let mut to_out = NeverSink::new(alloc);
     let mut to_err = NeverSink::new(alloc);
@@ -58,6 +59,7 @@ pub fn ask(
     ensures answers { Answers (IsVerdictOn source.now beside.entry (texts words.now)) (Points source.now beside.entry) result (buffer out.old out.new answer.new.out_length) (buffer err.old err.new answer.new.err_length) answer.new.place }
     ensures accepted { IsAccepting result → OfSourceOn IsDerivable source.now beside.entry (texts words.now) }
     ensures safe { IsAccepting result → OfSourceOn HasSafeCore source.now beside.entry (texts words.now) }
+    ensures isolated { IsAccepting result → OfSourceOn HasIsolatedCore source.now beside.entry (texts words.now) }
 {
     match make_files(alloc, source, beside) {
         Ok(mut files) => ask_files(alloc, words, &mut files, source, beside, out, err, answer),

@@ -1,6 +1,8 @@
 //! The commands of a source and a derivation.
+ghost use Rattle.std.specs.Prelude.{◌≡◌, ◌≢◌, ◌↔◌};
 ghost use Rattle.pc_refusals.specs.Verdict.{IsAccepting};
-ghost use Rattle.pc_top.specs.CoreOf.{HasSafeCore, IsDerivable};
+ghost use Rattle.pc_top.specs.CoreOf.{HasIsolatedCore, HasSafeCore, IsDerivable};
+ghost use Rattle.pc_top.specs.Exact.{IsDerivationOf};
 ghost use Rattle.pc_call.specs.Answers.{Answers, buffer};
 ghost use Rattle.pc_call.specs.Points.{PointsIntoSource};
 ghost use Rattle.pc_call.specs.Verdicts.{IsJudged, IsUpgraded};
@@ -9,6 +11,7 @@ use crate::Answer;
 use crate::asking::ask;
 use crate::beside::Beside;
 use pc_args::written_forms_are_taken;
+use pc_top::judged_statuses_are_exact;
 use std::alloc::Global;
 
 /// Says whether a text is a derivation of the source.
@@ -21,10 +24,13 @@ pub fn judge(
     answer: &mut Answer,
 ) -> u8
     ensures answers { Answers (IsJudged source.now derivation.now) (PointsIntoSource source.now) result (buffer out.old out.new answer.new.out_length) (buffer err.old err.new answer.new.err_length) answer.new.place }
+    ensures exact { result ≢ 11 → (result ≡ 0) ↔ IsDerivationOf source.now derivation.now }
     ensures accepted { IsAccepting result → IsDerivable source.now }
     ensures safe { IsAccepting result → HasSafeCore source.now }
+    ensures isolated { IsAccepting result → HasIsolatedCore source.now }
 {
     written_forms_are_taken();
+    judged_statuses_are_exact();
     ask(
         alloc,
         &["judge", "source", "derivation"],
@@ -46,10 +52,13 @@ pub fn upgrade(
     answer: &mut Answer,
 ) -> u8
     ensures answers { Answers (IsUpgraded source.now derivation.now) (PointsIntoSource source.now) result (buffer out.old out.new answer.new.out_length) (buffer err.old err.new answer.new.err_length) answer.new.place }
+    ensures exact { result ≢ 11 → (result ≡ 0) ↔ IsDerivationOf source.now derivation.now }
     ensures accepted { IsAccepting result → IsDerivable source.now }
     ensures safe { IsAccepting result → HasSafeCore source.now }
+    ensures isolated { IsAccepting result → HasIsolatedCore source.now }
 {
     written_forms_are_taken();
+    judged_statuses_are_exact();
     ask(
         alloc,
         &["upgrade", "source", "derivation"],

@@ -1,7 +1,7 @@
 //! The commands of a source and a schedule.
 ghost use Rattle.std.specs.Prelude.{◌≡◌, ◌≢◌, ◌↔◌};
 ghost use Rattle.pc_refusals.specs.Verdict.{IsAccepting};
-ghost use Rattle.pc_top.specs.CoreOf.{HasSafeCore, IsDerivable, IsUnderivable};
+ghost use Rattle.pc_top.specs.CoreOf.{HasIsolatedCore, HasSafeCore, IsDerivable, IsUnderivable};
 ghost use Rattle.pc_call.specs.Answers.{Answers, buffer};
 ghost use Rattle.pc_call.specs.Points.{PointsIntoBoth};
 ghost use Rattle.pc_call.specs.Verdicts.{IsRunOf, IsSwapped, IsTraced, MayBePlace};
@@ -27,6 +27,7 @@ pub fn run(
     ensures exact { result ≢ 11 → (result ≡ 1) ↔ IsUnderivable source.now }
     ensures accepted { IsAccepting result → IsDerivable source.now }
     ensures safe { IsAccepting result → HasSafeCore source.now }
+    ensures isolated { IsAccepting result → HasIsolatedCore source.now }
 {
     written_forms_are_taken();
     statuses_are_exact();
@@ -54,6 +55,7 @@ pub fn trace(
     ensures exact { result ≢ 11 → (result ≡ 1) ↔ IsUnderivable source.now }
     ensures accepted { IsAccepting result → IsDerivable source.now }
     ensures safe { IsAccepting result → HasSafeCore source.now }
+    ensures isolated { IsAccepting result → HasIsolatedCore source.now }
 {
     written_forms_are_taken();
     statuses_are_exact();
@@ -83,6 +85,7 @@ pub fn swap(
     ensures exact { MayBePlace place → result ≢ 11 → (result ≡ 1) ↔ IsUnderivable source.now }
     ensures accepted { IsAccepting result → IsDerivable source.now }
     ensures safe { IsAccepting result → HasSafeCore source.now }
+    ensures isolated { IsAccepting result → HasIsolatedCore source.now }
 {
     written_forms_are_taken();
     statuses_are_exact();

@@ -1,7 +1,7 @@
 //! The commands of a source alone.
 ghost use Rattle.std.specs.Prelude.{◌≡◌, ◌≢◌, ◌↔◌};
 ghost use Rattle.pc_refusals.specs.Verdict.{IsAccepting};
-ghost use Rattle.pc_top.specs.CoreOf.{HasSafeCore, IsDerivable, IsUnderivable};
+ghost use Rattle.pc_top.specs.CoreOf.{HasIsolatedCore, HasSafeCore, IsDerivable, IsUnderivable};
 ghost use Rattle.pc_call.specs.Answers.{Answers, buffer};
 ghost use Rattle.pc_call.specs.Points.{PointsIntoSource};
 ghost use Rattle.pc_call.specs.Verdicts.{IsChecked, IsSendsOf, IsShown};
@@ -24,6 +24,7 @@ pub fn check(
     ensures answers { Answers (IsChecked source.now) (PointsIntoSource source.now) result (buffer out.old out.new answer.new.out_length) (buffer err.old err.new answer.new.err_length) answer.new.place }
     ensures exact { result ≢ 11 → ((result ≡ 0) ↔ IsDerivable source.now) × ((result ≡ 1) ↔ IsUnderivable source.now) }
     ensures safe { IsAccepting result → HasSafeCore source.now }
+    ensures isolated { IsAccepting result → HasIsolatedCore source.now }
 {
     written_forms_are_taken();
     statuses_are_exact();
@@ -66,6 +67,7 @@ pub fn sends(
     ensures exact { result ≢ 11 → (result ≡ 1) ↔ IsUnderivable source.now }
     ensures accepted { IsAccepting result → IsDerivable source.now }
     ensures safe { IsAccepting result → HasSafeCore source.now }
+    ensures isolated { IsAccepting result → HasIsolatedCore source.now }
 {
     written_forms_are_taken();
     statuses_are_exact();

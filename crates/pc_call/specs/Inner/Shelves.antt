@@ -1,5 +1,5 @@
 -- The texts of a call as files in memory, and what `rcap` says of words over them.
-use Rattle.std.specs.Prelude.{ℕ, ◌≡◌, List, Option, Some, codes, if◌then◌else◌}
+use Rattle.std.specs.Prelude.{ℕ, ◌≡◌, List, Some, codes, if◌then◌else◌}
 use Rattle.std.specs.Str.{bytes_eq}
 use Rattle.pc_args.specs.Asked.{command_of}
 use Rattle.pc_io.specs.Entries.{held, held_or_empty}

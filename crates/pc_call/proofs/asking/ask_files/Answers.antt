@@ -20,3 +20,6 @@ returns-clause-accepted c accepting = (c.args.files.now.entries, c.requires, c.r
 
 pub returns-clause-safe : goal.returns-clause-safe
 returns-clause-safe c accepting = (c.args.files.now.entries, c.requires, c.rcap-status.ensures.safe accepting)
+
+pub returns-clause-isolated : goal.returns-clause-isolated
+returns-clause-isolated c accepting = (c.args.files.now.entries, c.requires, c.rcap-status.ensures.isolated accepting)

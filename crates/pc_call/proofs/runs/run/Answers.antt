@@ -1,7 +1,7 @@
 use Rattle.std.proofs.Common.{refl}
 use Rattle.std.specs.Prelude.{codes}
 use Rattle.pc_args.specs.Asked.{run}
-use Rattle.pc_top.specs.CoreOf.{HasSafeCore, IsDerivable}
+use Rattle.pc_top.specs.CoreOf.{HasIsolatedCore, HasSafeCore, IsDerivable}
 use Rattle.pc_call.specs.declared.beside.Beside.TheVariants.{Schedule}
 use Rattle.pc_call.proofs.Asked.{answers_as}
 use Rattle.pc_call.proofs.Commands.{ran, run_asks}
@@ -19,3 +19,6 @@ returns-clause-accepted c accepting = of_source IsDerivable (run (codes "source"
 
 pub returns-clause-safe : goal.returns-clause-safe
 returns-clause-safe c accepting = of_source HasSafeCore (run (codes "source") (codes "schedule")) _ c.args.source.now (Schedule c.args.schedule) (run_asks c.written_forms_are_taken.ensures c.args.source.now) refl (c.ask.ensures.safe accepting)
+
+pub returns-clause-isolated : goal.returns-clause-isolated
+returns-clause-isolated c accepting = of_source HasIsolatedCore (run (codes "source") (codes "schedule")) _ c.args.source.now (Schedule c.args.schedule) (run_asks c.written_forms_are_taken.ensures c.args.source.now) refl (c.ask.ensures.isolated accepting)

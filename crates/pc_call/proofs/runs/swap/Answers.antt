@@ -1,7 +1,7 @@
 use Rattle.std.proofs.Common.{◌<◌, refl, arith}
 use Rattle.std.specs.Prelude.{◌≡◌, ◌^◌, codes, decimal}
 use Rattle.pc_args.specs.Asked.{swap}
-use Rattle.pc_top.specs.CoreOf.{HasSafeCore, IsDerivable}
+use Rattle.pc_top.specs.CoreOf.{HasIsolatedCore, HasSafeCore, IsDerivable}
 use Rattle.pc_call.specs.declared.beside.Beside.TheVariants.{Schedule}
 use Rattle.pc_call.proofs.Asked.{answers_as}
 use Rattle.pc_call.proofs.Commands.{swap_asks, swapped}
@@ -32,3 +32,9 @@ returns-clause-safe c accepting =
     let fits : c.args.place < 2 ^ 64 = omega (arith, c.ranges.place.fits) in
     of_source HasSafeCore (swap (codes "source") (codes "schedule") c.format-place.result.now) _ c.args.source.now (Schedule c.args.schedule)
     (swap_asks c.written_forms_are_taken.ensures c.args.source.now c.format-place.result.now (plain c.args.place c.format-place.result.now c.format-place.ensures.text fits)) refl (c.ask.ensures.safe accepting)
+
+pub returns-clause-isolated : goal.returns-clause-isolated
+returns-clause-isolated c accepting =
+    let fits : c.args.place < 2 ^ 64 = omega (arith, c.ranges.place.fits) in
+    of_source HasIsolatedCore (swap (codes "source") (codes "schedule") c.format-place.result.now) _ c.args.source.now (Schedule c.args.schedule)
+    (swap_asks c.written_forms_are_taken.ensures c.args.source.now c.format-place.result.now (plain c.args.place c.format-place.result.now c.format-place.ensures.text fits)) refl (c.ask.ensures.isolated accepting)

@@ -1,7 +1,7 @@
 use Rattle.std.proofs.Common.{refl}
 use Rattle.std.specs.Prelude.{codes}
 use Rattle.pc_args.specs.Asked.{sends}
-use Rattle.pc_top.specs.CoreOf.{HasSafeCore, IsDerivable}
+use Rattle.pc_top.specs.CoreOf.{HasIsolatedCore, HasSafeCore, IsDerivable}
 use Rattle.pc_call.specs.declared.beside.Beside.TheVariants.{Nothing}
 use Rattle.pc_call.proofs.Asked.{answers_as}
 use Rattle.pc_call.proofs.Commands.{sends_asks, sent}
@@ -19,3 +19,6 @@ returns-clause-accepted c accepting = of_source IsDerivable (sends (codes "sourc
 
 pub returns-clause-safe : goal.returns-clause-safe
 returns-clause-safe c accepting = of_source HasSafeCore (sends (codes "source")) _ c.args.source.now Nothing (sends_asks c.written_forms_are_taken.ensures c.args.source.now) refl (c.ask.ensures.safe accepting)
+
+pub returns-clause-isolated : goal.returns-clause-isolated
+returns-clause-isolated c accepting = of_source HasIsolatedCore (sends (codes "source")) _ c.args.source.now Nothing (sends_asks c.written_forms_are_taken.ensures c.args.source.now) refl (c.ask.ensures.isolated accepting)
