@@ -59,7 +59,7 @@ SECONDS = {
     "pc_parse": 193,
     "pc_check": 64,
     "pc_refusals": 102,
-    "pc_top": 380,
+    "pc_top": 343,
     "pc_cli": 211,
 }
 
