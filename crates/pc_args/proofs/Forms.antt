@@ -4,8 +4,8 @@ use Rattle.std.specs.Prelude.{if◌then◌else◌, option_and_then}
 use Rattle.clap.specs.Words.{fault_of, subcommand_of, takes}
 use Rattle.clap.proofs.OnLiterals.{clap_on_literals}
 use Rattle.pc_lists.specs.Texts.{Text}
-use Rattle.pc_args.specs.Asked.{Asked, check, command_of, has_fault, is_refused, judge, make, named, run, sends, show, swap, trace, upgrade}
-use Rattle.pc_args.specs.Forms.{AskFor, WrittenFormsAreTaken, check_words, is_plain, judge_words, make_words, run_words, sends_words, show_words, swap_words, trace_words, upgrade_words}
+use Rattle.pc_args.specs.Asked.{Asked, check, command_of, has_fault, is_refused, judge, make, named, outcomes, play, run, schedule_of, sends, show, swap, trace, upgrade}
+use Rattle.pc_args.specs.Forms.{AskFor, WrittenFormsAreTaken, check_words, is_plain, judge_words, make_words, outcomes_words, play_words, run_words, schedule_words, sends_words, show_words, swap_words, trace_words, upgrade_words}
 use Rattle.pc_args.specs.Line.{rcap}
 use Rattle.std.proofs.lemmas.Bool.{not-true}
 
@@ -88,6 +88,33 @@ upgrade_found : (c d : ℕ) (rest more : Text) → nat_eq c 45 ≡ false → nat
 unfolding clap_on_literals
 upgrade_found c d rest more plain also = simp plain (simp also refl)
 
+schedule_taken : (c d : ℕ) (rest more : Text) → nat_eq c 45 ≡ false → nat_eq d 45 ≡ false → takes rcap (schedule_words (c ∷ rest) (d ∷ more)) ≡ true
+unfolding clap_on_literals
+schedule_taken c d rest more plain also = simp plain (simp also refl)
+
+schedule_found : (c d : ℕ) (rest more : Text) → nat_eq c 45 ≡ false → nat_eq d 45 ≡ false
+    → option_and_then named (subcommand_of rcap (schedule_words (c ∷ rest) (d ∷ more))) ≡ Some (schedule_of (c ∷ rest) (d ∷ more))
+unfolding clap_on_literals
+schedule_found c d rest more plain also = simp plain (simp also refl)
+
+play_taken : (c d : ℕ) (rest more : Text) → nat_eq c 45 ≡ false → nat_eq d 45 ≡ false → takes rcap (play_words (c ∷ rest) (d ∷ more)) ≡ true
+unfolding clap_on_literals
+play_taken c d rest more plain also = simp plain (simp also refl)
+
+play_found : (c d : ℕ) (rest more : Text) → nat_eq c 45 ≡ false → nat_eq d 45 ≡ false
+    → option_and_then named (subcommand_of rcap (play_words (c ∷ rest) (d ∷ more))) ≡ Some (play (c ∷ rest) (d ∷ more))
+unfolding clap_on_literals
+play_found c d rest more plain also = simp plain (simp also refl)
+
+outcomes_taken : (c d : ℕ) (rest more : Text) → nat_eq c 45 ≡ false → nat_eq d 45 ≡ false → takes rcap (outcomes_words (c ∷ rest) (d ∷ more)) ≡ true
+unfolding clap_on_literals
+outcomes_taken c d rest more plain also = simp plain (simp also refl)
+
+outcomes_found : (c d : ℕ) (rest more : Text) → nat_eq c 45 ≡ false → nat_eq d 45 ≡ false
+    → option_and_then named (subcommand_of rcap (outcomes_words (c ∷ rest) (d ∷ more))) ≡ Some (outcomes (c ∷ rest) (d ∷ more))
+unfolding clap_on_literals
+outcomes_found c d rest more plain also = simp plain (simp also refl)
+
 -- Words that are taken are not refused.
 unrefused : (words : List Text) → takes rcap words ≡ true → is_refused words ≡ false
 unfolding is_refused
@@ -117,6 +144,21 @@ upgrade_asks : (c d : ℕ) (rest more : Text) → nat_eq c 45 ≡ false → nat_
 upgrade_asks c d rest more plain also =
     let t = upgrade_taken c d rest more plain also in
     (t, read_from (upgrade_words (c ∷ rest) (d ∷ more)) (upgrade (c ∷ rest) (d ∷ more)) t (upgrade_found c d rest more plain also))
+
+schedule_asks : (c d : ℕ) (rest more : Text) → nat_eq c 45 ≡ false → nat_eq d 45 ≡ false → AskFor (schedule_words (c ∷ rest) (d ∷ more)) (schedule_of (c ∷ rest) (d ∷ more))
+schedule_asks c d rest more plain also =
+    let t = schedule_taken c d rest more plain also in
+    (t, read_from (schedule_words (c ∷ rest) (d ∷ more)) (schedule_of (c ∷ rest) (d ∷ more)) t (schedule_found c d rest more plain also))
+
+play_asks : (c d : ℕ) (rest more : Text) → nat_eq c 45 ≡ false → nat_eq d 45 ≡ false → AskFor (play_words (c ∷ rest) (d ∷ more)) (play (c ∷ rest) (d ∷ more))
+play_asks c d rest more plain also =
+    let t = play_taken c d rest more plain also in
+    (t, read_from (play_words (c ∷ rest) (d ∷ more)) (play (c ∷ rest) (d ∷ more)) t (play_found c d rest more plain also))
+
+outcomes_asks : (c d : ℕ) (rest more : Text) → nat_eq c 45 ≡ false → nat_eq d 45 ≡ false → AskFor (outcomes_words (c ∷ rest) (d ∷ more)) (outcomes (c ∷ rest) (d ∷ more))
+outcomes_asks c d rest more plain also =
+    let t = outcomes_taken c d rest more plain also in
+    (t, read_from (outcomes_words (c ∷ rest) (d ∷ more)) (outcomes (c ∷ rest) (d ∷ more)) t (outcomes_found c d rest more plain also))
 
 checks : (source : Text) → is_plain source ≡ true → AskFor (check_words source) (check source)
 checks [] e = let bad : false ≡ true = e in cc
@@ -187,5 +229,29 @@ upgrades (c ∷ rest) (d ∷ more) e f =
     let also : nat_eq d 45 ≡ false = not-true (nat_eq d 45) f in
     upgrade_asks c d rest more plain also
 
+schedules : (source seed : Text) → is_plain source ≡ true → is_plain seed ≡ true → AskFor (schedule_words source seed) (schedule_of source seed)
+schedules [] seed e f = let bad : false ≡ true = e in cc
+schedules (c ∷ rest) [] e f = let bad : false ≡ true = f in cc
+schedules (c ∷ rest) (d ∷ more) e f =
+    let plain : nat_eq c 45 ≡ false = not-true (nat_eq c 45) e in
+    let also : nat_eq d 45 ≡ false = not-true (nat_eq d 45) f in
+    schedule_asks c d rest more plain also
+
+plays : (source seed : Text) → is_plain source ≡ true → is_plain seed ≡ true → AskFor (play_words source seed) (play source seed)
+plays [] seed e f = let bad : false ≡ true = e in cc
+plays (c ∷ rest) [] e f = let bad : false ≡ true = f in cc
+plays (c ∷ rest) (d ∷ more) e f =
+    let plain : nat_eq c 45 ≡ false = not-true (nat_eq c 45) e in
+    let also : nat_eq d 45 ≡ false = not-true (nat_eq d 45) f in
+    play_asks c d rest more plain also
+
+tables : (source count : Text) → is_plain source ≡ true → is_plain count ≡ true → AskFor (outcomes_words source count) (outcomes source count)
+tables [] count e f = let bad : false ≡ true = e in cc
+tables (c ∷ rest) [] e f = let bad : false ≡ true = f in cc
+tables (c ∷ rest) (d ∷ more) e f =
+    let plain : nat_eq c 45 ≡ false = not-true (nat_eq c 45) e in
+    let also : nat_eq d 45 ≡ false = not-true (nat_eq d 45) f in
+    outcomes_asks c d rest more plain also
+
 pub forms_taken : WrittenFormsAreTaken
-forms_taken = record { checks = checks; judges = judges; runs = runs; shows = shows; makes = makes; swaps = swaps; traces = traces; sendings = sendings; upgrades = upgrades }
+forms_taken = record { checks = checks; judges = judges; runs = runs; shows = shows; makes = makes; swaps = swaps; traces = traces; sendings = sendings; upgrades = upgrades; schedules = schedules; plays = plays; tables = tables }

@@ -57,8 +57,17 @@ sends_asks rows e = cc
 upgrade_asks : Asks (codes "upgrade")
 upgrade_asks rows e = cc
 
+schedule_asks : Asks (codes "schedule")
+schedule_asks rows e = cc
+
+play_asks : Asks (codes "play")
+play_asks rows e = cc
+
+outcomes_asks : Asks (codes "outcomes")
+outcomes_asks rows e = cc
+
 -- Words that ask for nothing have no subcommand.
 pub nothing_asked : (words : List Text) → option_and_then named (subcommand_of rcap words) ≡ None → subcommand_of rcap words ≡ None
 nothing_asked words e =
     let stop = stop_after (built rcap).top.rules (names_of (built rcap)) (argument_words rcap words) in
-    enters (built rcap) stop (check_asks, (judge_asks, (run_asks, (show_asks, (make_asks, (swap_asks, (trace_asks, (sends_asks, (upgrade_asks, tt))))))))) e
+    enters (built rcap) stop (check_asks, (judge_asks, (run_asks, (show_asks, (make_asks, (swap_asks, (trace_asks, (sends_asks, (upgrade_asks, (schedule_asks, (play_asks, (outcomes_asks, tt)))))))))))) e

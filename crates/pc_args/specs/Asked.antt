@@ -7,7 +7,7 @@ use Rattle.clap.specs.Words.{Row, fault_of, first_of, subcommand_of, takes}
 use Rattle.pc_lists.specs.Texts.{Text}
 use Rattle.pc_args.specs.Line.{rcap}
 use Rattle.pc_args.specs.declared.words.Command.{Command}
-use Rattle.pc_args.specs.declared.words.Command.TheVariants.{Check, Judge, Run, Show, Make, Swap, Trace, Sends, Upgrade}
+use Rattle.pc_args.specs.declared.words.Command.TheVariants.{Check, Judge, Run, Show, Make, Swap, Trace, Sends, Upgrade, Schedule, Play, Outcomes}
 
 -- the words, each as its bytes
 abbrev pub texts : List (Bor Text) → List Text
@@ -24,6 +24,9 @@ pub data Asked : Type 0 where
   trace : Text → Text → Asked
   sends : Text → Asked
   upgrade : Text → Text → Asked
+  schedule_of : Text → Text → Asked
+  play : Text → Text → Asked
+  outcomes : Text → Text → Asked
 
 abbrev pub asked_by : Command → Asked
 asked_by (Check source) = check source.now
@@ -35,6 +38,9 @@ asked_by (Swap source schedule place) = swap source.now schedule.now place.now
 asked_by (Trace source schedule) = trace source.now schedule.now
 asked_by (Sends source) = sends source.now
 asked_by (Upgrade source derivation) = upgrade source.now derivation.now
+asked_by (Schedule source seed) = schedule_of source.now seed.now
+asked_by (Play source seed) = play source.now seed.now
+asked_by (Outcomes source count) = outcomes source.now count.now
 
 -- the value of the argument of this name
 abbrev pub value : Text → List Row → Text
@@ -51,6 +57,9 @@ named p = if bytes_eq p.0 (codes "check") then Some (check (value (codes "SRC") 
     else if bytes_eq p.0 (codes "trace") then Some (trace (value (codes "SRC") p.1) (value (codes "SCHED") p.1))
     else if bytes_eq p.0 (codes "sends") then Some (sends (value (codes "SRC") p.1))
     else if bytes_eq p.0 (codes "upgrade") then Some (upgrade (value (codes "SRC") p.1) (value (codes "DERIV") p.1))
+    else if bytes_eq p.0 (codes "schedule") then Some (schedule_of (value (codes "SRC") p.1) (value (codes "SEED") p.1))
+    else if bytes_eq p.0 (codes "play") then Some (play (value (codes "SRC") p.1) (value (codes "SEED") p.1))
+    else if bytes_eq p.0 (codes "outcomes") then Some (outcomes (value (codes "SRC") p.1) (value (codes "COUNT") p.1))
     else None
 
 -- whether there is a fault among these

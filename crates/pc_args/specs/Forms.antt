@@ -2,7 +2,7 @@
 use Rattle.std.specs.Prelude.{◌≡◌, ◌==◌, Bool, true, false, not, List, [], ◌∷◌, Some, codes}
 use Rattle.clap.specs.Words.{takes}
 use Rattle.pc_lists.specs.Texts.{Text}
-use Rattle.pc_args.specs.Asked.{Asked, check, command_of, judge, make, run, sends, show, swap, trace, upgrade}
+use Rattle.pc_args.specs.Asked.{Asked, check, command_of, judge, make, outcomes, play, run, schedule_of, sends, show, swap, trace, upgrade}
 use Rattle.pc_args.specs.Line.{rcap}
 
 -- A name or number that is not empty and does not begin with `-`.
@@ -37,6 +37,15 @@ sends_words source = codes "sends" ∷ source ∷ []
 abbrev pub upgrade_words : Text → Text → List Text
 upgrade_words source derivation = codes "upgrade" ∷ source ∷ derivation ∷ []
 
+abbrev pub schedule_words : Text → Text → List Text
+schedule_words source seed = codes "schedule" ∷ source ∷ seed ∷ []
+
+abbrev pub play_words : Text → Text → List Text
+play_words source seed = codes "play" ∷ source ∷ seed ∷ []
+
+abbrev pub outcomes_words : Text → Text → List Text
+outcomes_words source count = codes "outcomes" ∷ source ∷ count ∷ []
+
 -- The command line takes the words, and this is what they ask for.
 abbrev pub AskFor : List Text → Asked → Type 0
 AskFor words asked = (takes rcap words ≡ true) × (command_of words ≡ Some asked)
@@ -57,3 +66,8 @@ pub record WrittenFormsAreTaken : Type 0 where
   pub sendings : (source : Text) → is_plain source ≡ true → AskFor (sends_words source) (sends source)
   pub upgrades : (source derivation : Text) → is_plain source ≡ true → is_plain derivation ≡ true
       → AskFor (upgrade_words source derivation) (upgrade source derivation)
+  pub schedules : (source seed : Text) → is_plain source ≡ true → is_plain seed ≡ true
+      → AskFor (schedule_words source seed) (schedule_of source seed)
+  pub plays : (source seed : Text) → is_plain source ≡ true → is_plain seed ≡ true → AskFor (play_words source seed) (play source seed)
+  pub tables : (source count : Text) → is_plain source ≡ true → is_plain count ≡ true
+      → AskFor (outcomes_words source count) (outcomes source count)

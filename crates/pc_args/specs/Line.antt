@@ -1,5 +1,5 @@
 -- The command line of the program, in clap's words: a required subcommand, each with required arguments of one value.
-use Rattle.std.specs.Prelude.{true, codes}
+use Rattle.std.specs.Prelude.{List, [], ◌∷◌, true, codes}
 use Rattle.clap.specs.Simple.{on_top}
 use Rattle.clap.specs.Words.{App, Rule, Text, new_app, new_rule, with_rule, with_subcommand}
 
@@ -42,26 +42,30 @@ sends = with_rule (new_app (codes "sends")) (positional (codes "SRC"))
 abbrev pub upgrade : App
 upgrade = with_rule (with_rule (new_app (codes "upgrade")) (positional (codes "SRC"))) (positional (codes "DERIV"))
 
--- The words begin behind the program's name, and no `help` is added as a subcommand.
+-- `schedule SRC SEED`
+abbrev pub schedule : App
+schedule = with_rule (with_rule (new_app (codes "schedule")) (positional (codes "SRC"))) (positional (codes "SEED"))
+
+-- `play SRC SEED`
+abbrev pub play : App
+play = with_rule (with_rule (new_app (codes "play")) (positional (codes "SRC"))) (positional (codes "SEED"))
+
+-- `outcomes SRC COUNT`
+abbrev pub outcomes : App
+outcomes = with_rule (with_rule (new_app (codes "outcomes")) (positional (codes "SRC"))) (positional (codes "COUNT"))
+
+-- The words begin after the program's name, and no `help` is added as a subcommand.
 abbrev pub bare : App
 bare = on_top (λ s. record s { no_binary_name = true; disable_help_subcommand = true; subcommand_required = true }) (new_app (codes "rcap"))
 
--- with the subcommands that derivations are made and judged by
-abbrev pub judging : App
-judging = with_subcommand (with_subcommand bare check.top) judge.top
+-- The subcommands, in this order.
+abbrev pub subcommands : List App
+subcommands = check ∷ judge ∷ run ∷ show ∷ make ∷ swap ∷ trace ∷ sends ∷ upgrade ∷ schedule ∷ play ∷ outcomes ∷ []
 
--- with those that run a source and show it
-abbrev pub reading : App
-reading = with_subcommand (with_subcommand judging run.top) show.top
+-- A command line with these subcommands more.
+abbrev pub with_all : App → List App → App
+with_all line [] = line
+with_all line (leaf ∷ leaves) = with_all (with_subcommand line leaf.top) leaves
 
--- with those that make a program and exchange two turns
-abbrev pub changing : App
-changing = with_subcommand (with_subcommand reading make.top) swap.top
-
--- with those that tell what a run and a source do
-abbrev pub telling : App
-telling = with_subcommand (with_subcommand changing trace.top) sends.top
-
--- with all subcommands
 abbrev pub rcap : App
-rcap = with_subcommand telling upgrade.top
+rcap = with_all bare subcommands

@@ -67,7 +67,10 @@ fn make_rcap<'a>(alloc: Global) -> Result<Command<'a>, AllocError>
     let swap = with_leaf(make, alloc, "swap", &["SRC", "SCHED", "PLACE"])?;
     let trace = with_leaf(swap, alloc, "trace", &["SRC", "SCHED"])?;
     let sends = with_leaf(trace, alloc, "sends", &["SRC"])?;
-    with_leaf(sends, alloc, "upgrade", &["SRC", "DERIV"])
+    let upgrade = with_leaf(sends, alloc, "upgrade", &["SRC", "DERIV"])?;
+    let schedule = with_leaf(upgrade, alloc, "schedule", &["SRC", "SEED"])?;
+    let play = with_leaf(schedule, alloc, "play", &["SRC", "SEED"])?;
+    with_leaf(play, alloc, "outcomes", &["SRC", "COUNT"])
 }
 
 /// The matches of the words, or why clap refuses them.

@@ -56,6 +56,21 @@ pub enum Command<'a> {
         source: &'a str,
         derivation: &'a str,
     },
+    /// To write the schedule that a seed chooses for a source.
+    Schedule {
+        source: &'a str,
+        seed: &'a str,
+    },
+    /// To run a source by the schedule that a seed chooses.
+    Play {
+        source: &'a str,
+        seed: &'a str,
+    },
+    /// To play a source by some seeds, and to write each different outcome.
+    Outcomes {
+        source: &'a str,
+        count: &'a str,
+    },
 }
 
 /// Why words ask for nothing.
@@ -121,6 +136,18 @@ fn command_in<'a>(matches: &ArgMatches<'a>) -> Option<Command<'a>>
         "upgrade" => Some(Command::Upgrade {
             source: value_of(own, "SRC"),
             derivation: value_of(own, "DERIV"),
+        }),
+        "schedule" => Some(Command::Schedule {
+            source: value_of(own, "SRC"),
+            seed: value_of(own, "SEED"),
+        }),
+        "play" => Some(Command::Play {
+            source: value_of(own, "SRC"),
+            seed: value_of(own, "SEED"),
+        }),
+        "outcomes" => Some(Command::Outcomes {
+            source: value_of(own, "SRC"),
+            count: value_of(own, "COUNT"),
         }),
         _ => None,
     }

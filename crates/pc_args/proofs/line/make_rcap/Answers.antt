@@ -18,4 +18,7 @@ returns c =
     let swap = c.in_ok-swap.ensures ∙ ap (on line.swap.top) make in
     let trace = c.in_ok-trace.ensures ∙ ap (on line.trace.top) swap in
     let sends = c.in_ok-sends.ensures ∙ ap (on line.sends.top) trace in
-    IfOk-weaker c.with_leaf-9.result _ _ (λ r added. added ∙ ap (on line.upgrade.top) sends) c.with_leaf-9.ensures
+    let upgrade = c.in_ok-upgrade.ensures ∙ ap (on line.upgrade.top) sends in
+    let schedule = c.in_ok-schedule.ensures ∙ ap (on line.schedule.top) upgrade in
+    let play = c.in_ok-play.ensures ∙ ap (on line.play.top) schedule in
+    IfOk-weaker c.with_leaf-12.result _ _ (λ r added. added ∙ ap (on line.outcomes.top) play) c.with_leaf-12.ensures
