@@ -1,0 +1,5 @@
+mod Lists
+mod OnePlay
+mod Firsts
+mod Limits
+mod One

@@ -1,0 +1,12 @@
+-- There is one answer to which outcomes the seeds below a count have.
+use Rattle.std.specs.Prelude.{◌≡◌, ◌≢◌, ℕ, List, Result, Err}
+use Rattle.pc_core.specs.CoreData.{CoreData}
+use Rattle.pc_outcomes.specs.Tables.{Answers}
+use Rattle.pc_outcomes.specs.declared.entry.Entry.{Entry}
+use Rattle.pc_outcomes.specs.declared.fault.OutcomesFault.{OutcomesFault}
+use Rattle.pc_outcomes.specs.declared.fault.OutcomesFault.TheVariants.{Memory}
+
+-- Of two answers, neither of them that memory ran out, none differs from the other.
+abbrev pub AnswersAreOne : Type 0
+AnswersAreOne =
+    (core : CoreData) (count : ℕ) (a b : Result (List Entry) OutcomesFault) → a ≢ Err Memory → b ≢ Err Memory → Answers core count a → Answers core count b → a ≡ b
