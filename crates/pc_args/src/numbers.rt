@@ -47,12 +47,12 @@ pub fn size_of(text: &str) -> Option<u32>
 }
 
 /// The count of seeds that a text spells: one to five digits, of a number from 1 to 10,000.
-pub fn count_of(text: &str) -> Option<u32>
+pub fn count_of(text: &str) -> Option<u64>
     ensures { Reads (IsCount text.now) result }
 {
     let count = number_of(text, COUNT_DIGITS)?;
     if count < 1 || count > MOST_SEEDS {
         return None;
     }
-    Some(count as u32)
+    Some(count)
 }

@@ -7,10 +7,10 @@ use Rattle.pc_refusals.specs.Named.{Files, named}
 use Rattle.pc_refusals.specs.Verdict.{Verdict}
 use Rattle.pc_refusals.proofs.OneSource.{SourceLaws}
 use Rattle.pc_top.specs.Asked.{OfFile}
-use Rattle.pc_top.specs.Commands.{IsVerdictOf, infers, source_of}
+use Rattle.pc_top.specs.Commands.{HasNumber, IsVerdictOf, infers, source_of}
 use Rattle.pc_top.specs.Commands.Check.{Derived}
 use Rattle.pc_top.specs.CoreOf.{IsDerivable, IsUnderivable}
-use Rattle.pc_top.specs.Exact.{HasNumber, StatusesAreExact}
+use Rattle.pc_top.specs.Exact.{StatusesAreExact}
 use Rattle.pc_top.proofs.Begins.{went_on}
 use Rattle.pc_top.proofs.Premises.{Refusing}
 use Rattle.pc_top.proofs.Rooms.{room_of}

@@ -10,6 +10,7 @@ mod Facts
 mod Failures
 mod InOrder
 mod Judging
+mod NumberRoom
 mod OneStages
 mod Premises
 mod Room

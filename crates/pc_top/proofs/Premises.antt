@@ -1,7 +1,9 @@
 -- What the laws of the crates below say, which the laws of verdicts rest on.
+use Rattle.pc_choose.specs.Laws.{ListsAreOne}
 use Rattle.pc_check.specs.Laws.{NoneWithoutRule, NoneWithUnset, NoneWithFault, OneNode, OneConstructor, OneKindOfFault}
 use Rattle.pc_deriv.specs.Laws.{OneAnnotation, NoFaultOfText, OneFault as OneTextFault}
 use Rattle.pc_judge.specs.Faults.{OneFirst, NotValid}
+use Rattle.pc_outcome_laws.specs.Laws.{AnswersAreOne}
 use Rattle.pc_sched_lines.specs.Lines.{LinesAreOne}
 use Rattle.pc_rules.specs.Statements.{OneValid}
 use Rattle.pc_sched.specs.Laws.{OneList, NotBoth, OneFault}
@@ -36,3 +38,5 @@ pub record Laws : Type 0 where
   pub word : OneFault
   pub kept : KeptAreNotApart
   pub line : LinesAreOne
+  pub chosen : ListsAreOne
+  pub outcomes : AnswersAreOne

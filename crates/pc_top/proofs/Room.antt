@@ -11,10 +11,9 @@ use Rattle.pc_refusals.specs.Verdict.{Verdict, IsAccepting}
 use Rattle.pc_refusals.proofs.OneSource.{SourceLaws}
 use Rattle.pc_refusals.proofs.Statuses.{IsOwn}
 use Rattle.pc_top.specs.Asked.{HasNoDerivationOf, OfFile, OfSource}
-use Rattle.pc_top.specs.Commands.{IsVerdictOf, OnOutOf, files_of, infers, source_of}
+use Rattle.pc_top.specs.Commands.{HasNumber, IsVerdictOf, OnOutOf, files_of, infers, source_of}
 use Rattle.pc_top.specs.Commands.Sends.{TablesTell}
 use Rattle.pc_top.specs.CoreOf.{IsDerivable, IsUnderivable}
-use Rattle.pc_top.specs.Exact.{HasNumber}
 use Rattle.pc_top.proofs.Begins.{Begins, begins_accepts, begins_exact, begins_own, begins_refuses}
 use Rattle.pc_top.proofs.Premises.{Laws, Refusing}
 

@@ -1,11 +1,14 @@
 -- The rooms, one for each command.
-use Rattle.pc_args.specs.Asked.{Asked, check, judge, make, run, sends, show, swap, trace, upgrade}
+use Rattle.pc_args.specs.Asked.{Asked, check, judge, make, outcomes, play, run, schedule_of, sends, show, swap, trace, upgrade}
 use Rattle.pc_refusals.specs.Named.{Files}
 use Rattle.pc_top.proofs.Room.{Room}
 use Rattle.pc_top.proofs.Rooms.Check.{check_room}
 use Rattle.pc_top.proofs.Rooms.Judge.{judge_room}
 use Rattle.pc_top.proofs.Rooms.Make.{make_room}
+use Rattle.pc_top.proofs.Rooms.Outcomes.{outcomes_room}
+use Rattle.pc_top.proofs.Rooms.Play.{play_room}
 use Rattle.pc_top.proofs.Rooms.Run.{run_room}
+use Rattle.pc_top.proofs.Rooms.Schedule.{schedule_room}
 use Rattle.pc_top.proofs.Rooms.Sends.{sends_room}
 use Rattle.pc_top.proofs.Rooms.Show.{show_room}
 use Rattle.pc_top.proofs.Rooms.Swap.{swap_room}
@@ -14,7 +17,10 @@ use Rattle.pc_top.proofs.Rooms.Upgrade.{upgrade_room}
 pub mod Check
 pub mod Judge
 pub mod Make
+pub mod Outcomes
+pub mod Play
 pub mod Run
+pub mod Schedule
 pub mod Sends
 pub mod Show
 pub mod Swap
@@ -31,3 +37,6 @@ room_of files (swap source schedule place) = swap_room files source schedule pla
 room_of files (trace source schedule) = trace_room files source schedule
 room_of files (sends source) = sends_room files source
 room_of files (upgrade source derivation) = upgrade_room files source derivation
+room_of files (schedule_of source seed) = schedule_room files source seed
+room_of files (play source seed) = play_room files source seed
+room_of files (outcomes source count) = outcomes_room files source count

@@ -2,8 +2,8 @@
 use Rattle.std.specs.Prelude.{ℕ, ◌≡◌, ◌⊎◌, Bool, true, false, List, [], ◌∷◌, Option, Some, None, IfSome}
 use Rattle.std.specs.Io.KnownBytes.{Appends}
 use Rattle.pc_lists.specs.Texts.{Text}
-use Rattle.pc_args.specs.Asked.{Asked, check, judge, make, run, sends, show, swap, trace, upgrade}
-use Rattle.pc_args.specs.Numbers.{IsSeed, IsSize}
+use Rattle.pc_args.specs.Asked.{Asked, check, judge, make, outcomes, play, run, schedule_of, sends, show, swap, trace, upgrade}
+use Rattle.pc_args.specs.Numbers.{IsCount, IsSeed, IsSize}
 use Rattle.pc_io.specs.Change.{Change}
 use Rattle.pc_refusals.specs.Lines.{usage_line}
 use Rattle.pc_refusals.specs.Named.{FailedAt, Files, named}
@@ -11,7 +11,10 @@ use Rattle.pc_refusals.specs.Verdict.{Verdict, refused}
 use Rattle.pc_top.specs.Commands.Check.{IsCheck, WritesDerivation}
 use Rattle.pc_top.specs.Commands.Judge.{IsJudge, accepted_text}
 use Rattle.pc_top.specs.Commands.Make.{IsMake, WritesMade}
+use Rattle.pc_top.specs.Commands.Outcomes.{IsOutcomes, WritesOutcomes}
+use Rattle.pc_top.specs.Commands.Play.{IsPlay, WritesPlay}
 use Rattle.pc_top.specs.Commands.Run.{IsRun, WritesRun}
+use Rattle.pc_top.specs.Commands.Schedule.{IsSchedule, WritesSchedule}
 use Rattle.pc_top.specs.Commands.Sends.{IsSends, WritesSends}
 use Rattle.pc_top.specs.Commands.Show.{IsShow, WritesTree}
 use Rattle.pc_top.specs.Commands.Swap.{IsPlace, IsSwap, UnreadSwap, WritesSwap}
@@ -21,7 +24,10 @@ use Rattle.pc_top.specs.Shapes.{UnreadDerivation, UnreadScheduled}
 pub mod Check
 pub mod Judge
 pub mod Make
+pub mod Outcomes
+pub mod Play
 pub mod Run
+pub mod Schedule
 pub mod Sends
 pub mod Show
 pub mod Swap
@@ -40,6 +46,9 @@ IsVerdictOf files (Some (swap source schedule place)) v = IsSwap (named files so
 IsVerdictOf files (Some (trace source schedule)) v = IsTrace (named files source) (named files schedule) v
 IsVerdictOf files (Some (sends source)) v = IsSends (named files source) v
 IsVerdictOf files (Some (upgrade source derivation)) v = IsUpgrade (named files source) (named files derivation) v
+IsVerdictOf files (Some (schedule_of source seed)) v = IsSchedule (named files source) seed v
+IsVerdictOf files (Some (play source seed)) v = IsPlay (named files source) seed v
+IsVerdictOf files (Some (outcomes source count)) v = IsOutcomes (named files source) count v
 
 -- The file that it could not read: its failures rose. A later file is asked for only if the command came to it, so its failures are
 -- no cause before.
@@ -66,6 +75,9 @@ files_of (swap source schedule place) = source ∷ schedule ∷ []
 files_of (trace source schedule) = source ∷ schedule ∷ []
 files_of (sends source) = source ∷ []
 files_of (upgrade source derivation) = source ∷ derivation ∷ []
+files_of (schedule_of source seed) = source ∷ []
+files_of (play source seed) = source ∷ []
+files_of (outcomes source count) = source ∷ []
 
 -- The file among them whose core has to have a derivation, where there is one. The program of `make` stands in none.
 abbrev pub source_of : Asked → Option Text
@@ -78,6 +90,9 @@ source_of (swap source schedule place) = Some source
 source_of (trace source schedule) = Some source
 source_of (sends source) = Some source
 source_of (upgrade source derivation) = Some source
+source_of (schedule_of source seed) = Some source
+source_of (play source seed) = Some source
+source_of (outcomes source count) = Some source
 
 -- Whether the command looks for that derivation itself.
 abbrev pub infers : Asked → Bool
@@ -90,6 +105,24 @@ infers (swap source schedule place) = true
 infers (trace source schedule) = true
 infers (sends source) = true
 infers (upgrade source derivation) = false
+infers (schedule_of source seed) = true
+infers (play source seed) = true
+infers (outcomes source count) = true
+
+-- The number among the words is one that the command takes. Of `make` this is said where it is spoken of.
+abbrev pub HasNumber : Asked → Type 0
+HasNumber (check source) = Unit {0}
+HasNumber (judge source derivation) = Unit {0}
+HasNumber (run source schedule) = Unit {0}
+HasNumber (show source) = Unit {0}
+HasNumber (make seed size) = Unit {0}
+HasNumber (swap source schedule place) = (n : ℕ) × IsPlace place n
+HasNumber (trace source schedule) = Unit {0}
+HasNumber (sends source) = Unit {0}
+HasNumber (upgrade source derivation) = Unit {0}
+HasNumber (schedule_of source seed) = (n : ℕ) × IsSeed seed n
+HasNumber (play source seed) = (n : ℕ) × IsSeed seed n
+HasNumber (outcomes source count) = (n : ℕ) × IsCount count n
 
 -- What stands on out where it went through all its stages, of files that tell their bytes. `swap` and `trace` write nothing where a
 -- text ended the run.
@@ -106,3 +139,6 @@ OnOutOf told (Some (trace source schedule)) out =
     IfSome (told source) (λ bytes. IfSome (told schedule) (λ text. WritesTrace out bytes text ⊎ Appends out.before out.now []))
 OnOutOf told (Some (sends source)) out = IfSome (told source) (WritesSends out)
 OnOutOf told (Some (upgrade source derivation)) out = IfSome (told source) (λ bytes. IfSome (told derivation) (WritesUpgraded out bytes))
+OnOutOf told (Some (schedule_of source seed)) out = IfSome (told source) (λ bytes. (n : ℕ) × IsSeed seed n × WritesSchedule out n bytes)
+OnOutOf told (Some (play source seed)) out = IfSome (told source) (λ bytes. (n : ℕ) × IsSeed seed n × WritesPlay out n bytes)
+OnOutOf told (Some (outcomes source count)) out = IfSome (told source) (λ bytes. (n : ℕ) × IsCount count n × WritesOutcomes out n bytes)

@@ -8,16 +8,11 @@ use Rattle.pc_args.specs.Numbers.{IsSeed, IsSize}
 use Rattle.pc_lists.specs.Texts.{Text}
 use Rattle.pc_args.specs.Asked.{Asked, check, judge, make, swap, upgrade, command_of}
 use Rattle.pc_top.specs.Asked.{IsVerdict}
-use Rattle.pc_top.specs.Commands.{infers, source_of}
+use Rattle.pc_top.specs.Commands.{HasNumber, infers, source_of}
 use Rattle.pc_top.specs.CoreOf.{CoreOf, IsDerivable, IsUnderivable}
 use Rattle.pc_top.specs.Commands.Make.{made_text}
 use Rattle.pc_refusals.specs.Named.{Files, NoneFailed}
-use Rattle.pc_top.specs.Commands.Swap.{IsPlace}
 use Rattle.pc_refusals.specs.Verdict.{Verdict}
-
--- The number among the words of `swap` is one that it takes. Of `make` this is said where it is spoken of.
-abbrev pub HasNumber : Asked → Type 0
-HasNumber asked = (source schedule place : Text) → asked ≡ swap source schedule place → (n : ℕ) × IsPlace place n
 
 -- The words ask for this, and this verdict is theirs. The source of the command tells these bytes, and no reading of it failed.
 pub record ReadsSource (files : Files) (words : List Text) (asked : Asked) (source bytes : Text) (v : Verdict) : Type 0 where

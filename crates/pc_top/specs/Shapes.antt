@@ -1,5 +1,5 @@
 -- What verdicts have in common: which files a command goes through before its own last part.
-use Rattle.std.specs.Prelude.{ℕ, List}
+use Rattle.std.specs.Prelude.{ℕ, ◌≡◌, List}
 use Rattle.pc_ann.specs.declared.annotation.Ann.{Ann}
 use Rattle.pc_lists.specs.Texts.{Text}
 use Rattle.pc_core.specs.CoreData.{CoreData}
@@ -8,10 +8,11 @@ use Rattle.pc_sched.specs.Limits.{schedule_limit}
 use Rattle.pc_refusals.specs.Accepting.{AcceptedStage}
 use Rattle.pc_refusals.specs.Derivation.{DerivationStage, Judging, derivation_limit}
 use Rattle.pc_refusals.specs.FromFile.{FailedInTurn, FromFile}
-use Rattle.pc_refusals.specs.Named.{Named}
+use Rattle.pc_refusals.specs.Lines.{usage_line}
+use Rattle.pc_refusals.specs.Named.{FailedAt, Named}
 use Rattle.pc_refusals.specs.Schedule.{ScheduleStage}
 use Rattle.pc_refusals.specs.Source.{SourceStage, source_limit}
-use Rattle.pc_refusals.specs.Verdict.{EndsAs, Verdict}
+use Rattle.pc_refusals.specs.Verdict.{EndsAs, Verdict, refused}
 use Rattle.pc_refusals.specs.declared.source.Source.{Source}
 use Rattle.pc_refusals.specs.declared.typing.Accepted.{Accepted}
 
@@ -48,3 +49,13 @@ OfDerivation text source derivation = FromFile source source_limit (SourceStage 
 -- The file that could not be read: the source, or the derivation for a source that has a core.
 abbrev pub UnreadDerivation : Named → Named → Text → Type 0
 UnreadDerivation source derivation name = FailedInTurn source source_limit (SourceStage source.name) derivation name
+
+-- A number among the words: the verdict is that of the number that its word spells, or 2 if it spells none. The word is looked at before
+-- any file is read.
+pub data ByNumber (Is : ℕ → Type 0) (Of : ℕ → Verdict → Type 0) (v : Verdict) : Type 0 where
+  spelled : (n : ℕ) → Is n → Of n v → ByNumber Is Of v
+  no_number : ((n : ℕ) → Is n → ⊥) → v ≡ refused 2 usage_line → ByNumber Is Of v
+
+-- The source that could not be read, which is asked for only if the word spells a number.
+abbrev pub UnreadNumbered : (ℕ → Type 0) → Named → Text → Type 0
+UnreadNumbered Is source name = ((n : ℕ) × Is n) × FailedAt source name

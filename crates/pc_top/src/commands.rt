@@ -11,7 +11,10 @@ ghost use Rattle.pc_top.specs.Inner.Asking.{AsksSo};
 mod check;
 mod judge;
 mod make;
+mod outcomes;
+mod play;
 mod run;
+mod schedule;
 mod sends;
 mod sent_lines;
 mod show;
@@ -23,11 +26,14 @@ mod upgrade;
 use check::check_source;
 use judge::judge_source;
 use make::make_program;
+use outcomes::tell_outcomes;
 use pc_args::Command;
 use pc_io::{Files, Sink};
 use pc_referee::Referee;
 use pc_refusals::{Stop, put_answer};
+use play::play_source;
 use run::run_source;
+use schedule::choose_schedule;
 use sends::tell_sends;
 use show::show_source;
 use std::alloc::Global;
@@ -35,8 +41,8 @@ use swap::swap_turns;
 use trace::trace_run;
 use upgrade::upgrade_derivation;
 
-/// Does what a command asks for. A command that answers a text is written here, by one call of `put` on out; `run` and `make` write as
-/// they go.
+/// Does what a command asks for. A command that answers a text is written here, by one call of `put` on out; `run`, `make` and
+/// `play` write as they go.
 pub fn run_command<F: Files, O: Sink, R: Referee>(
     alloc: Global,
     command: Command,
@@ -71,6 +77,13 @@ pub fn run_command<F: Files, O: Sink, R: Referee>(
         Command::Sends { source } => put_answer(out, tell_sends(alloc, files, source)),
         Command::Upgrade { source, derivation } => {
             put_answer(out, upgrade_derivation(alloc, files, source, derivation))
+        }
+        Command::Schedule { source, seed } => {
+            put_answer(out, choose_schedule(alloc, files, source, seed))
+        }
+        Command::Play { source, seed } => play_source(alloc, files, out, source, seed),
+        Command::Outcomes { source, count } => {
+            put_answer(out, tell_outcomes(alloc, files, source, count))
         }
     }
 }

@@ -12,6 +12,7 @@ use pc_check::{
     nothing_is_derivable_with_a_declaration_that_fails, nothing_is_derivable_with_a_field_unset,
     nothing_is_derivable_without_a_rule,
 };
+use pc_choose::lists_are_one;
 use pc_deriv::annotations_are_one;
 use pc_elab::cores_are_formed;
 use pc_file_spec::cores_are_one;
@@ -21,6 +22,7 @@ use pc_judge::{faulted_is_not_valid, one_fault_is_first};
 use pc_lex::{faults_are_told, tokens_are_one};
 use pc_names::names_are_one;
 use pc_noted_receivers::accepted_held;
+use pc_outcome_laws::answers_are_one;
 use pc_regions::valid_is_safe;
 use pc_rules::one_annotation_is_valid;
 use pc_sched::turns_are_one;
@@ -62,6 +64,8 @@ pub fn verdict_is_one()
     pc_sched::faults_are_told();
     kept_are_not_apart();
     lines_are_one();
+    lists_are_one();
+    answers_are_one();
 }
 
 /// `check` answers 0 exactly when the source has a core with a derivation, and what looks for a derivation answers 1

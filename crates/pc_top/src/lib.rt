@@ -13,6 +13,7 @@
 mod accepting;
 mod commands;
 mod laws;
+mod numbered;
 mod scheduled;
 mod source;
 mod top;

@@ -9,6 +9,8 @@ mod call_cases;
 #[cfg(test)]
 mod cases;
 #[cfg(test)]
+mod choose_cases;
+#[cfg(test)]
 mod counted_sink;
 #[cfg(test)]
 mod failing_cases;

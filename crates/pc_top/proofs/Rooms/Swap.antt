@@ -40,7 +40,7 @@ swapped_late place name core list = ends_status (λ text. text) (Swapping name c
 goes : (files : Files) (source schedule place : Text) (v : Verdict) → IsSwap (named files source) (named files schedule) place v → Goes files (swap source schedule place) source refl refl v
 goes files source schedule place v (placed n p is) =
     inl (begins (OfTurns (Last n) (named files schedule)) (named files source) (turns_late (Last n) (named files source) (named files schedule) (swapped_late n)) v is)
-goes files source schedule place v (no_number none is) = inr (ap (λ (x : Verdict). x.status) is, λ has. let p = has source schedule place refl in none p.0 p.1)
+goes files source schedule place v (no_number none is) = inr (ap (λ (x : Verdict). x.status) is, λ has. none has.0 has.1)
 
 -- ---- one verdict
 

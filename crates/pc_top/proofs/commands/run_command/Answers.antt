@@ -1,5 +1,5 @@
 use Rattle.std.proofs.Common.{ap}
-use Rattle.pc_args.specs.Asked.{asked_by, check, judge, make, run, sends, show, swap, trace, upgrade}
+use Rattle.pc_args.specs.Asked.{asked_by, check, judge, make, outcomes, play, run, schedule_of, sends, show, swap, trace, upgrade}
 use Rattle.pc_io.specs.Change.{change}
 use Rattle.pc_refusals.specs.Named.{files_change}
 use Rattle.pc_top.proofs.Asking.{asks_judge, asks_other}
@@ -75,6 +75,33 @@ returns-in-Upgrade-clause-ends g c =
 
 pub returns-in-Upgrade-clause-asks : goal.returns-in-Upgrade-clause-asks
 returns-in-Upgrade-clause-asks g c = asks_other (g.F.Files.bytes c.args.files.now) (asked_by c.args.command) (upgrade c.in-Upgrade.source.now c.in-Upgrade.derivation.now) (g.R.Referee.asked c.args.referee.now) c.put_answer-in-Upgrade.result (ap asked_by c.in-Upgrade.is) (λ s d e. cc)
+
+pub returns-in-Schedule-clause-ends : goal.returns-in-Schedule-clause-ends
+returns-in-Schedule-clause-ends g c =
+    let files = files_change (g.F.Files.bytes c.args.files.now) (g.F.Files.faults c.args.files.now) (g.F.Files.faults c.choose_schedule.new.files) (g.F.Files.taken c.choose_schedule.new.files) in
+    let out = change (g.O.Sink.written c.args.out.now) (g.O.Sink.written c.put_answer-in-Schedule.new.out) (g.O.Sink.faults c.args.out.now) (g.O.Sink.faults c.put_answer-in-Schedule.new.out) in
+    command_puts files out _ (schedule_of c.in-Schedule.source.now c.in-Schedule.seed.now) _ _ (ap asked_by c.in-Schedule.is) c.choose_schedule.ensures c.put_answer-in-Schedule.ensures.puts
+
+pub returns-in-Schedule-clause-asks : goal.returns-in-Schedule-clause-asks
+returns-in-Schedule-clause-asks g c = asks_other _ _ (schedule_of c.in-Schedule.source.now c.in-Schedule.seed.now) _ _ (ap asked_by c.in-Schedule.is) (λ s d e. cc)
+
+pub returns-in-Outcomes-clause-ends : goal.returns-in-Outcomes-clause-ends
+returns-in-Outcomes-clause-ends g c =
+    let files = files_change (g.F.Files.bytes c.args.files.now) (g.F.Files.faults c.args.files.now) (g.F.Files.faults c.tell_outcomes.new.files) (g.F.Files.taken c.tell_outcomes.new.files) in
+    let out = change (g.O.Sink.written c.args.out.now) (g.O.Sink.written c.put_answer-in-Outcomes.new.out) (g.O.Sink.faults c.args.out.now) (g.O.Sink.faults c.put_answer-in-Outcomes.new.out) in
+    command_puts files out _ (outcomes c.in-Outcomes.source.now c.in-Outcomes.count.now) _ _ (ap asked_by c.in-Outcomes.is) c.tell_outcomes.ensures c.put_answer-in-Outcomes.ensures.puts
+
+pub returns-in-Outcomes-clause-asks : goal.returns-in-Outcomes-clause-asks
+returns-in-Outcomes-clause-asks g c = asks_other _ _ (outcomes c.in-Outcomes.source.now c.in-Outcomes.count.now) _ _ (ap asked_by c.in-Outcomes.is) (λ s d e. cc)
+
+pub returns-in-Play-clause-ends : goal.returns-in-Play-clause-ends
+returns-in-Play-clause-ends g c =
+    let files = files_change (g.F.Files.bytes c.args.files.now) (g.F.Files.faults c.args.files.now) (g.F.Files.faults c.play_source.new.files) (g.F.Files.taken c.play_source.new.files) in
+    let out = change (g.O.Sink.written c.args.out.now) (g.O.Sink.written c.play_source.new.out) (g.O.Sink.faults c.args.out.now) (g.O.Sink.faults c.play_source.new.out) in
+    command_ends files out _ (play c.in-Play.source.now c.in-Play.seed.now) _ (ap asked_by c.in-Play.is) c.play_source.ensures.ends
+
+pub returns-in-Play-clause-asks : goal.returns-in-Play-clause-asks
+returns-in-Play-clause-asks g c = asks_other _ _ (play c.in-Play.source.now c.in-Play.seed.now) _ _ (ap asked_by c.in-Play.is) (λ s d e. cc)
 
 pub returns-in-Run-clause-ends : goal.returns-in-Run-clause-ends
 returns-in-Run-clause-ends g c =

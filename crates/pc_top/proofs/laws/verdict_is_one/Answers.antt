@@ -36,4 +36,6 @@ returns c =
       word = c.faults_are_told-2.ensures.one;
       kept = c.kept_are_not_apart.ensures;
       line = c.lines_are_one.ensures;
+      chosen = c.lists_are_one.ensures;
+      outcomes = c.answers_are_one.ensures;
     })

@@ -1,0 +1,47 @@
+-- `outcomes SRC COUNT`.
+use Rattle.std.specs.Prelude.{ℕ, ◌≡◌, ◌<◌, ◌++◌, List, Result, Ok, Err, codes, decimal}
+use Rattle.std.specs.Io.KnownBytes.{Appends}
+use Rattle.pc_io.specs.Change.{Change}
+use Rattle.pc_args.specs.Numbers.{IsCount}
+use Rattle.pc_core.specs.CoreData.{CoreData}
+use Rattle.pc_lists.specs.Texts.{Text}
+use Rattle.pc_outcomes.specs.Tables.{StepsPass, TextsPass, Told, steps_limit, texts_limit}
+use Rattle.pc_outcomes.specs.Texts.{text_of}
+use Rattle.pc_outcomes.specs.declared.entry.Entry.{Entry}
+use Rattle.pc_refusals.specs.Lines.{line_end}
+use Rattle.pc_refusals.specs.Named.{Named}
+use Rattle.pc_refusals.specs.Verdict.{EndsWith, Verdict, refused}
+use Rattle.pc_refusals.specs.declared.typing.Accepted.{Accepted}
+use Rattle.pc_top.specs.CoreOf.{CoreOf}
+use Rattle.pc_top.specs.Shapes.{ByNumber, OfAccepted}
+
+-- ---- lines
+
+-- `SRC: the plays of seeds 0 to S have more than 100000000 steps`
+abbrev pub many_steps_line : Text → (seed : ℕ) → Text
+many_steps_line name seed = name ++ (codes ": the plays of seeds 0 to " ++ (decimal seed ++ (codes " have more than " ++ (decimal steps_limit ++ (codes " steps" ++ line_end)))))
+
+-- `SRC: the texts of seeds 0 to S have more than 67108864 bytes`
+abbrev pub many_bytes_line : Text → (seed : ℕ) → Text
+many_bytes_line name seed = name ++ (codes ": the texts of seeds 0 to " ++ (decimal seed ++ (codes " have more than " ++ (decimal texts_limit ++ (codes " bytes" ++ line_end)))))
+
+-- ---- the verdict
+
+-- The text of the table of the seeds below a count; or 8 at the first seed with which their plays have too many steps, or the
+-- different texts too many bytes.
+pub data Telling (name : Text) (core : CoreData) (count : ℕ) : Result Text Verdict → Type 0 where
+  tells : (entries : List Entry) (text : Text) → Told core count entries → text ≡ text_of count entries → Telling name core count (Ok text)
+  many_steps : (seed : ℕ) → seed < count → StepsPass core seed → Telling name core count (Err (refused 8 (many_steps_line name seed)))
+  many_bytes : (seed : ℕ) → seed < count → TextsPass core seed → Telling name core count (Err (refused 8 (many_bytes_line name seed)))
+
+-- Done with this text, or refused. A line on err names the source by this name.
+abbrev pub Tabled : Text → (count : ℕ) → Accepted → Verdict → Type 0
+Tabled name count accepted = EndsWith (Telling name accepted.source.core count)
+
+-- The verdict of `outcomes` on this source and this word: that of the count that it spells, or 2 if it spells none.
+abbrev pub IsOutcomes : Named → Text → Verdict → Type 0
+IsOutcomes source count = ByNumber (IsCount count) (λ n. OfAccepted (Tabled source.name n) source)
+
+-- Out grew by the text of the table of the seeds below a count: each different outcome of their plays of the source's core.
+abbrev pub WritesOutcomes : Change → (count : ℕ) → Text → Type 0
+WritesOutcomes out count bytes = (core : CoreData) × CoreOf bytes core × (entries : List Entry) × Told core count entries × Appends out.before out.now (text_of count entries)

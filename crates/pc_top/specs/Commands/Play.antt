@@ -1,0 +1,31 @@
+-- `play SRC SEED`.
+use Rattle.std.specs.Prelude.{ℕ, List}
+use Rattle.std.specs.Io.KnownBytes.{Appends}
+use Rattle.pc_io.specs.Change.{Change}
+use Rattle.pc_args.specs.Numbers.{IsSeed}
+use Rattle.pc_choose.specs.Lists.{Chosen}
+use Rattle.pc_core.specs.CoreData.{CoreData}
+use Rattle.pc_lists.specs.Texts.{Text}
+use Rattle.pc_semantics.specs.Text.{run_text}
+use Rattle.pc_refusals.specs.Named.{Named}
+use Rattle.pc_refusals.specs.Verdict.{Verdict}
+use Rattle.pc_refusals.specs.declared.typing.Accepted.{Accepted}
+use Rattle.pc_top.specs.Commands.Run.{Ran}
+use Rattle.pc_top.specs.CoreOf.{CoreOf}
+use Rattle.pc_top.specs.Shapes.{ByNumber, OfAccepted}
+
+-- The run of the list that the seed chooses.
+abbrev pub RanChosen : Text → (seed : ℕ) → CoreData → Verdict → Type 0
+RanChosen name seed core v = (list : List ℕ) × Chosen core seed list × Ran name core list v
+
+-- The same for an accepted source. A line on err names it by this name.
+abbrev pub Played : Text → (seed : ℕ) → Accepted → Verdict → Type 0
+Played name seed accepted = RanChosen name seed accepted.source.core
+
+-- The verdict of `play` on this source and this word: that of the seed that it spells, or 2 if it spells none.
+abbrev pub IsPlay : Named → Text → Verdict → Type 0
+IsPlay source seed = ByNumber (IsSeed seed) (λ n. OfAccepted (Played source.name n) source)
+
+-- Out grew by the text of the run of the list that the seed chooses for the source's core.
+abbrev pub WritesPlay : Change → (seed : ℕ) → Text → Type 0
+WritesPlay out seed bytes = (core : CoreData) × CoreOf bytes core × (list : List ℕ) × Chosen core seed list × Appends out.before out.now (run_text core list)

@@ -1,0 +1,20 @@
+-- How the reading of a number among the words, and then of a source that has to be accepted, ended.
+use Rattle.std.specs.Prelude.{ℕ, ◌≡◌, Option, Some, None, Result, Ok, Err}
+use Rattle.pc_lists.specs.Texts.{Text}
+use Rattle.pc_refusals.specs.Accepting.{AcceptedStage}
+use Rattle.pc_refusals.specs.Inner.Refusals.{IsRefusal}
+use Rattle.pc_refusals.specs.Inner.Stages.{PartGives, PartStops}
+use Rattle.pc_refusals.specs.Lines.{usage_line}
+use Rattle.pc_refusals.specs.Named.{Files, named}
+use Rattle.pc_refusals.specs.Source.{source_limit}
+use Rattle.pc_refusals.specs.declared.stop.Stop.{Stop}
+use Rattle.pc_top.specs.declared.numbered.Numbered.{Numbered}
+
+-- It stopped since there is no number, or since the source is not accepted.
+abbrev pub NumberStops : Files → Text → Option ℕ → Stop → Type 0
+NumberStops files source None s = IsRefusal 2 usage_line s
+NumberStops files source (Some n) s = PartStops source_limit (AcceptedStage source) (named files source) s
+
+abbrev pub NumberedEnds : Files → Text → Option ℕ → Result Numbered Stop → Type 0
+NumberedEnds files source number (Ok read) = (number ≡ Some read.number) × PartGives source_limit (AcceptedStage source) (named files source) read.accepted
+NumberedEnds files source number (Err s) = NumberStops files source number s
