@@ -1,7 +1,9 @@
--- The written forms are taken, and their matches are the names.
-use Rattle.std.proofs.Common.{◌≡◌, ◌∙◌, ℕ, List, [], ◌∷◌, Some, None, true, false, not, ◌&&◌, refl, ap, nat_eq}
-use Rattle.std.specs.Prelude.{if◌then◌else◌, option_and_then}
-use Rattle.clap.specs.Words.{fault_of, subcommand_of, takes}
+-- The written forms are taken, and their matches are the names; and each subcommand of the command line asks for something.
+use Rattle.std.proofs.Common.{◌≡◌, ◌∙◌, ℕ, Bool, cond, List, [], ◌∷◌, Option, Some, None, true, false, not, ◌&&◌, refl, ap, nat_eq, option_map}
+use Rattle.std.specs.Prelude.{codes, find, if◌then◌else◌, option_and_then}
+use Rattle.clap.specs.Simple.{App, Shape, argument_words, built, entered, label_of, names_of, rows_at}
+use Rattle.clap.specs.Walk.{answers_to, stop_after}
+use Rattle.clap.specs.Words.{Row, fault_of, subcommand_of, takes}
 use Rattle.clap.proofs.OnLiterals.{clap_on_literals}
 use Rattle.pc_lists.specs.Texts.{Text}
 use Rattle.pc_args.specs.Asked.{Asked, check, command_of, has_fault, is_refused, judge, make, named, outcomes, play, run, schedule_of, sends, show, swap, trace, upgrade}
@@ -255,3 +257,70 @@ tables (c ∷ rest) (d ∷ more) e f =
 
 pub forms_taken : WrittenFormsAreTaken
 forms_taken = record { checks = checks; judges = judges; runs = runs; shows = shows; makes = makes; swaps = swaps; traces = traces; sendings = sendings; upgrades = upgrades; schedules = schedules; plays = plays; tables = tables }
+
+-- ---- each subcommand asks for something
+
+-- With whatever values a subcommand of this name asks for something.
+abbrev Asks : Text → Type 0
+Asks name = (rows : List Row) → named (name, rows) ≡ None → ⊥
+
+abbrev AllAsk : List Shape → Type 0
+AllAsk [] = Unit {0}
+AllAsk (s ∷ ss) = Asks s.name × AllAsk ss
+
+here : (b : Bool) (s : Shape) (o : Option Shape) (words : List Text) → Asks s.name
+    → (option_and_then named (option_map (λ x. rows_at x words) o) ≡ None → option_map (λ x. rows_at x words) o ≡ None)
+    → option_and_then named (option_map (λ x. rows_at x words) (cond b (Some s) o)) ≡ None → option_map (λ x. rows_at x words) (cond b (Some s) o) ≡ None
+here true s o words asks rest e = absurd (asks (rows_at s words).1 e)
+here false s o words asks rest e = rest e
+
+found : (test : Shape → Bool) (words : List Text) (ss : List Shape) → AllAsk ss
+    → option_and_then named (option_map (λ x. rows_at x words) (find test ss)) ≡ None → option_map (λ x. rows_at x words) (find test ss) ≡ None
+found test words [] all e = refl
+found test words (s ∷ ss) all e = here (test s) s (find test ss) words all.0 (found test words ss all.1) e
+
+enters : (a : App) (stop : Option (Text × List Text)) → AllAsk a.subs → option_and_then named (entered a stop) ≡ None → entered a stop ≡ None
+enters a None all e = refl
+enters a (Some p) all e = found (λ s. answers_to p.0 (label_of s)) p.1 a.subs all e
+
+check_known : Asks (codes "check")
+check_known rows e = cc
+
+judge_known : Asks (codes "judge")
+judge_known rows e = cc
+
+run_known : Asks (codes "run")
+run_known rows e = cc
+
+show_known : Asks (codes "show")
+show_known rows e = cc
+
+make_known : Asks (codes "make")
+make_known rows e = cc
+
+swap_known : Asks (codes "swap")
+swap_known rows e = cc
+
+trace_known : Asks (codes "trace")
+trace_known rows e = cc
+
+sends_known : Asks (codes "sends")
+sends_known rows e = cc
+
+upgrade_known : Asks (codes "upgrade")
+upgrade_known rows e = cc
+
+schedule_known : Asks (codes "schedule")
+schedule_known rows e = cc
+
+play_known : Asks (codes "play")
+play_known rows e = cc
+
+outcomes_known : Asks (codes "outcomes")
+outcomes_known rows e = cc
+
+-- Words that ask for nothing have no subcommand.
+pub nothing_asked : (words : List Text) → option_and_then named (subcommand_of rcap words) ≡ None → subcommand_of rcap words ≡ None
+nothing_asked words e =
+    let stop = stop_after (built rcap).top.rules (names_of (built rcap)) (argument_words rcap words) in
+    enters (built rcap) stop (check_known, (judge_known, (run_known, (show_known, (make_known, (swap_known, (trace_known, (sends_known, (upgrade_known, (schedule_known, (play_known, (outcomes_known, tt)))))))))))) e

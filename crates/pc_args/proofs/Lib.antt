@@ -1,5 +1,4 @@
 mod Forms
-mod Known
 mod Missing
 pub mod Refusals
 mod Simple

@@ -7,7 +7,7 @@ use Rattle.pc_lists.specs.Texts.{Text}
 use Rattle.pc_args.specs.Asked.{Asked, command_of, has_fault, is_refused, named}
 use Rattle.pc_args.specs.Line.{rcap}
 use Rattle.pc_args.specs.Refused.{OnlyRefusedAskForNothing}
-use Rattle.pc_args.proofs.Known.{nothing_asked}
+use Rattle.pc_args.proofs.Forms.{nothing_asked}
 use Rattle.pc_args.proofs.Missing.{missing, untaken_without}
 
 faultless : (t : Bool) (k : Kinds) → k ≡ [] → (not t && has_fault k) ≡ false

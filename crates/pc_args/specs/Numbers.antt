@@ -14,10 +14,6 @@ IsSeed text n = IsNumber 20 text n × (n < 2 ^ 64)
 abbrev pub IsSize : List ℕ → ℕ → Type 0
 IsSize text n = IsNumber 3 text n × (1 ≤ n) × (n ≤ 900)
 
--- One to five digits, and a number from 1 to 10,000.
-abbrev pub IsCount : List ℕ → ℕ → Type 0
-IsCount text n = IsNumber 5 text n × (1 ≤ n) × (n ≤ 10000)
-
 -- The number of which this holds, or that there is none.
 abbrev pub Reads : (ℕ → Type 0) → Option ℕ → Type 0
 Reads Is None = (n : ℕ) → Is n → ⊥

@@ -1,6 +1,6 @@
 //! Numbers among the words, read from texts.
 ghost use Rattle.std.specs.Prelude.{◌<◌, ◌^◌};
-ghost use Rattle.pc_args.specs.Numbers.{IsCount, IsNumber, IsSeed, IsSize, Reads};
+ghost use Rattle.pc_args.specs.Numbers.{IsNumber, IsSeed, IsSize, Reads};
 
 /// How many digits at most spell a seed.
 const SEED_DIGITS: usize = 20;
@@ -11,14 +11,8 @@ const SIZE_DIGITS: usize = 3;
 /// The largest size.
 const LARGEST: u64 = 900;
 
-/// How many digits at most spell a count of seeds.
-const COUNT_DIGITS: usize = 5;
-
-/// The largest count of seeds.
-const MOST_SEEDS: u64 = 10_000;
-
-// The number that a text spells with one to so many digits, if it is below 2^64.
-fn number_of(text: &str, most: usize) -> Option<u64>
+/// The number that a text spells with at most this number of digits, and at least one, if it is below 2^64.
+pub fn number_of(text: &str, most: usize) -> Option<u64>
     ensures { Reads (λ n. IsNumber most text.now n × (n < 2 ^ 64)) result }
 {
     match text.as_bytes() {
@@ -44,15 +38,4 @@ pub fn size_of(text: &str) -> Option<u32>
         return None;
     }
     Some(size as u32)
-}
-
-/// The count of seeds that a text spells: one to five digits, of a number from 1 to 10,000.
-pub fn count_of(text: &str) -> Option<u64>
-    ensures { Reads (IsCount text.now) result }
-{
-    let count = number_of(text, COUNT_DIGITS)?;
-    if count < 1 || count > MOST_SEEDS {
-        return None;
-    }
-    Some(count)
 }

@@ -3,7 +3,7 @@ use Rattle.std.specs.Prelude.{ℕ, ◌≡◌, ◌⊎◌, Bool, true, false, List
 use Rattle.std.specs.Io.KnownBytes.{Appends}
 use Rattle.pc_lists.specs.Texts.{Text}
 use Rattle.pc_args.specs.Asked.{Asked, check, judge, make, outcomes, play, run, schedule_of, sends, show, swap, trace, upgrade}
-use Rattle.pc_args.specs.Numbers.{IsCount, IsSeed, IsSize}
+use Rattle.pc_args.specs.Numbers.{IsSeed, IsSize}
 use Rattle.pc_io.specs.Change.{Change}
 use Rattle.pc_refusals.specs.Lines.{usage_line}
 use Rattle.pc_refusals.specs.Named.{FailedAt, Files, named}
@@ -11,7 +11,7 @@ use Rattle.pc_refusals.specs.Verdict.{Verdict, refused}
 use Rattle.pc_top.specs.Commands.Check.{IsCheck, WritesDerivation}
 use Rattle.pc_top.specs.Commands.Judge.{IsJudge, accepted_text}
 use Rattle.pc_top.specs.Commands.Make.{IsMake, WritesMade}
-use Rattle.pc_top.specs.Commands.Outcomes.{IsOutcomes, WritesOutcomes}
+use Rattle.pc_top.specs.Commands.Outcomes.{IsCount, IsOutcomes, WritesOutcomes}
 use Rattle.pc_top.specs.Commands.Play.{IsPlay, WritesPlay}
 use Rattle.pc_top.specs.Commands.Run.{IsRun, WritesRun}
 use Rattle.pc_top.specs.Commands.Schedule.{IsSchedule, WritesSchedule}

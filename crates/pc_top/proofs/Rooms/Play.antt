@@ -3,13 +3,18 @@ use Rattle.std.proofs.Common.{◌≡◌, ℕ, List, refl, subst}
 use Rattle.std.specs.Io.KnownBytes.{Appends}
 use Rattle.pc_args.specs.Asked.{play}
 use Rattle.pc_args.specs.Numbers.{IsSeed}
+use Rattle.pc_choose.specs.Lists.{Chosen}
+use Rattle.pc_core.specs.CoreData.{CoreData}
+use Rattle.pc_io.specs.Change.{Change}
 use Rattle.pc_lists.specs.Texts.{Text}
 use Rattle.pc_semantics.specs.Text.{run_text}
+use Rattle.pc_refusals.specs.Ends.{TellsPart}
+use Rattle.pc_refusals.specs.Inner.Answering.{Tells}
 use Rattle.pc_refusals.specs.Named.{Files, named}
 use Rattle.pc_refusals.specs.Verdict.{Verdict}
 use Rattle.pc_refusals.specs.declared.typing.Accepted.{Accepted}
 use Rattle.pc_refusals.proofs.Statuses.{IsLate}
-use Rattle.pc_top.specs.Commands.Play.{Played, WritesPlay}
+use Rattle.pc_top.specs.Commands.Play.{Played, RanChosen, WritesPlay}
 use Rattle.pc_top.specs.Commands.Run.{Ran}
 use Rattle.pc_top.proofs.NumberRoom.{numbered}
 use Rattle.pc_top.proofs.Premises.{Laws}
@@ -17,7 +22,6 @@ use Rattle.pc_top.proofs.Room.{Room}
 use Rattle.pc_top.proofs.Rooms.Run.{one_ran, ran_late, ran_says}
 use Rattle.pc_top.proofs.Rooms.Schedule.{one_list, one_seed}
 use Rattle.pc_top.proofs.Shapes.{accepted_says}
-pub mod Ends
 
 played_late : (name : Text) (n : ℕ) (a : Accepted) (v : Verdict) → Played name n a v → IsLate v.status
 played_late name n a v p = ran_late name a.source.core p.0 v p.2
@@ -33,3 +37,12 @@ play_room files source seed =
     (λ a of_bytes valid r.
     let grew : Appends out.before out.now (run_text a.source.core r.0) = subst (λ (t : Text). Appends out.before out.now t) (ran_says r.2) o in
     (n, p, (a.source.core, of_bytes, r.0, r.1, grew))) is)
+
+-- ---- from the run of a seed's list to the play
+
+module _ (name : Text) (core : CoreData) (seed : ℕ) (list : List ℕ) (chosen : Chosen core seed list) (out : Change) where
+  pub chosen_told : (status : ℕ) (line : Text) → Tells (Ran name core list) out status line → Tells (RanChosen name seed core) out status line
+  chosen_told status line t = (t.0, (list, chosen, t.1), t.2, t.3, t.4)
+
+  pub chosen_part : TellsPart (Ran name core list) out → TellsPart (RanChosen name seed core) out
+  chosen_part t = (t.0, (list, chosen, t.1), t.2)

@@ -1,11 +1,11 @@
 -- `outcomes SRC COUNT`.
-use Rattle.std.specs.Prelude.{ℕ, ◌≡◌, ◌<◌, ◌++◌, List, Result, Ok, Err, codes, decimal}
+use Rattle.std.specs.Prelude.{ℕ, ◌≡◌, ◌<◌, ◌≤◌, ◌++◌, List, Result, Ok, Err, codes, decimal}
 use Rattle.std.specs.Io.KnownBytes.{Appends}
 use Rattle.pc_io.specs.Change.{Change}
-use Rattle.pc_args.specs.Numbers.{IsCount}
+use Rattle.pc_args.specs.Numbers.{IsNumber}
 use Rattle.pc_core.specs.CoreData.{CoreData}
 use Rattle.pc_lists.specs.Texts.{Text}
-use Rattle.pc_outcomes.specs.Tables.{StepsPass, TextsPass, Told, steps_limit, texts_limit}
+use Rattle.pc_outcomes.specs.Tables.{StepsPass, TextsPass, Told}
 use Rattle.pc_outcomes.specs.Texts.{text_of}
 use Rattle.pc_outcomes.specs.declared.entry.Entry.{Entry}
 use Rattle.pc_refusals.specs.Lines.{line_end}
@@ -15,15 +15,19 @@ use Rattle.pc_refusals.specs.declared.typing.Accepted.{Accepted}
 use Rattle.pc_top.specs.CoreOf.{CoreOf}
 use Rattle.pc_top.specs.Shapes.{ByNumber, OfAccepted}
 
+-- One to five digits, and a number from 1 to 10,000. The first ones may be zeros.
+abbrev pub IsCount : Text → ℕ → Type 0
+IsCount text n = IsNumber 5 text n × (1 ≤ n) × (n ≤ 10000)
+
 -- ---- lines
 
 -- `SRC: the plays of seeds 0 to S have more than 100000000 steps`
 abbrev pub many_steps_line : Text → (seed : ℕ) → Text
-many_steps_line name seed = name ++ (codes ": the plays of seeds 0 to " ++ (decimal seed ++ (codes " have more than " ++ (decimal steps_limit ++ (codes " steps" ++ line_end)))))
+many_steps_line name seed = name ++ (codes ": the plays of seeds 0 to " ++ (decimal seed ++ (codes " have more than 100000000 steps" ++ line_end)))
 
 -- `SRC: the texts of seeds 0 to S have more than 67108864 bytes`
 abbrev pub many_bytes_line : Text → (seed : ℕ) → Text
-many_bytes_line name seed = name ++ (codes ": the texts of seeds 0 to " ++ (decimal seed ++ (codes " have more than " ++ (decimal texts_limit ++ (codes " bytes" ++ line_end)))))
+many_bytes_line name seed = name ++ (codes ": the texts of seeds 0 to " ++ (decimal seed ++ (codes " have more than 67108864 bytes" ++ line_end)))
 
 -- ---- the verdict
 

@@ -3,7 +3,7 @@ use Rattle.std.specs.Prelude.{option_and_then}
 use Rattle.clap.specs.Words.{Row, Text, fault_of, takes}
 use Rattle.pc_args.specs.Asked.{named, texts}
 use Rattle.pc_args.specs.Line.{rcap}
-use Rattle.pc_args.proofs.Known.{nothing_asked}
+use Rattle.pc_args.proofs.Forms.{nothing_asked}
 use Rattle.pc_args.proofs.Missing.{missing}
 use Rattle.pc_args.proofs.Refusals.{asks, refuses}
 use Rattle.pc_args.proofs.words.read_words.Goals as goal
