@@ -19,7 +19,7 @@ use Rattle.pc_choose.specs.Choice.{turn, new_turn, turn_of, picked, picks, or_ne
 use Rattle.pc_choose.specs.Lists.{AfterStep, Follows, most_steps}
 use Rattle.pc_choose.specs.Laws.{EndsAt, ListsEnd}
 
--- ---- no one is picked only where no actor is able
+-- ---- if no one is picked, no actor is able
 
 abbrev There : {X : Type 0} → Option X → Type 0
 There None = ⊥

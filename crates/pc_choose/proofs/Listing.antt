@@ -17,10 +17,10 @@ abbrev Filled : List ℕ → Type 0
 Filled [] = ⊥
 Filled (x ∷ xs) = Unit {0}
 
-never : (x : ℕ) (xs : List ℕ) → x ∷ xs ≡ [] → ⊥
+pub never : (x : ℕ) (xs : List ℕ) → x ∷ xs ≡ [] → ⊥
 never x xs e = subst Filled e tt
 
-never_within : (ks : List ℕ) (i : ℕ) (is : List ℕ) → ks ++ i ∷ is ≡ [] → ⊥
+pub never_within : (ks : List ℕ) (i : ℕ) (is : List ℕ) → ks ++ i ∷ is ≡ [] → ⊥
 never_within [] i is e = never i is e
 never_within (k ∷ ks) i is e = never k (ks ++ i ∷ is) e
 

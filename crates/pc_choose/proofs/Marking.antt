@@ -40,15 +40,15 @@ changed (x ∷ xs) zero a = refl
 changed (x ∷ xs) (suc i) a = ap (λ (l : List ℕ). mark_of x ∷ l) (changed xs i a)
 
 -- actor j has a message
-told : (xs : List Actor) (j : ℕ) (b : Actor) → has_work b.frames b.mailbox ≡ true → marks_in (slice_set xs j b) ≡ set (marks_in xs) j 1
-told xs j b h = map-set mark_of xs j b ∙ ap (λ (t : Bool). set (marks_in xs) j (mark t)) h
+mailed_marks : (xs : List Actor) (j : ℕ) (b : Actor) → has_work b.frames b.mailbox ≡ true → marks_in (slice_set xs j b) ≡ set (marks_in xs) j 1
+mailed_marks xs j b h = map-set mark_of xs j b ∙ ap (λ (t : Bool). set (marks_in xs) j (mark t)) h
 
 -- actor i is changed, and then j has a message
 both : (xs : List Actor) (i j : ℕ) (a b : Actor) → has_work b.frames b.mailbox ≡ true
     → marks_in (slice_set (slice_set xs i a) j b) ≡ set (set (marks_in xs) j 1) i (mark (able_in (slice_set (slice_set xs i a) j b) i))
 both [] i j a b h = refl
 both (x ∷ xs) zero zero a b h = refl
-both (x ∷ xs) zero (suc j) a b h = ap (λ (l : List ℕ). mark_of a ∷ l) (told xs j b h)
+both (x ∷ xs) zero (suc j) a b h = ap (λ (l : List ℕ). mark_of a ∷ l) (mailed_marks xs j b h)
 both (x ∷ xs) (suc i) zero a b h = ap (λ (t : Bool). mark t ∷ marks_in (slice_set xs i a)) h ∙ ap (λ (l : List ℕ). 1 ∷ l) (changed xs i a)
 both (x ∷ xs) (suc i) (suc j) a b h = ap (λ (l : List ℕ). mark_of x ∷ l) (both xs i j a b h)
 

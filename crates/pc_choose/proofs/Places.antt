@@ -5,6 +5,7 @@ use Rattle.std.proofs.Math.Nat.{eq-or-lt_of_le}
 use Rattle.std.proofs.lemmas.Bool.{false≢true, ltb-false, ltb-true}
 use Rattle.std.proofs.lemmas.List.{length-map, take_more, take_all}
 use Rattle.std.proofs.lemmas.List.Sums.{sum_by-cons, sum_by-take-le}
+use Rattle.std.proofs.lemmas.Option.{none-some, same_Some}
 use Rattle.pc_semantics.specs.declared.actors.Actor.{Actor}
 use Rattle.pc_semantics.specs.Configurations.{Configuration}
 use Rattle.pc_tally.specs.Sums.{FallsOn}
@@ -49,6 +50,17 @@ marks_push [] a zero = omega arith
 marks_push [] a (suc i) = omega arith
 marks_push (m ∷ ms) a zero = a zero
 marks_push (m ∷ ms) a (suc i) = marks_push ms (λ k. a (suc k)) i
+
+-- A mark that is there already, and one of no actor.
+pub same_set : (ms : List ℕ) (i v : ℕ) → slice_get ms i ≡ Some v → set ms i v ≡ ms
+same_set [] i v e = refl
+same_set (m ∷ ms) zero v e = ap (λ (n : ℕ). n ∷ ms) (sym (same_Some m v e))
+same_set (m ∷ ms) (suc i) v e = ap (λ (l : List ℕ). m ∷ l) (same_set ms i v e)
+
+pub past_set : (ms : List ℕ) (i v : ℕ) → slice_get ms i ≡ None → set ms i v ≡ ms
+past_set [] i v e = refl
+past_set (m ∷ ms) zero v e = absurd (none-some m (sym e))
+past_set (m ∷ ms) (suc i) v e = ap (λ (l : List ℕ). m ∷ l) (past_set ms i v e)
 
 -- There are no more marks that are 1 than marks.
 pub marks_sum : (ms : List ℕ) → AreMarks ms → sum ms ≤ length ms
@@ -268,6 +280,10 @@ module _ (c : Configuration) where
 
     pub first_beyond : length (marks_of c) ≤ first → slice_get (able_among c first (end - first)) 0 ≡ None
     first_beyond l = let e = sum_all first (marks_of c) l in first_none (omega (arith, e))
+
+-- the first one itself
+pub first_here : (c : Configuration) (first end : ℕ) → first < end → able c first ≡ true → Some first ≡ slice_get (able_among c first (end - first)) 0
+first_here c first end l w = sym (place_at c (end - first) first 0 first (omega arith) (omega (arith, l)) w (omega arith))
 
 -- ---- the same of marks that are a configuration's
 

@@ -16,7 +16,7 @@ use Rattle.pc_choose.specs.Choice.{turn, stepped, at_first}
 use Rattle.pc_choose.specs.Choosers.{Advances}
 use Rattle.pc_choose.specs.Lists.{AfterStep, Follows, Chosen, most_steps}
 
--- So many steps were taken, these; what follows from here gives the whole.
+-- These steps were taken; what follows from here gives the whole list.
 pub record Underway (core : CoreData) (seed n : ℕ) (p : Point) (c : Configuration) (list : List ℕ) : Type 0 where
   pub whole : (more : List ℕ) → Follows core seed (most_steps - n) p c more → Chosen core seed (list ++ more)
   pub few_objects : len c.objects ≤ 3 + n

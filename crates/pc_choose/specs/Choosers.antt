@@ -1,12 +1,15 @@
 -- Choosers: where a choice stands.
-use Rattle.std.specs.Prelude.{◌≡◌, ℕ, ◌*◌, List, Option, Some, None, IsSomeAnd, refl}
+use Rattle.std.specs.Prelude.{◌≡◌, ℕ, ◌*◌, List, Option, Some, None, IfSome, IsSomeAnd, refl}
 use Rattle.std.specs.Coded.{Coded, code_by, coded×, coded_list, coded_ℕ}
 use Rattle.pc_core.specs.CoreData.{CoreData}
+use Rattle.pc_semantics.specs.declared.ahead.Ahead.{Ahead}
 use Rattle.pc_semantics.specs.declared.outcome.Outcome.{Outcome}
+use Rattle.pc_semantics.specs.Ahead.{ahead_of}
 use Rattle.pc_semantics.specs.Configurations.{Configuration}
 use Rattle.pc_semantics.specs.Step.{step}
 use Rattle.pc_draws.specs.Draws.{state}
 use Rattle.pc_choose.specs.declared.point.Point.{Point}
+use Rattle.pc_choose.specs.declared.step.Onward.{Onward}
 use Rattle.pc_choose.specs.declared.step.Step.{Step}
 use Rattle.pc_choose.specs.contracts.point.Point as point
 use Rattle.pc_choose.specs.Choice.{turn, stepped}
@@ -33,3 +36,12 @@ pub record IsAt (chooser : ChooserData) (c : Configuration) : Type 0 where
 abbrev pub Advances : CoreData → (seed : ℕ) → Point → Configuration → Point → Configuration → Option Step → Type 0
 Advances core seed p c q d None = (turn seed p c ≡ None) × (d ≡ c)
 Advances core seed p c q d (Some taken) = IsSomeAnd (turn seed p c) (λ t. (taken.actor ≡ t.actor) × (q ≡ stepped t) × (◌≡◌ {A = Outcome × Configuration} (taken.outcome, d) (step core c taken.actor)))
+
+-- The step alone, if one was taken.
+abbrev pub step_of : Option Onward → Option Step
+step_of None = None
+step_of (Some onward) = Some onward.step
+
+-- What is ahead of actor i is this, if it is known.
+abbrev pub IsKnown : CoreData → Configuration → (i : ℕ) → Option Ahead → Type 0
+IsKnown core c i known = IfSome known (λ ahead. ahead ≡ ahead_of core c i)

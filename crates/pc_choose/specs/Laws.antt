@@ -1,5 +1,6 @@
 -- What is proved of the lists of seeds.
-use Rattle.std.specs.Prelude.{◌≡◌, ◌≢◌, ℕ, ◌≤◌, true, false, List, [], ◌∷◌, ◌++◌, length, ◌⊎◌}
+use Rattle.std.specs.Prelude.{◌≡◌, ◌≢◌, ℕ, ◌+◌, ◌*◌, ◌<◌, ◌≤◌, true, false, List, [], ◌∷◌, ◌++◌, length, ◌⊎◌}
+use Rattle.std.specs.List.{AllByRecursion}
 use Rattle.pc_core.specs.CoreData.{CoreData}
 use Rattle.pc_semantics.specs.declared.outcome.Outcome.TheVariants.{Moved, Skipped}
 use Rattle.pc_semantics.specs.Configurations.{Configuration}
@@ -7,8 +8,9 @@ use Rattle.pc_semantics.specs.Runs.{after}
 use Rattle.pc_semantics.specs.Step.{step}
 use Rattle.pc_semantics.specs.Ahead.{ahead_of}
 use Rattle.pc_semantics.specs.declared.ahead.Ahead.TheVariants.{Send, Spawn}
+use Rattle.pc_semantics.specs.Text.{steps_of}
 use Rattle.pc_choose.specs.Able.{able}
-use Rattle.pc_choose.specs.Choice.{most_turns}
+use Rattle.pc_choose.specs.Choice.{most_times, most_turns}
 use Rattle.pc_choose.specs.Lists.{Chosen, most_steps}
 
 -- A step is skipped exactly if its actor is not able.
@@ -51,3 +53,34 @@ EndsAt core list = (length list ≡ most_steps) ⊎ ((most_turns ≤ length list
 
 abbrev pub ListsEnd : Type 0
 ListsEnd = (core : CoreData) (seed : ℕ) (list : List ℕ) → Chosen core seed list → EndsAt core list
+
+-- A turn: an actor and how many steps it takes. A step makes one actor at most, and two are there at the start.
+abbrev pub IsTurn : ℕ × ℕ → Type 0
+IsTurn t = (t.0 < most_steps + 2) × (0 < t.1) × (t.1 ≤ most_times)
+
+-- The list is one of turns, of which there are not too many.
+pub record InTurns (list : List ℕ) : Type 0 where
+  pub turns : List (ℕ × ℕ)
+  pub steps : steps_of turns ≡ list
+  pub are : AllByRecursion IsTurn turns
+  pub few : length turns ≤ most_turns
+
+abbrev pub ListsAreInTurns : Type 0
+ListsAreInTurns = (core : CoreData) (seed : ℕ) (list : List ℕ) → Chosen core seed list → InTurns list
+
+-- how many steps an able actor waits at most under seed 0 if there are this many actors: twice a round of full turns
+abbrev pub longest_wait : (actors : ℕ) → ℕ
+longest_wait n = 2 * most_times * n
+
+-- One of the first of these steps, of which there are fewer than the limit before it, is actor j's.
+pub record StepsWithin (limit j : ℕ) (steps : List ℕ) : Type 0 where
+  pub others : List ℕ
+  pub more : List ℕ
+  pub are : steps ≡ others ++ j ∷ more
+  pub soon : length others < limit
+
+-- Round robin is fair: whenever an actor is able, one of the next steps is its own, within 128 times the number of actors that
+-- there are then, unless the list ends before.
+abbrev pub RoundRobinIsFair : Type 0
+RoundRobinIsFair = (core : CoreData) (before rest : List ℕ) (j : ℕ) → Chosen core 0 (before ++ rest) → able (after core before) j ≡ true
+    → StepsWithin (longest_wait (length (after core before).actors)) j rest ⊎ (length rest < longest_wait (length (after core before).actors))

@@ -5,12 +5,13 @@ use Rattle.pc_semantics.specs.declared.outcome.Outcome.{Outcome}
 use Rattle.pc_semantics.specs.declared.outcome.Outcome.TheVariants.{Moved, Skipped, Lacks, TooLong}
 use Rattle.pc_semantics.specs.Configurations.{Configuration, start}
 use Rattle.pc_semantics.specs.Step.{step}
+use Rattle.pc_sched.specs.Limits.{turn_limit}
 use Rattle.pc_choose.specs.declared.point.Point.{Point}
 use Rattle.pc_choose.specs.Choice.{turn, stepped, at_first}
 
--- how many steps a list may have at most
+-- how many steps a list may have at most: as many as a schedule may have
 abbrev pub most_steps : ℕ
-most_steps = 1000000
+most_steps = turn_limit
 
 -- After a step that moved the rest goes on as stated; after any other there is none.
 abbrev pub AfterStep : (Configuration → Type 0) → List ℕ → Outcome × Configuration → Type 0

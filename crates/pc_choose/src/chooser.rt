@@ -5,14 +5,14 @@ ghost use Rattle.pc_heap.specs.Heaps.{object_limit};
 ghost use Rattle.pc_machine.specs.Machines.{message_limit};
 ghost use Rattle.pc_semantics.specs.Text.{waiting};
 ghost use Rattle.pc_choose.specs.Choice.{at_first};
-ghost use Rattle.pc_choose.specs.Choosers.{Advances, IsAt};
+ghost use Rattle.pc_choose.specs.Choosers.{Advances, IsAt, IsKnown, step_of};
 
-use crate::able::{marks, take_step};
+use crate::able::{ahead_for, marks, take_step};
 use crate::point::Point;
-use crate::step::Step;
+use crate::step::{Onward, Step};
 use crate::turns::turn;
 use pc_draws::Draws;
-use pc_machine::Machine;
+use pc_machine::{Ahead, Machine};
 use pc_tally::Tally;
 use std::alloc::{AllocError, Global};
 use std::marker::Model;
@@ -67,20 +67,46 @@ impl Chooser {
         ensures seed { self.new.seed ≡ self.old.seed }
         ensures core { machine.new.core ≡ machine.old.core }
     {
+        match self.step_on(machine, None)? {
+            Some(onward) => Ok(Some(onward.step)),
+            None => Ok(None),
+        }
+    }
+
+    /// The same, with what is ahead of the actor of the last step, if it is known: it came with that step, and is then not looked
+    /// up again.
+    pub fn step_on(
+        &mut self,
+        machine: &mut Machine<'_>,
+        known: Option<Ahead>,
+    ) -> Result<Option<Onward>, AllocError>
+        requires at { IsAt self.old machine.old.configuration }
+        requires known { IsKnown machine.old.core machine.old.configuration self.old.point.actor known }
+        requires objects { len machine.old.configuration.objects < object_limit }
+        requires messages { waiting machine.old.configuration < message_limit }
+        ensures advances { IfOk result (λ onward. Advances machine.old.core self.old.seed self.old.point machine.old.configuration self.new.point machine.new.configuration (step_of onward)) }
+        ensures at { IfOk result (λ onward. IfSome onward (λ _. IsAt self.new machine.new.configuration)) }
+        ensures ahead { IfOk result (λ onward. IfSome onward (λ o. IsKnown machine.new.core machine.new.configuration self.new.point.actor o.ahead)) }
+        ensures seed { self.new.seed ≡ self.old.seed }
+        ensures core { machine.new.core ≡ machine.old.core }
+    {
+        let of = self.point.actor;
         let next = match turn(machine, &self.marks, self.seed, &mut self.draws, self.point) {
             Some(next) => next,
             None => return Ok(None),
         };
-        let outcome = take_step(&mut self.marks, machine, next.actor)?;
+        let ahead = ahead_for(machine, known, of, next.actor);
+        let (outcome, ahead) = take_step(&mut self.marks, machine, next.actor, ahead)?;
         self.point = Point {
             turns: next.turns,
             actor: next.actor,
             left: next.left - 1,
             round: next.round,
         };
-        Ok(Some(Step {
+        let step = Step {
             actor: next.actor,
             outcome,
-        }))
+        };
+        Ok(Some(Onward { step, ahead }))
     }
 }

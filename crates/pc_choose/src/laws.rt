@@ -1,5 +1,15 @@
 //! The laws on lists of seeds, as calls that do nothing.
-ghost use Rattle.pc_choose.specs.Laws.{AbleStay, FewChange, ListsAreOne, ListsAreShort, ListsEnd, SkipsUnable, StepsMove};
+ghost use Rattle.pc_choose.specs.Laws.{
+  AbleStay,
+  FewChange,
+  ListsAreInTurns,
+  ListsAreOne,
+  ListsAreShort,
+  ListsEnd,
+  RoundRobinIsFair,
+  SkipsUnable,
+  StepsMove,
+};
 
 /// A step is skipped exactly if its actor is not able.
 #[tactic(auto, using(crate::proofs::Working::skips_unable))]
@@ -41,4 +51,17 @@ pub fn few_change()
 #[tactic(auto, using(crate::proofs::Ending::lists_end))]
 pub fn lists_end()
     ensures { ListsEnd }
+{}
+
+/// The list of a seed is one of at most 95,000 turns, each of 1 to 64 steps of one actor.
+#[tactic(auto, using(crate::proofs::Cutting::lists_are_in_turns))]
+pub fn lists_are_in_turns()
+    ensures { ListsAreInTurns }
+{}
+
+/// Round robin is fair: at seed 0 an actor that is able takes a step within 128 times the number of actors that there are when it
+/// begins to wait, unless the list ends before.
+#[tactic(auto, using(crate::proofs::Fairness::round_robin_is_fair))]
+pub fn round_robin_is_fair()
+    ensures { RoundRobinIsFair }
 {}

@@ -1,9 +1,10 @@
 //! Schedules that the machine chooses: for each seed a list of steps, repeatable and fair. `docs/schedules.md` says how it is
 //! chosen, `specs/Choice.antt` and `specs/Lists.antt` define it.
 //!
-//! Proved: a `Chooser` takes the step of the actor whose turn it is, and `choose` gives the list of a seed. That there is exactly one list of each seed, how long it is and how it ends, and
-//! who is able after a step are laws (`lists_are_one`, `lists_are_short`, `steps_move`, `lists_end`, `skips_unable`,
-//! `able_stay`, `few_change`).
+//! Proved: a `Chooser` takes the step of the actor whose turn it is, and `choose` gives the list of a seed. That there is exactly
+//! one list of each seed, how long it is, of how many turns and how it ends (`lists_are_one`, `lists_are_short`,
+//! `lists_are_in_turns`, `steps_move`, `lists_end`), who is able after a step (`skips_unable`, `able_stay`, `few_change`) and how
+//! long one waits at seed 0 (`round_robin_is_fair`) are laws.
 //!
 //! Not proved: time. No test looks at a clock.
 #![tactic(auto)]
@@ -20,6 +21,7 @@ pub use able::count_able;
 pub use chooser::Chooser;
 pub use choosing::{MOST_STEPS, choose};
 pub use laws::{
-    able_stay, few_change, lists_are_one, lists_are_short, lists_end, skips_unable, steps_move,
+    able_stay, few_change, lists_are_in_turns, lists_are_one, lists_are_short, lists_end,
+    round_robin_is_fair, skips_unable, steps_move,
 };
-pub use step::Step;
+pub use step::{Onward, Step};

@@ -1,6 +1,6 @@
 //! Steps that were taken.
 
-use pc_machine::Outcome;
+use pc_machine::{Ahead, Outcome};
 
 /// A step that was taken.
 #[derive(Clone, Copy)]
@@ -9,4 +9,12 @@ pub struct Step {
     pub actor: u32,
     /// How it ended.
     pub outcome: Outcome,
+}
+
+/// A step that was taken, and what is ahead of its actor then.
+#[derive(Clone, Copy)]
+pub struct Onward {
+    pub step: Step,
+    /// Known if the step moved.
+    pub ahead: Option<Ahead>,
 }

@@ -18,7 +18,7 @@ pub fn exchange(sums: &mut Vec<u32>, at: usize, old: u32, new: u32)
     sums[at] = sum - old + new;
 }
 
-/// Puts an empty group behind the others if they are too few for this count of numbers.
+/// Puts an empty group after the others if they are too few for this count of numbers.
 pub fn cover(sums: &mut Vec<u32>, count: usize) -> Result<(), AllocError>
     requires few { length sums.old.items < 2 ^ 40 }
     requires nearly { count ≤ GROUP * length sums.old.items + 1 }

@@ -60,7 +60,7 @@ impl Tally {
         self.numbers.get(place as usize).copied()
     }
 
-    /// Puts a number behind the others. An `Err` changes nothing.
+    /// Puts a number after the others. An `Err` changes nothing.
     pub fn push(&mut self, number: u32) -> Result<(), AllocError>
         requires room { length self.old < 2 ^ 32 }
         requires few { sum self.old + number < 2 ^ 32 }
@@ -111,7 +111,7 @@ impl Tally {
         Some(place as u32)
     }
 
-    // Puts a 0 behind the others.
+    // Puts a 0 after the others.
     fn push_zero(&mut self) -> Result<(), AllocError>
         requires room { length self.old < 2 ^ 32 }
         ensures ok { OnOk result (self.new ≡ self.old ++ 0 ∷ []) }
