@@ -54,14 +54,12 @@ pub fn lists_end()
 {}
 
 /// The list of a seed is one of at most 95,000 turns, each of 1 to 64 steps of one actor.
-#[tactic(auto, using(crate::proofs::Cutting::lists_are_in_turns))]
 pub fn lists_are_in_turns()
     ensures { ListsAreInTurns }
 {}
 
 /// Round robin is fair: at seed 0 an actor that is able takes a step within 128 times the number of actors that there are when it
 /// begins to wait, unless the list ends before.
-#[tactic(auto, using(crate::proofs::Fairness::round_robin_is_fair))]
 pub fn round_robin_is_fair()
     ensures { RoundRobinIsFair }
 {}

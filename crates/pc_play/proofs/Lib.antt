@@ -1,1 +1,2 @@
 pub mod UnderPlay
+mod Fitting

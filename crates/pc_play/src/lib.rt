@@ -2,9 +2,12 @@
 //! `docs/schedules.md` says what is chosen.
 //!
 //! Proved: `play` writes what the run of the seed's list writes, with the same answers and faults as `run` of `pc_run`; it
-//! keeps no list. `play_through` takes the steps alone, and leaves the machine and how far it came.
+//! keeps no list. `play_through` takes the steps alone, and leaves the machine and how far it came. The line of a seed's list fits
+//! a schedule (`lines_fit`).
 #![tactic(auto)]
 
+mod laws;
 mod playing;
 
+pub use laws::lines_fit;
 pub use playing::{Through, play, play_through};

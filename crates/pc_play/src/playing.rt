@@ -37,20 +37,22 @@ fn take_steps(
     ensures through { IfOk result (λ taken. IsThrough machine.old.core chooser.old.seed machine.new.configuration taken.0 taken.1) }
     ensures core { machine.new.core ≡ machine.old.core }
 {
+    let mut ahead = None;
     'steps: for step in 0..MOST_STEPS {
         let counts = Counts {
             moved: u64::from(step),
             skipped: 0,
         };
-        let taken = match chooser.step(machine)? {
+        let taken = match chooser.step_on(machine, ahead)? {
             Some(taken) => taken,
             None => return Ok((Progress::Going(counts), step)),
         };
-        match taken.outcome {
+        ahead = taken.ahead;
+        match taken.step.outcome {
             Outcome::Moved => {}
-            Outcome::Skipped => return Ok((counts.with_step(taken.outcome), step + 1)),
-            Outcome::TooLong => return Ok((counts.with_step(taken.outcome), step + 1)),
-            Outcome::Lacks(_) => return Ok((counts.with_step(taken.outcome), step + 1)),
+            Outcome::Skipped => return Ok((counts.with_step(taken.step.outcome), step + 1)),
+            Outcome::TooLong => return Ok((counts.with_step(taken.step.outcome), step + 1)),
+            Outcome::Lacks(_) => return Ok((counts.with_step(taken.step.outcome), step + 1)),
         }
     }
     let counts = Counts {
