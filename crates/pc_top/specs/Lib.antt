@@ -7,5 +7,6 @@ pub mod Failures
 pub mod Inner
 pub mod OnOut
 pub mod One
+pub mod Played
 pub mod Referee
 pub mod Shapes

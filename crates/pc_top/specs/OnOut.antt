@@ -15,7 +15,8 @@ use Rattle.pc_top.specs.Commands.Trace.{WritesTrace}
 -- the files that say it are told; or the numbers of the program that it makes, and the text of its run; or the schedule with two
 -- turns exchanged or why they stay, and nothing where a step before them would make a text that is too long; or the accesses
 -- of the run with their clocks, and nothing where a step would make a text that is too long; or the lines of who sends what, which
--- are true of every run; or a derivation in version 2 of its text.
+-- are true of every run; or a derivation in version 2 of its text; or the schedule that a seed chooses, the text of its run, or the
+-- table of the outcomes of the seeds below a count.
 abbrev pub OnOut : (Text → Option Text) → List Text → Change → Type 0
 OnOut told words out = OnOutOf told (command_of words) out
 

@@ -6,6 +6,7 @@ ghost use Rattle.pc_top.specs.Exact.{JudgedAreExact, StatusesAreExact};
 ghost use Rattle.pc_top.specs.Failures.{FailuresAreTold, NoVerdictIsAFailure};
 ghost use Rattle.pc_top.specs.OnOut.{UpgradedIsAccepted, WrittenIsAccepted};
 ghost use Rattle.pc_top.specs.One.{VerdictIsOne};
+ghost use Rattle.pc_top.specs.Played.{PlayedAsRun};
 ghost use Rattle.pc_top.specs.Commands.Sends.{TablesTell};
 
 use pc_check::{
@@ -23,6 +24,7 @@ use pc_lex::{faults_are_told, tokens_are_one};
 use pc_names::names_are_one;
 use pc_noted_receivers::accepted_held;
 use pc_outcome_laws::answers_are_one;
+use pc_play::lines_fit;
 use pc_regions::valid_is_safe;
 use pc_rules::one_annotation_is_valid;
 use pc_sched::turns_are_one;
@@ -31,6 +33,7 @@ use pc_sends::held_covers;
 use pc_sub::no_fault_where_declarations_fit;
 use pc_swap::kept_are_not_apart;
 use pc_text_order::tokens_are_in_order;
+use pc_types::accepted_never_lacks;
 
 /// The core of a source fits together, and is so small that its annotations have a text.
 pub fn cores_of_sources_are_formed()
@@ -152,4 +155,15 @@ pub fn tables_tell_of_every_run()
     cores_of_sources_are_formed();
     accepted_held();
     held_covers();
+}
+
+/// If `schedule` is done with a line for a source and a seed, then `play` of that source and that seed and `run` of that source by a
+/// file that has this line have one status, and write one text on out.
+pub fn plays_are_runs()
+    ensures { PlayedAsRun }
+{
+    verdict_is_one();
+    cores_of_sources_are_formed();
+    accepted_never_lacks();
+    lines_fit();
 }

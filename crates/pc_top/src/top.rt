@@ -27,14 +27,14 @@ use std::alloc::Global;
 /// Does what the words after the program's name ask for, and answers the exit status.
 ///
 /// The status is 0 where the command is done, with its text on out, and else that of the refusal, with its line on err. It is
-/// 12 where a run comes to a text that is too long, with what was printed on out and the line on err; `swap` and `trace`
-/// write nothing then. It is 8 where `trace` comes to a step that would make the 65th actor, and 15 where a schedule has no
-/// two turns at the place that is asked for. It is 9 where a file of the command could not be read, 10 where out or err
+/// 12 where a run or a play comes to a text that is too long, with what was printed on out and the line on err; `swap` and
+/// `trace` write nothing then. It is 8 where `trace` comes to a step that would make the 65th actor, or the plays of `outcomes`
+/// pass a limit, and 15 where a schedule has no two turns at the place that is asked for. It is 9 where a file of the command could not be read, 10 where out or err
 /// failed, and 11 when memory ran out.
 ///
-/// A derivation, `accepted`, a printed tree, each printed text of a run and its numbers, the first line of a made program,
-/// what is told of two turns, all accesses of a run with their clocks, and all that is told of who sends what are one call of
-/// `put` each on out, and the line is one on err; after a failed call on out nothing more is written. `judge` asks the
+/// A derivation, `accepted`, a printed tree, each printed text of a run or a play and its numbers, the first line of a made
+/// program, what is told of two turns, all accesses of a run with their clocks, all that is told of who sends what, a schedule
+/// that a seed chooses, and a table of outcomes are one call of `put` each on out, and the line is one on err; after a failed call on out nothing more is written. `judge` asks the
 /// referee of each node of the derivation.
 pub fn rcap<F: Files, O: Sink, E: Sink, R: Referee>(
     alloc: Global,
@@ -76,8 +76,9 @@ pub fn rcap<F: Files, O: Sink, E: Sink, R: Referee>(
     ensures refused { result ≡ 1 → HasNoDerivation (F.bytes files.old) (texts words.now) }
 
     // The derivation of the source, `accepted`, the text of the run, the printed tree, the made program's numbers and the
-    // text of its run, the exchanged schedule, the accesses of the run, the lines of who sends what, or a valid derivation in
-    // version 2 of its text are on out. What the lines of who sends what say is true of every run: over every list of actors,
+    // text of its run, the exchanged schedule, the accesses of the run, the lines of who sends what, a valid derivation in
+    // version 2 of its text, the schedule that a seed chooses, the text of its run, or the table of the outcomes of some seeds
+    // are on out. What the lines of who sends what say is true of every run: over every list of actors,
     // of every length, what an actor is about to send has its line, and no message of a method that is told as never sent
     // waits anywhere.
     ensures writes { IsAccepting result → OnOut (F.bytes files.old) (texts words.now)

@@ -102,12 +102,17 @@ fn a_play_ends_at_a_text_that_is_too_long(rt: HostRuntime) {
 
 // Whether a run by the line that was written answers what was played.
 fn runs_as(alloc: Global, source: &[u8], line: &Done, played: &Done) -> bool {
-    match run(alloc, &["run", "a.pony", "a.sched"], source, line.out.bytes()) {
+    match run(
+        alloc,
+        &["run", "a.pony", "a.sched"],
+        source,
+        line.out.bytes(),
+    ) {
         Ok(ran) => {
             line.status == 0
                 && ran.status == played.status
                 && ran.out.bytes() == played.out.bytes()
-                && !ran.out.bytes().is_empty()
+                && !line.out.bytes().is_empty()
         }
         Err(_) => false,
     }
@@ -208,12 +213,7 @@ const UNSENDABLE: &[u8] =
 
 const REFUSED: &[Refused<'_>] = &[
     (b"", b"", 3, b"a.pony:1:1: unexpected\n"),
-    (
-        UNSENDABLE,
-        b"",
-        1,
-        b"a.pony:3:11: parameter not sendable\n",
-    ),
+    (UNSENDABLE, b"", 1, b"a.pony:3:11: parameter not sendable\n"),
 ];
 
 const SCHEDULE: &[&str] = &["schedule", "a.pony", "0"];

@@ -22,6 +22,7 @@ use Rattle.pc_top.proofs.Room.{Room}
 use Rattle.pc_top.proofs.Rooms.Run.{one_ran, ran_late, ran_says}
 use Rattle.pc_top.proofs.Rooms.Schedule.{one_list, one_seed}
 use Rattle.pc_top.proofs.Shapes.{accepted_says}
+pub mod AsRun
 
 played_late : (name : Text) (n : ℕ) (a : Accepted) (v : Verdict) → Played name n a v → IsLate v.status
 played_late name n a v p = ran_late name a.source.core p.0 v p.2

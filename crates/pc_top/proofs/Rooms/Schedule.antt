@@ -1,14 +1,12 @@
 -- The room of `schedule`.
-use Rattle.std.proofs.Common.{◌≡◌, ◌≤◌, ℕ, List, length, Ok, Err, inl, refl, sym, ap, subst, ◌∙◌}
-use Rattle.std.specs.Prelude.{IfOk, Result}
+use Rattle.std.proofs.Common.{◌≡◌, ℕ, List, inl, refl, sym, ap, subst, ◌∙◌}
 use Rattle.std.specs.Io.KnownBytes.{Appends}
 use Rattle.pc_args.specs.Asked.{schedule_of}
 use Rattle.pc_args.specs.Numbers.{IsSeed}
-use Rattle.pc_choose.specs.Laws.{ListsAreOne, ListsAreShort}
+use Rattle.pc_choose.specs.Laws.{ListsAreOne}
 use Rattle.pc_choose.specs.Lists.{Chosen}
 use Rattle.pc_core.specs.CoreData.{CoreData}
 use Rattle.pc_lists.specs.Texts.{Text}
-use Rattle.pc_sched.specs.Limits.{turn_limit}
 use Rattle.pc_sched_lines.specs.Lines.{IsLine, LinesAreOne}
 use Rattle.pc_refusals.specs.Named.{Files, named}
 use Rattle.pc_refusals.specs.Verdict.{Verdict, done}
@@ -45,16 +43,3 @@ schedule_room files source seed =
     (λ a of_bytes valid s.
     let grew : Appends out.before out.now s.0 = subst (λ (w : Verdict). Appends out.before out.now w.out) s.2 o in
     (n, p, (a.source.core, of_bytes, s.0, s.1, grew))) is)
-
--- ---- from the list that was chosen to its line
-
-pub list_fits : ListsAreShort → (core : CoreData) (seed : ℕ) (list given : List ℕ) → Chosen core seed list → given ≡ list → length given ≤ turn_limit
-list_fits short core seed list given c e = subst (λ (l : List ℕ). length l ≤ turn_limit) (sym e) (short core seed list c)
-
-line_by : {E : Type 0} (core : CoreData) (seed : ℕ) (list : List ℕ) (result : Result Text E) → Chosen core seed list → IfOk result (IsLine list) → IfOk result (IsChosenLine seed core)
-line_by core seed list (Ok text) c line = (list, c, line)
-line_by core seed list (Err e) c line = tt
-
-pub chosen_line : {E : Type 0} (core own : CoreData) (seed : ℕ) (list given : List ℕ) (result : Result Text E) → Chosen own seed list → own ≡ core → given ≡ list → IfOk result (IsLine given) → IfOk result (IsChosenLine seed core)
-chosen_line core own seed list given result c same e line =
-    line_by core seed list result (subst (λ (x : CoreData). Chosen x seed list) same c) (subst (λ (l : List ℕ). IfOk result (IsLine l)) e line)

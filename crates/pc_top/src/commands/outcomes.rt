@@ -1,15 +1,18 @@
 //! `outcomes SRC COUNT`.
-ghost use Rattle.std.specs.Prelude.{◌≡◌, IfOk, [], ◌∷◌};
+ghost use Rattle.std.specs.Prelude.{◌≡◌, ◌<◌, ◌^◌, IfOk, [], ◌∷◌};
 ghost use Rattle.pc_args.specs.Numbers.{Reads};
+ghost use Rattle.pc_run.specs.Ends.{NeverLacks};
 ghost use Rattle.pc_refusals.specs.Inner.Answering.{AnswersText};
+ghost use Rattle.pc_refusals.specs.Inner.Stages.{StageEnds};
 ghost use Rattle.pc_refusals.specs.Named.{FailedAmong, files_change, named};
 ghost use Rattle.pc_top.specs.Commands.Outcomes as spec;
-ghost use Rattle.pc_top.specs.Commands.Outcomes.{IsCount, IsOutcomes};
+ghost use Rattle.pc_top.specs.Commands.Outcomes.{IsCount, IsOutcomes, Telling};
 
 use crate::laws::cores_of_sources_are_formed;
 use crate::numbered::accept_numbered;
 use pc_args::number_of;
 use pc_caps::List;
+use pc_core::Core;
 use pc_io::{Bytes, Files};
 use pc_outcomes::{OutcomesFault, outcomes, text_of};
 use pc_refusals::Stop;
@@ -37,7 +40,9 @@ fn count_of(text: &str) -> Option<u64>
 fn make_many_steps_line(alloc: Global, name: &str, seed: u32) -> Result<Bytes, AllocError>
     ensures { IfOk result (λ line. line ≡ spec.many_steps_line name.now seed) }
 {
-    let text = format!(in alloc; "{name}: the plays of seeds 0 to {seed} have more than 100000000 steps\n")?;
+    let text = format!(in alloc;
+        "{name}: the plays of seeds 0 to {seed} have more than 100000000 steps\n"
+    )?;
     Bytes::copy_of(alloc, text.as_bytes())
 }
 
@@ -45,8 +50,30 @@ fn make_many_steps_line(alloc: Global, name: &str, seed: u32) -> Result<Bytes, A
 fn make_many_bytes_line(alloc: Global, name: &str, seed: u32) -> Result<Bytes, AllocError>
     ensures { IfOk result (λ line. line ≡ spec.many_bytes_line name.now seed) }
 {
-    let text = format!(in alloc; "{name}: the texts of seeds 0 to {seed} have more than 67108864 bytes\n")?;
+    let text = format!(in alloc;
+        "{name}: the texts of seeds 0 to {seed} have more than 67108864 bytes\n"
+    )?;
     Bytes::copy_of(alloc, text.as_bytes())
+}
+
+// The text of the table of a core's outcomes, or the seed that passes a limit. A line on err names the source of this name.
+fn write_outcomes(alloc: Global, name: &str, core: &Core, count: u32) -> Result<List<u8>, Stop>
+    requires few { count < 2 ^ 31 }
+    requires never_lacks { NeverLacks core.now }
+    ensures { StageEnds (Telling name.now core.now count) result }
+{
+    match outcomes(alloc, core, count) {
+        Ok(entries) => Ok(text_of(alloc, count, entries.as_slice())?),
+        Err(OutcomesFault::Steps(seed)) => Err(Stop::Refused {
+            status: 8,
+            line: make_many_steps_line(alloc, name, seed)?,
+        }),
+        Err(OutcomesFault::Texts(seed)) => Err(Stop::Refused {
+            status: 8,
+            line: make_many_bytes_line(alloc, name, seed)?,
+        }),
+        Err(OutcomesFault::Memory) => Err(Stop::Memory),
+    }
 }
 
 /// Plays a source by the seeds below a count: answers each different outcome once, in the order of first seeds, with the number of
@@ -63,17 +90,10 @@ pub fn tell_outcomes<F: Files>(
     cores_of_sources_are_formed();
     accepted_never_lacks();
     let read = accept_numbered(alloc, files, source, count_of(count))?;
-    let seeds = read.number as u32;
-    match outcomes(alloc, &read.accepted.source.core, seeds) {
-        Ok(entries) => Ok(text_of(alloc, seeds, entries.as_slice())?),
-        Err(OutcomesFault::Steps(seed)) => Err(Stop::Refused {
-            status: 8,
-            line: make_many_steps_line(alloc, source, seed)?,
-        }),
-        Err(OutcomesFault::Texts(seed)) => Err(Stop::Refused {
-            status: 8,
-            line: make_many_bytes_line(alloc, source, seed)?,
-        }),
-        Err(OutcomesFault::Memory) => Err(Stop::Memory),
-    }
+    write_outcomes(
+        alloc,
+        source,
+        &read.accepted.source.core,
+        read.number as u32,
+    )
 }

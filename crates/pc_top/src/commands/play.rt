@@ -1,13 +1,15 @@
 //! `play SRC SEED`.
 ghost use Rattle.std.specs.Prelude.{◌≤◌, [], ◌∷◌};
 ghost use Rattle.pc_io.specs.Change.{change};
+ghost use Rattle.pc_run.specs.Ends.{NeverLacks};
 ghost use Rattle.pc_refusals.specs.Inner.Answering.{Ends};
 ghost use Rattle.pc_refusals.specs.Named.{FailedAmong, files_change, named};
-ghost use Rattle.pc_top.specs.Commands.Play.{IsPlay};
+ghost use Rattle.pc_top.specs.Commands.Play.{IsPlay, RanChosen};
 
 use crate::laws::cores_of_sources_are_formed;
 use crate::numbered::accept_numbered;
 use pc_args::seed_of;
+use pc_core::Core;
 use pc_io::{Files, Sink};
 use pc_play::play;
 use pc_refusals::{Stop, make_too_long_line};
@@ -15,8 +17,32 @@ use pc_run::RunFault;
 use pc_types::accepted_never_lacks;
 use std::alloc::Global;
 
+// Runs a core, over which no step lacks anything, by the list that a seed chooses. A line on err names the source of this name.
+fn play_core<O: Sink>(
+    alloc: Global,
+    out: &mut O,
+    name: &str,
+    core: &Core,
+    seed: u64,
+) -> Result<(), Stop>
+    requires never_lacks { NeverLacks core.now }
+    ensures later { O.faults out.old ≤ O.faults out.new }
+    ensures ends { Ends (RanChosen name.now seed core.now) (λ n. ⊥)
+        (change (O.written out.old) (O.written out.new) (O.faults out.old) (O.faults out.new)) result }
+{
+    match play(alloc, core, seed, out) {
+        Ok(_) => Ok(()),
+        Err(RunFault::TooLong(step)) => Err(Stop::Refused {
+            status: 12,
+            line: make_too_long_line(alloc, name, step as u64)?,
+        }),
+        Err(RunFault::Sink) => Err(Stop::Sink),
+        Err(RunFault::Memory) => Err(Stop::Memory),
+    }
+}
+
 /// Runs a source by the list of steps that a seed chooses, and keeps no list: writes the texts that are printed, and the line of
-/// the run's numbers. A line on err names the source.
+/// the run's numbers.
 pub fn play_source<F: Files, O: Sink>(
     alloc: Global,
     files: &mut F,
@@ -32,13 +58,5 @@ pub fn play_source<F: Files, O: Sink>(
     cores_of_sources_are_formed();
     accepted_never_lacks();
     let read = accept_numbered(alloc, files, source, seed_of(seed))?;
-    match play(alloc, &read.accepted.source.core, read.number, out) {
-        Ok(_) => Ok(()),
-        Err(RunFault::TooLong(step)) => Err(Stop::Refused {
-            status: 12,
-            line: make_too_long_line(alloc, source, step as u64)?,
-        }),
-        Err(RunFault::Sink) => Err(Stop::Sink),
-        Err(RunFault::Memory) => Err(Stop::Memory),
-    }
+    play_core(alloc, out, source, &read.accepted.source.core, read.number)
 }

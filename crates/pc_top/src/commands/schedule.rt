@@ -16,7 +16,6 @@ use pc_sched_lines::line_of;
 use std::alloc::{AllocError, Global};
 
 // The list of steps that a seed chooses for a core, as one line of a schedule.
-#[tactic(auto, using(crate::proofs::Rooms::Schedule::list_fits, crate::proofs::Rooms::Schedule::chosen_line))]
 fn write_chosen(alloc: Global, core: &Core, seed: u64) -> Result<List<u8>, AllocError>
     ensures { IfOk result (IsChosenLine seed core.now) }
 {

@@ -1,0 +1,23 @@
+-- From what `schedule` writes to what `play` and `run` answer.
+use Rattle.std.specs.Prelude.{◌≡◌, Some, List}
+use Rattle.pc_lists.specs.Texts.{Text}
+use Rattle.pc_args.specs.Asked.{Asked, command_of, play, run, schedule_of}
+use Rattle.pc_refusals.specs.Named.{Files}
+use Rattle.pc_refusals.specs.Verdict.{Verdict, done}
+use Rattle.pc_top.specs.Asked.{IsVerdict}
+
+-- The words ask for this of a source that tells these bytes, this verdict is theirs, and no reading of a file failed.
+pub record Answered (files : Files) (words : List Text) (asked : Asked) (source bytes : Text) (v : Verdict) : Type 0 where
+  pub asks : command_of words ≡ Some asked
+  pub tells : files.told source ≡ Some bytes
+  pub unfailed : (name : Text) → files.now name ≡ files.before name
+  pub verdict : IsVerdict files words v
+
+-- If `schedule` is done with a line for a source and a seed, then `play` of that source and that seed and `run` of that source by a file
+-- that has this line have one status, and write one text on out. The three may read their files whenever and from wherever they do.
+abbrev pub PlayedAsRun : Type 0
+PlayedAsRun =
+    (chosen played ran : Files) (choosing playing running : List Text) (source bytes seed schedule line : Text) (v w : Verdict)
+    → Answered chosen choosing (schedule_of source seed) source bytes (done line) → Answered played playing (play source seed) source bytes v
+    → Answered ran running (run source schedule) source bytes w → ran.told schedule ≡ Some line
+    → (v.status ≡ w.status) × (v.out ≡ w.out)
