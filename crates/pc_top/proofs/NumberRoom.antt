@@ -1,5 +1,5 @@
 -- A command with a number among its words, which looks for a derivation of its source.
-use Rattle.std.proofs.Common.{◌≡◌, ◌⊎◌, ℕ, [], ◌∷◌, Option, Some, None, Ok, Err, inl, inr, refl, sym, ap, ◌∙◌, subst}
+use Rattle.std.proofs.Common.{◌≡◌, ◌⊎◌, ℕ, Option, Some, None, Ok, Err, inl, inr, refl, sym, ap, ◌∙◌, subst}
 use Rattle.std.specs.Prelude.{IsSome, IsTrue, Result}
 use Rattle.std.specs.Io.KnownBytes.{Appends}
 use Rattle.std.proofs.lemmas.Option.{none-some, same_Some}
@@ -10,7 +10,7 @@ use Rattle.pc_io.specs.Change.{Change}
 use Rattle.pc_refusals.specs.Accepting.{AcceptedStage}
 use Rattle.pc_refusals.specs.Inner.Answering.{AnswerStops, AnswersText, Ends}
 use Rattle.pc_refusals.specs.Lines.{usage_line}
-use Rattle.pc_refusals.specs.Named.{AllTold, FailedAmong, Files, Named, named}
+use Rattle.pc_refusals.specs.Named.{AllTold, Files, Named, NoneFailed, named}
 use Rattle.pc_refusals.specs.Source.{source_limit}
 use Rattle.pc_refusals.specs.Verdict.{Verdict, IsAccepting}
 use Rattle.pc_refusals.specs.declared.stop.Stop.{Stop}
@@ -19,7 +19,7 @@ use Rattle.pc_refusals.proofs.Ending.{answers_by, ends_by, part_answers, part_en
 use Rattle.pc_refusals.proofs.Statuses.{IsLate}
 use Rattle.pc_top.specs.Commands.{HasNumber, IsVerdictOf, OnOutOf, files_of, infers, source_of}
 use Rattle.pc_top.specs.Inner.Numbering.{NumberStops, NumberedEnds}
-use Rattle.pc_top.specs.Shapes.{ByNumber, OfAccepted}
+use Rattle.pc_top.specs.Shapes.{ByNumber, OfAccepted, UnreadNumbered}
 use Rattle.pc_top.specs.Shapes.ByNumber.{no_number, spelled}
 use Rattle.pc_top.specs.declared.numbered.Numbered.{Numbered}
 use Rattle.pc_top.proofs.Begins.{begins}
@@ -43,7 +43,7 @@ module _ (Is : ℕ → Type 0) (Of : ℕ → Verdict → Type 0) where
 
 -- ---- the room
 
-module _ (files : Files) (asked : Asked) (source : Text) (its : source_of asked ≡ Some source) (looks : IsTrue (infers asked)) (told : AllTold files.told (files_of asked) → IsSome (files.told source))
+module _ (files : Files) (asked : Asked) (source : Text) (its : source_of asked ≡ Some source) (looks : IsTrue (infers asked)) (told : AllTold files.told (files_of asked) → IsSome (files.told source)) (none_of : NoneFailed files (files_of asked) → files.now source ≡ files.before source)
     (Is : ℕ → Type 0) (Last : ℕ → Accepted → Verdict → Type 0) (is_of : (v : Verdict) → IsVerdictOf files (Some asked) v → ByNumber Is (λ n. OfAccepted (Last n) (named files source)) v)
     (has : HasNumber asked → (n : ℕ) × Is n) (same : (n m : ℕ) → Is n → Is m → n ≡ m) (late : (n : ℕ) (a : Accepted) (v : Verdict) → Last n a v → IsLate v.status) where
   abbrev file : Named
@@ -60,7 +60,7 @@ module _ (files : Files) (asked : Asked) (source : Text) (its : source_of asked 
   numbered one writes =
       inferring files asked source its looks (λ v is. begins_or_none v (is_of v is))
       (λ laws unfailed all v w a b.
-      numbered_one Is (λ n. OfAccepted (Last n) file) same (λ n. accepted_one (Last n) file laws (told all) (unfailed source) (one laws n)) v w (is_of v a) (is_of w b))
+      numbered_one Is (λ n. OfAccepted (Last n) file) same (λ n. accepted_one (Last n) file laws (told all) (none_of unfailed) (one laws n)) v w (is_of v a) (is_of w b))
       (λ tells v out is e o. let s = numbered_says Is (λ n. OfAccepted (Last n) file) v e (is_of v is) in writes v out s.0 s.1 s.2 e o)
 
 -- ---- from what the reading answers to how the command ends
@@ -75,13 +75,13 @@ module _ (Is : ℕ → Type 0) (Last : ℕ → Accepted → Verdict → Type 0) 
   Whole = ByNumber Is (λ n. OfAccepted (Last n) (named files source))
 
   abbrev Failed : Text → Type 0
-  Failed = FailedAmong files (source ∷ [])
+  Failed = UnreadNumbered Is (named files source)
 
   pub number_stops : (number : Option ℕ) → Reads Is number → (s : Stop) → NumberStops files source number s → AnswerStops Whole Failed s
   number_stops None none s h = words_stop Whole Failed 2 usage_line s (no_number none refl) h
   number_stops (Some n) is s h =
       answers_by (OfAccepted (Last n) (named files source)) Whole Failed Failed (λ v l. spelled n is l) (λ m f. f) (Err s)
-      (part_stops source_limit (AcceptedStage source) (Last n) Failed (named files source) s (λ m f. inl f) h)
+      (part_stops source_limit (AcceptedStage source) (Last n) Failed (named files source) s (λ m f. ((n, is), f)) h)
 
   module _ (number : Option ℕ) (reads : Reads Is number) (read : Numbered) (given : NumberedEnds files source number (Ok read)) where
     pub is_number : Is read.number

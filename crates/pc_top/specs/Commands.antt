@@ -20,7 +20,7 @@ use Rattle.pc_top.specs.Commands.Show.{IsShow, WritesTree}
 use Rattle.pc_top.specs.Commands.Swap.{IsPlace, IsSwap, UnreadSwap, WritesSwap}
 use Rattle.pc_top.specs.Commands.Trace.{IsTrace, WritesTrace}
 use Rattle.pc_top.specs.Commands.Upgrade.{IsUpgrade, WritesUpgraded}
-use Rattle.pc_top.specs.Shapes.{UnreadDerivation, UnreadScheduled}
+use Rattle.pc_top.specs.Shapes.{UnreadDerivation, UnreadNumbered, UnreadScheduled}
 pub mod Check
 pub mod Judge
 pub mod Make
@@ -63,6 +63,9 @@ FailedOf files (Some (swap source schedule place)) name = UnreadSwap (named file
 FailedOf files (Some (trace source schedule)) name = UnreadScheduled (named files source) (named files schedule) name
 FailedOf files (Some (sends source)) name = FailedAt (named files source) name
 FailedOf files (Some (upgrade source derivation)) name = UnreadDerivation (named files source) (named files derivation) name
+FailedOf files (Some (schedule_of source seed)) name = UnreadNumbered (IsSeed seed) (named files source) name
+FailedOf files (Some (play source seed)) name = UnreadNumbered (IsSeed seed) (named files source) name
+FailedOf files (Some (outcomes source count)) name = UnreadNumbered (IsCount count) (named files source) name
 
 -- The files that a command reads, in this order.
 abbrev pub files_of : Asked → List Text

@@ -5,12 +5,13 @@ use Rattle.pc_args.specs.Asked.{Asked, command_of, play, run, schedule_of}
 use Rattle.pc_refusals.specs.Named.{Files}
 use Rattle.pc_refusals.specs.Verdict.{Verdict, done}
 use Rattle.pc_top.specs.Asked.{IsVerdict}
+use Rattle.pc_top.specs.One.{UnfailedOf}
 
--- The words ask for this of a source that tells these bytes, this verdict is theirs, and no reading of a file failed.
+-- The words ask for this of a source that tells these bytes, this verdict is theirs, and no reading of the command's files failed.
 pub record Answered (files : Files) (words : List Text) (asked : Asked) (source bytes : Text) (v : Verdict) : Type 0 where
   pub asks : command_of words ≡ Some asked
   pub tells : files.told source ≡ Some bytes
-  pub unfailed : (name : Text) → files.now name ≡ files.before name
+  pub unfailed : UnfailedOf files (Some asked)
   pub verdict : IsVerdict files words v
 
 -- If `schedule` is done with a line for a source and a seed, then `play` of that source and that seed and `run` of that source by a file

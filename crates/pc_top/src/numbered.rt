@@ -1,4 +1,6 @@
 //! A number among the words, and then a source that has to be accepted.
+ghost use Rattle.std.specs.Prelude.{◌≡◌, ◌≤◌};
+ghost use Rattle.pc_lists.specs.Texts.{Text};
 ghost use Rattle.pc_refusals.specs.Named.{files_change};
 ghost use Rattle.pc_top.specs.Inner.Numbering.{NumberedEnds};
 
@@ -23,7 +25,9 @@ pub fn accept_numbered<F: Files>(
     source: &str,
     number: Option<u64>,
 ) -> Result<Numbered, Stop>
-    ensures { NumberedEnds (files_change (F.bytes files.old) (F.faults files.old) (F.faults files.new) (F.taken files.new)) source.now number result }
+    ensures later { (n : Text) → F.faults files.old n ≤ F.faults files.new n }
+    ensures same { (n : Text) → F.bytes files.new n ≡ F.bytes files.old n }
+    ensures reads { NumberedEnds (files_change (F.bytes files.old) (F.faults files.old) (F.faults files.new) (F.taken files.new)) source.now number result }
 {
     let number = match number {
         Some(number) => number,

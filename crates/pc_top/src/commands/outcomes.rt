@@ -1,12 +1,14 @@
 //! `outcomes SRC COUNT`.
-ghost use Rattle.std.specs.Prelude.{◌≡◌, ◌<◌, ◌^◌, IfOk, [], ◌∷◌};
+ghost use Rattle.std.specs.Prelude.{◌≡◌, ◌<◌, ◌≤◌, ◌^◌, IfOk};
+ghost use Rattle.pc_lists.specs.Texts.{Text};
 ghost use Rattle.pc_args.specs.Numbers.{Reads};
 ghost use Rattle.pc_run.specs.Ends.{NeverLacks};
 ghost use Rattle.pc_refusals.specs.Inner.Answering.{AnswersText};
 ghost use Rattle.pc_refusals.specs.Inner.Stages.{StageEnds};
-ghost use Rattle.pc_refusals.specs.Named.{FailedAmong, files_change, named};
+ghost use Rattle.pc_refusals.specs.Named.{files_change, named};
 ghost use Rattle.pc_top.specs.Commands.Outcomes as spec;
 ghost use Rattle.pc_top.specs.Commands.Outcomes.{IsCount, IsOutcomes, Telling};
+ghost use Rattle.pc_top.specs.Shapes.{UnreadNumbered};
 
 use crate::laws::cores_of_sources_are_formed;
 use crate::numbered::accept_numbered;
@@ -84,8 +86,10 @@ pub fn tell_outcomes<F: Files>(
     source: &str,
     count: &str,
 ) -> Result<List<u8>, Stop>
-    ensures { let files = files_change (F.bytes files.old) (F.faults files.old) (F.faults files.new) (F.taken files.new) in
-        AnswersText (IsOutcomes (named files source.now) count.now) (FailedAmong files (source.now ∷ [])) result }
+    ensures later { (n : Text) → F.faults files.old n ≤ F.faults files.new n }
+    ensures same { (n : Text) → F.bytes files.new n ≡ F.bytes files.old n }
+    ensures answers { let files = files_change (F.bytes files.old) (F.faults files.old) (F.faults files.new) (F.taken files.new) in
+        AnswersText (IsOutcomes (named files source.now) count.now) (UnreadNumbered (IsCount count.now) (named files source.now)) result }
 {
     cores_of_sources_are_formed();
     accepted_never_lacks();

@@ -1,10 +1,13 @@
 //! `play SRC SEED`.
-ghost use Rattle.std.specs.Prelude.{◌≤◌, [], ◌∷◌};
+ghost use Rattle.std.specs.Prelude.{◌≡◌, ◌≤◌};
+ghost use Rattle.pc_lists.specs.Texts.{Text};
+ghost use Rattle.pc_args.specs.Numbers.{IsSeed};
 ghost use Rattle.pc_io.specs.Change.{change};
 ghost use Rattle.pc_run.specs.Ends.{NeverLacks};
 ghost use Rattle.pc_refusals.specs.Inner.Answering.{Ends};
-ghost use Rattle.pc_refusals.specs.Named.{FailedAmong, files_change, named};
+ghost use Rattle.pc_refusals.specs.Named.{files_change, named};
 ghost use Rattle.pc_top.specs.Commands.Play.{IsPlay, RanChosen};
+ghost use Rattle.pc_top.specs.Shapes.{UnreadNumbered};
 
 use crate::laws::cores_of_sources_are_formed;
 use crate::numbered::accept_numbered;
@@ -50,9 +53,11 @@ pub fn play_source<F: Files, O: Sink>(
     source: &str,
     seed: &str,
 ) -> Result<(), Stop>
+    ensures later { (n : Text) → F.faults files.old n ≤ F.faults files.new n }
+    ensures same { (n : Text) → F.bytes files.new n ≡ F.bytes files.old n }
     ensures out_later { O.faults out.old ≤ O.faults out.new }
     ensures ends { let files = files_change (F.bytes files.old) (F.faults files.old) (F.faults files.new) (F.taken files.new) in
-        Ends (IsPlay (named files source.now) seed.now) (FailedAmong files (source.now ∷ []))
+        Ends (IsPlay (named files source.now) seed.now) (UnreadNumbered (IsSeed seed.now) (named files source.now))
         (change (O.written out.old) (O.written out.new) (O.faults out.old) (O.faults out.new)) result }
 {
     cores_of_sources_are_formed();

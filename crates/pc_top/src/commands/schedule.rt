@@ -1,8 +1,11 @@
 //! `schedule SRC SEED`.
-ghost use Rattle.std.specs.Prelude.{IfOk, [], ◌∷◌};
+ghost use Rattle.std.specs.Prelude.{◌≡◌, ◌≤◌, IfOk};
+ghost use Rattle.pc_lists.specs.Texts.{Text};
+ghost use Rattle.pc_args.specs.Numbers.{IsSeed};
 ghost use Rattle.pc_refusals.specs.Inner.Answering.{AnswersText};
-ghost use Rattle.pc_refusals.specs.Named.{FailedAmong, files_change, named};
+ghost use Rattle.pc_refusals.specs.Named.{files_change, named};
 ghost use Rattle.pc_top.specs.Commands.Schedule.{IsChosenLine, IsSchedule};
+ghost use Rattle.pc_top.specs.Shapes.{UnreadNumbered};
 
 use crate::numbered::accept_numbered;
 use pc_args::seed_of;
@@ -32,8 +35,10 @@ pub fn choose_schedule<F: Files>(
     source: &str,
     seed: &str,
 ) -> Result<List<u8>, Stop>
-    ensures { let files = files_change (F.bytes files.old) (F.faults files.old) (F.faults files.new) (F.taken files.new) in
-        AnswersText (IsSchedule (named files source.now) seed.now) (FailedAmong files (source.now ∷ [])) result }
+    ensures later { (n : Text) → F.faults files.old n ≤ F.faults files.new n }
+    ensures same { (n : Text) → F.bytes files.new n ≡ F.bytes files.old n }
+    ensures answers { let files = files_change (F.bytes files.old) (F.faults files.old) (F.faults files.new) (F.taken files.new) in
+        AnswersText (IsSchedule (named files source.now) seed.now) (UnreadNumbered (IsSeed seed.now) (named files source.now)) result }
 {
     let read = accept_numbered(alloc, files, source, seed_of(seed))?;
     let text = write_chosen(alloc, &read.accepted.source.core, read.number)?;

@@ -31,7 +31,7 @@ use Rattle.pc_top.specs.Commands.Run.{IsRun, Ran}
 use Rattle.pc_top.specs.Commands.Run.Ran.{cut, whole as whole_run}
 use Rattle.pc_top.specs.Commands.Schedule.{IsSchedule, Scheduled}
 use Rattle.pc_top.specs.CoresFormed.{CoresAreFormed}
-use Rattle.pc_top.specs.One.{TellsOf, VerdictIsOne}
+use Rattle.pc_top.specs.One.{TellsOf, UnfailedOf, VerdictIsOne}
 use Rattle.pc_top.specs.Played.{Answered, PlayedAsRun}
 use Rattle.pc_top.specs.Shapes.{OfAccepted}
 use Rattle.pc_top.specs.Shapes.ByNumber.{spelled}
@@ -110,7 +110,7 @@ module _ (one : VerdictIsOne) (formed : CoresAreFormed) (never : AcceptedNeverLa
   -- the verdict of words is this one
   is_that : (files : Files) (words : List Text) (asked : Asked) (source bytes : Text) (v w : Verdict) → Answered files words asked source bytes v → TellsOf files.told (Some asked) → IsVerdictOf files (Some asked) w → v ≡ w
   is_that files words asked source bytes v w a tells is =
-      one files words v w a.unfailed (subst (λ (o : Option Asked). TellsOf files.told o) (sym a.asks) tells) a.verdict (subst (λ (o : Option Asked). IsVerdictOf files o w) (sym a.asks) is)
+      one files words v w (subst (λ (o : Option Asked). UnfailedOf files o) (sym a.asks) a.unfailed) (subst (λ (o : Option Asked). TellsOf files.told o) (sym a.asks) tells) a.verdict (subst (λ (o : Option Asked). IsVerdictOf files o w) (sym a.asks) is)
 
   pub played_as_run : PlayedAsRun
   played_as_run chosen_files played_files ran_files choosing playing running source bytes seed schedule line v w c p r tells =

@@ -80,7 +80,7 @@ pub returns-in-Schedule-clause-ends : goal.returns-in-Schedule-clause-ends
 returns-in-Schedule-clause-ends g c =
     let files = files_change (g.F.Files.bytes c.args.files.now) (g.F.Files.faults c.args.files.now) (g.F.Files.faults c.choose_schedule.new.files) (g.F.Files.taken c.choose_schedule.new.files) in
     let out = change (g.O.Sink.written c.args.out.now) (g.O.Sink.written c.put_answer-in-Schedule.new.out) (g.O.Sink.faults c.args.out.now) (g.O.Sink.faults c.put_answer-in-Schedule.new.out) in
-    command_puts files out _ (schedule_of c.in-Schedule.source.now c.in-Schedule.seed.now) _ _ (ap asked_by c.in-Schedule.is) c.choose_schedule.ensures c.put_answer-in-Schedule.ensures.puts
+    command_puts files out _ (schedule_of c.in-Schedule.source.now c.in-Schedule.seed.now) _ _ (ap asked_by c.in-Schedule.is) c.choose_schedule.ensures.answers c.put_answer-in-Schedule.ensures.puts
 
 pub returns-in-Schedule-clause-asks : goal.returns-in-Schedule-clause-asks
 returns-in-Schedule-clause-asks g c = asks_other _ _ (schedule_of c.in-Schedule.source.now c.in-Schedule.seed.now) _ _ (ap asked_by c.in-Schedule.is) (λ s d e. cc)
@@ -89,7 +89,7 @@ pub returns-in-Outcomes-clause-ends : goal.returns-in-Outcomes-clause-ends
 returns-in-Outcomes-clause-ends g c =
     let files = files_change (g.F.Files.bytes c.args.files.now) (g.F.Files.faults c.args.files.now) (g.F.Files.faults c.tell_outcomes.new.files) (g.F.Files.taken c.tell_outcomes.new.files) in
     let out = change (g.O.Sink.written c.args.out.now) (g.O.Sink.written c.put_answer-in-Outcomes.new.out) (g.O.Sink.faults c.args.out.now) (g.O.Sink.faults c.put_answer-in-Outcomes.new.out) in
-    command_puts files out _ (outcomes c.in-Outcomes.source.now c.in-Outcomes.count.now) _ _ (ap asked_by c.in-Outcomes.is) c.tell_outcomes.ensures c.put_answer-in-Outcomes.ensures.puts
+    command_puts files out _ (outcomes c.in-Outcomes.source.now c.in-Outcomes.count.now) _ _ (ap asked_by c.in-Outcomes.is) c.tell_outcomes.ensures.answers c.put_answer-in-Outcomes.ensures.puts
 
 pub returns-in-Outcomes-clause-asks : goal.returns-in-Outcomes-clause-asks
 returns-in-Outcomes-clause-asks g c = asks_other _ _ (outcomes c.in-Outcomes.source.now c.in-Outcomes.count.now) _ _ (ap asked_by c.in-Outcomes.is) (λ s d e. cc)

@@ -16,14 +16,14 @@ returns-in_err-read-clause-ends g c =
     let files = files_change (g.F.Files.bytes c.args.files.now) (g.F.Files.faults c.args.files.now) (g.F.Files.faults c.accept_numbered.new.files) (g.F.Files.taken c.accept_numbered.new.files) in
     let out = change (g.O.Sink.written c.args.out.now) (g.O.Sink.written c.args.out.now) (g.O.Sink.faults c.args.out.now) (g.O.Sink.faults c.args.out.now) in
     rw (p.1, p.2) (stop_ends (IsPlay (named files source) c.args.seed.now) _ out _
-    (number_stops (IsSeed c.args.seed.now) (Played source) files source c.seed_of.result c.seed_of.ensures _ c.in_err-read.ensures) refl)
+    (number_stops (IsSeed c.args.seed.now) (Played source) files source c.seed_of.result c.seed_of.ensures _ c.in_err-read.ensures.reads) refl)
 
 pub play_core-requires : goal.play_core-requires
-play_core-requires g c = record { never_lacks = accepted_lacks_nothing c.cores_of_sources_are_formed.ensures c.accepted_never_lacks.ensures c.in_ok-read.ensures.1.2 }
+play_core-requires g c = record { never_lacks = accepted_lacks_nothing c.cores_of_sources_are_formed.ensures c.accepted_never_lacks.ensures c.in_ok-read.ensures.reads.1.2 }
 
 pub returns-clause-ends : goal.returns-clause-ends
 returns-clause-ends g c =
     let source = c.args.source.now in
     let files = files_change (g.F.Files.bytes c.args.files.now) (g.F.Files.faults c.args.files.now) (g.F.Files.faults c.accept_numbered.new.files) (g.F.Files.taken c.accept_numbered.new.files) in
     let out = change (g.O.Sink.written c.args.out.now) (g.O.Sink.written c.play_core.new.out) (g.O.Sink.faults c.args.out.now) (g.O.Sink.faults c.play_core.new.out) in
-    number_ends (IsSeed c.args.seed.now) (Played source) files source c.seed_of.result c.seed_of.ensures c.in_ok-read.read c.in_ok-read.ensures out _ c.play_core.ensures.ends
+    number_ends (IsSeed c.args.seed.now) (Played source) files source c.seed_of.result c.seed_of.ensures c.in_ok-read.read c.in_ok-read.ensures.reads out _ c.play_core.ensures.ends
