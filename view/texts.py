@@ -33,6 +33,10 @@ class Derivation:
     masks: list
 
 
+SLOT = re.compile(r"s (\d+ [a-z]+)")
+NODE = re.compile(r"n ([a-z]+) (-|\d+ [a-z]+\^?) ([0-9a-f]+ [0-9a-f]+ [0-9a-f]+ [0-9a-f]+)")
+
+
 def derivation(text):
     """A derivation in version 1."""
     lines = lines_of(text, "derivation")
@@ -44,18 +48,17 @@ def derivation(text):
         raise bad("derivation", min(len(lines), 1 + slots + nodes) + 1)
     found = Derivation([], [], [], [])
     for number, line in enumerate(lines[1 : 1 + slots], 2):
-        words = line.split(" ")
-        if len(words) != 3 or words[0] != "s":
+        words = SLOT.fullmatch(line)
+        if words is None:
             raise bad("derivation", number)
-        found.slots.append(f"{words[1]} {words[2]}")
+        found.slots.append(words[1])
     for number, line in enumerate(lines[1 + slots :], 2 + slots):
-        words = line.split(" ", 2)
-        masks = words[-1].rsplit(" ", 4)
-        if len(words) != 3 or len(masks) != 5 or words[0] != "n":
+        words = NODE.fullmatch(line)
+        if words is None:
             raise bad("derivation", number)
         found.rules.append(words[1])
-        found.types.append(masks[0])
-        found.masks.append(" ".join(masks[1:]))
+        found.types.append(words[2])
+        found.masks.append(words[3])
     return found
 
 
