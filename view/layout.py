@@ -1,7 +1,7 @@
 """Where boxes and arrows stand in the picture of who sends what. Computed without chance: a table has one picture.
 
 Boxes stand in layers by the longest way from those that nobody sends to, arrows back left out of the count. An arrow over
-several layers goes through a place in each, so that none passes behind a box. The order in a layer is by the mean of the
+several layers goes through a place in each, so that none passes under a box. The order in a layer is by the mean of the
 neighbours, in twelve sweeps, of which the order with the fewest crossings is kept."""
 
 import dataclasses

@@ -50,8 +50,8 @@ def ask(*words):
     except OSError as error:
         raise Failed(f"{path()} does not start: {error.strerror}") from error
     lines = [line for line in ran.stderr.splitlines() if line.strip()]
-    told = [line for line in lines if not line.startswith(LAUNCHER)] or lines
-    return Answer(ran.returncode, ran.stdout, shown(told[-1]) if told else "")
+    spoken = [line for line in lines if not line.startswith(LAUNCHER)] or lines
+    return Answer(ran.returncode, ran.stdout, shown(spoken[-1]) if spoken else "")
 
 
 def failure(answer, *words):

@@ -31,14 +31,14 @@ def start_of(path, source, line):
     return source.byte(int(found[1]), int(found[2])) if found else None
 
 
-def end_of(source, start, told, places):
+def end_of(source, start, explanation, places):
     """The end of the place, as a byte: that of a node which begins there and ends as `explain` says; or what `explain` says;
     or the end of the one word."""
-    if told.end is not None:
-        end = source.byte(*told.end)
-    elif told.width:
+    if explanation.end is not None:
+        end = source.byte(*explanation.end)
+    elif explanation.width:
         end = start
-        for found in itertools.islice(CHARACTER.finditer(source.data, start), told.width):
+        for found in itertools.islice(CHARACTER.finditer(source.data, start), explanation.width):
             end = found.end()
     else:
         found = WORD.match(source.data, start)
@@ -49,9 +49,9 @@ def end_of(source, start, told, places):
 
 def data(path, source, checked, places):
     """The refusal: its first line, its place in the shown text, and the lines of the explanation."""
-    told = explained(path, checked)
+    explanation = explained(path, checked)
     start = start_of(path, source, checked.line)
     place = None
     if start is not None:
-        place = [source.place(start), source.place(end_of(source, start, told, places))]
-    return {"head": told.head, "place": place, "lines": told.lines}
+        place = [source.place(start), source.place(end_of(source, start, explanation, places))]
+    return {"head": explanation.head, "place": place, "lines": explanation.lines}

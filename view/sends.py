@@ -5,9 +5,9 @@ import pathlib
 import layout
 import program
 import texts
-from columns import Table, differences
+from columns import differences
 
-MAIN = "Main"
+MAIN, STREAM = "Main", "OutStream"
 
 # A picture has at most so many boxes; of more, the page draws the neighbours of one.
 MOST_BOXES = 60
@@ -28,7 +28,7 @@ def box_size(name, rows, never):
     return round(width), HEAD + ROW * len(rows) + (FOOT if rows else 0)
 
 
-def picture(boxes, sizes, arrows, first, tall):
+def picture(sizes, arrows, first, tall):
     """Where everything stands in one of the two pictures: layers from left to right, or from top to bottom."""
     extents = [width + BESIDE if tall else height for width, height in sizes]
     layer, centres, passed = layout.place(extents, arrows, first)
@@ -39,57 +39,73 @@ def picture(boxes, sizes, arrows, first, tall):
     }
 
 
-def data(name, found, places):
-    """The page's data. Messages are numbered in the order of the core, boxes in that of the entities."""
-    entities = [row[4] for row in places.entities]
-    numbers = {entity: number for number, entity in enumerate(entities)}
-    kinds = {(entities[row[0]], row[7]): row[1] for row in places.methods}
-    messages = Table()
-    for row in places.methods:
-        if row[1] in ("be", "spawn"):
-            messages.number((entities[row[0]], row[7]))
-    mentioned = [it for _, it in found.pairs] + found.never
-    if any(it not in messages.numbers for it in mentioned) or any(it not in numbers for it, _ in found.pairs):
-        raise program.Failed(f"{name}: sends and places name different messages")
-    told = set(mentioned)
-    table = [it for it in messages.values if it in told]
-    at = {it: number for number, it in enumerate(table)}
-    never = {at[it] for it in found.never}
-    constructors = {number for number, it in enumerate(table) if kinds[it] == "spawn"}
-    made = {table[number][0] for number in constructors - never} | {MAIN, "OutStream"}
-    senders = Table()
-    rows = []
+class Messages:
+    """The messages of a table, numbered in the order of the core, each an entity and a name."""
+
+    def __init__(self, name, found, places):
+        entities = [row[4] for row in places.entities]
+        kinds = {(entities[row[0]], row[7]): row[1] for row in places.methods if row[1] in ("be", "spawn")}
+        mentioned = {it for _, it in found.pairs} | set(found.never)
+        if not mentioned <= kinds.keys():
+            raise program.Failed(f"{name}: sends and places name different messages")
+        self.rows = [it for it in kinds if it in mentioned]
+        self.numbers = {it: number for number, it in enumerate(self.rows)}
+        self.never = [self.numbers[it] for it in found.never]
+        self.constructors = [number for number, it in enumerate(self.rows) if kinds[it] == "spawn"]
+
+    def never_made(self):
+        """The entities all of whose constructors are never sent. The program itself makes the first two actors."""
+        dull = set(self.never)
+        sent = {self.rows[it][0] for it in self.constructors if it not in dull}
+        return {self.rows[it][0] for it in dull} - sent - {MAIN, STREAM}
+
+
+def rows_of(found, boxes, messages):
+    """The senders in the order of the table, and the differences of the numbers of what each may send."""
+    rows = {}
     for sender, message in found.pairs:
-        if senders.number(sender) == len(rows):
-            rows.append([])
-        rows[senders.number(sender)].append(at[message])
-    never_made = sorted({it for it, _ in found.never if it not in made}, key=numbers.get)
-    arrows_of = {sender for sender, _ in found.pairs} | {it for _, (it, _) in found.pairs}
-    drawn = sorted(arrows_of | {it for it, _ in found.never if it in made}, key=numbers.get)
+        rows.setdefault(boxes[sender], []).append(messages.numbers[message])
+    return {"senders": list(rows), "rows": [differences(row) for row in rows.values()]}
+
+
+def pictures(names, messages, found, boxes):
+    """The sizes of the boxes, and the two pictures."""
+    dull = set(messages.never)
+    own = [[number for number, it in enumerate(messages.rows) if it[0] == name] for name in names]
+    sizes = [
+        box_size(name, [messages.rows[it][1] for it in row], any(it in dull for it in row)) for name, row in zip(names, own)
+    ]
+    arrows = list(dict.fromkeys((boxes[sender], boxes[entity]) for sender, (entity, _) in found.pairs))
+    first = boxes.get(MAIN)
+    return {"sizes": sizes, "wide": picture(sizes, arrows, first, False), "tall": picture(sizes, arrows, first, True)}
+
+
+def data(name, found, places):
+    """The page's data. Boxes are in the order of the core's entities."""
+    messages = Messages(name, found, places)
+    never_made = messages.never_made()
+    with_arrows = {sender for sender, _ in found.pairs} | {entity for _, (entity, _) in found.pairs}
+    with_rows = {messages.rows[it][0] for it in messages.never} - never_made
+    kinds = {row[4]: row[0] for row in places.entities}
+    if not with_arrows <= kinds.keys():
+        raise program.Failed(f"{name}: sends and places name different entities")
+    drawn = [it for it in kinds if it in with_arrows | with_rows]
     boxes = {it: number for number, it in enumerate(drawn)}
-    page = {
+    found_pictures = pictures(drawn, messages, found, boxes) if len(drawn) <= MOST_BOXES else {}
+    return {
         "page": "sends",
         "name": name,
         "boxes": drawn,
-        "kinds": [places.entities[numbers[it]][0] for it in drawn],
-        "messages": [[boxes.get(entity, -1), entity if entity not in boxes else "", it] for entity, it in table],
-        "constructors": sorted(constructors),
-        "never": [at[it] for it in found.never],
-        "never_made": never_made,
-        "senders": [boxes[it] for it in senders.values],
-        "rows": [differences(row) for row in rows],
+        "kinds": [kinds[it] for it in drawn],
+        "messages": [[boxes.get(entity, -1), "" if entity in boxes else entity, it] for entity, it in messages.rows],
+        "constructors": messages.constructors,
+        "never": messages.never,
+        "never_made": [it for it in kinds if it in never_made],
         "first": boxes.get(MAIN),
         "pairs": len(found.pairs),
+        **rows_of(found, boxes, messages),
+        **found_pictures,
     }
-    if len(drawn) <= MOST_BOXES:
-        own = [[table[number][1] for number in range(len(table)) if table[number][0] == it] for it in drawn]
-        is_never = [any(table[number][0] == it for number in never) for it in drawn]
-        sizes = [box_size(*it) for it in zip(drawn, own, is_never)]
-        arrows = list(dict.fromkeys((boxes[sender], boxes[it]) for sender, (it, _) in found.pairs))
-        page["sizes"] = sizes
-        page["wide"] = picture(drawn, sizes, arrows, boxes.get(MAIN), False)
-        page["tall"] = picture(drawn, sizes, arrows, boxes.get(MAIN), True)
-    return page
 
 
 def page(path):

@@ -248,7 +248,7 @@ entities.forEach((it, e) => {
   let at = it[ENTITY.end];
   const limit = e + 1 < entities.length ? entities[e + 1][ENTITY.start] : text.length;
   for (const f of it[ENTITY.end] ? fieldsOf[e] : []) {
-    const form = new RegExp(`\\b${fields[f][FIELD.word]}\\s+(${fields[f][FIELD.name].replace("'", "\\x27")})(?![A-Za-z0-9_'])`, "g");
+    const form = new RegExp(`\\b${fields[f][FIELD.word]}\\s+(${fields[f][FIELD.name]})(?![A-Za-z0-9_'])`, "g");
     form.lastIndex = at;
     for (let found; (found = form.exec(text)) && found.index < limit; ) {
       if (quietAt(found.index)) continue;
@@ -549,28 +549,28 @@ function chips(names, before, after, all) {
 function liveNames(n) {
   const [first, after] = slotsOf(methodOf[n]), names = [];
   for (let s = first; s < after; s++) names.push([slotName(s), formOf(slotType(s))]);
-  const [before, , behind] = masksOf(n);
-  return [heading("Live names"), chips(names, before, behind, false)];
+  const [before, , later] = masksOf(n);
+  return [heading("Live names"), chips(names, before, later, false)];
 }
 
 function setFields(n) {
   const method = methods[methodOf[n]];
   if (!["new", "spawn"].includes(method[METHOD.kind]) || data.nodes.depth[n] || !fieldsOf[method[METHOD.entity]].length) return [];
   const names = fieldsOf[method[METHOD.entity]].map((f) => [fields[f][FIELD.name], fields[f][FIELD.capability]]);
-  const [, before, , behind] = masksOf(n);
-  return [heading("Fields set"), chips(names, before, behind, true)];
+  const [, before, , later] = masksOf(n);
+  return [heading("Fields set"), chips(names, before, later, true)];
 }
 
 function way(n) {
   const made = element("nav", "path"), path = [];
-  made.setAttribute("aria-label", "what it stands in");
+  made.setAttribute("aria-label", "what it is inside of");
   for (let it = n; it >= 0; it = parent[it]) path.unshift(it);
   path.forEach((it, i) => {
     const step = button("", kindOf(it) === "body" ? methodName(methodOf[it]) : data.meanings.kinds[kindOf(it)], () => hold(it));
     if (it === n) step.setAttribute("aria-current", "true");
     made.append(i ? "\u203a" : "", step);
   });
-  return [heading("Stands in"), made];
+  return [heading("Inside"), made];
 }
 
 /** The other nodes at its place, if there are any, to choose. */
@@ -633,7 +633,7 @@ function atRest() {
   if (!size) return data.refusal ? refusal() : [heading("Reading it"), paragraph("There is no expression in this source.")];
   const say = known
     ? "Each name, literal and call has the colour of its capability. Choose an expression: its type, the rule that it meets, its parts and the names that are live there are shown here. Choose it again to go out to the expression around it."
-    : "Choose an expression to see its parts and what it stands in.";
+    : "Choose an expression to see its parts and what it is inside of.";
   return [...refusal(), heading("Reading it"), paragraph(say), ...(known ? [heading("Capabilities"), tally()] : [])];
 }
 

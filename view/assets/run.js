@@ -405,21 +405,21 @@ function clock(i) {
 
 /** How the accesses of other actors to the same field are ordered with this one, if one of the two writes. */
 function conflicts(i) {
-  let before = 0, behind = 0, unordered = 0;
+  let before = 0, later = 0, unordered = 0;
   for (const it of accesses.get(fieldKey(i))) {
     if (actorOf[it] === actorOf[i] || (word[it] === READ && word[i] === READ)) continue;
     if (upTo(it, i)) before++;
-    else if (upTo(i, it)) behind++;
+    else if (upTo(i, it)) later++;
     else unordered++;
   }
-  return { before, behind, unordered };
+  return { before, later, unordered };
 }
 
 function sameField(i) {
   if (word[i] < READ) return [];
-  const { before, behind, unordered } = conflicts(i), all = before + behind + unordered;
+  const { before, later, unordered } = conflicts(i), all = before + later + unordered;
   const verb = all === 1 ? "access that conflicts" : "accesses that conflict";
-  const said = all ? `${all} ${verb}: ${before} before, ${behind} after, ${unordered} not ordered` : "no access that conflicts";
+  const said = all ? `${all} ${verb}: ${before} before, ${later} after, ${unordered} not ordered` : "no access that conflicts";
   return [heading("Same field, other actors"), paragraph(said)];
 }
 
@@ -495,10 +495,10 @@ function key(name) {
 /* The page. */
 const tools = element("div", "group", button("tool", "\u2212", () => zoom(.8), "narrower"), button("tool", "+", () => zoom(1.25), "wider"));
 if (windowed) tools.append(button("tool", "\u2190", () => moveWindow(first - WINDOW), "the events before"), button("tool", "\u2192", () => moveWindow(first + WINDOW), "the events after"));
-const told = ended
+const facts = ended
   ? [element("b", "refused", "ended")]
   : [element("b", "ordered", "ordered"), ` · ${count(lanes, "actor", "actors")} · ${count(size, "event", "events")} · ${count(data.accesses, "access", "accesses")}`];
-frame("Run of", told, ended ? element("div", "group") : tools, [
+frame("Run of", facts, ended ? element("div", "group") : tools, [
   ["→ ←", "the next and the last event"], ["↑ ↓", "the nearest in another lane"], ["m", "along the message"],
   ["+ −", "wider and narrower"], ["Page ↑ ↓", "the events before and after, if a run has more than 2,000"], ["Esc", "let go"],
   ["click", "hold an event: what comes before it stays"], ["?", "these keys"],

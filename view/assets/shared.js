@@ -66,8 +66,8 @@ const handle = button("", "", () => {
 }, "more or less of this panel");
 const body = element("div");
 
-/** Makes the head and the two parts of the page. `told` is a list of elements and texts after the name. */
-function frame(what, told, group, keys) {
+/** Makes the head and the two parts of the page. `facts` is a list of elements and texts after the name. */
+function frame(what, facts, group, keys) {
   const help = notes(keys);
   picture.id = "picture";
   picture.tabIndex = 0;
@@ -86,7 +86,7 @@ function frame(what, told, group, keys) {
   const title = element("h1", "", what + " ", name);
   title.title = `${what} ${visible(data.name)}`;
   document.body.append(
-    element("header", "", title, element("span", "told", ...told), group, element("span", "space"), tools),
+    element("header", "", title, element("span", "facts", ...facts), group, element("span", "space"), tools),
     element("main", "", picture, panel), help);
   document.title = `${what} ${visible(data.name)}`;
 }

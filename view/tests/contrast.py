@@ -1,10 +1,10 @@
-"""The contrast of texts with what is behind them, of the colours in assets/style.css, by the formula of WCAG 2.1."""
+"""The contrast of texts with what is under them, of the colours in assets/style.css, by the formula of WCAG 2.1."""
 
 import re
 
 LEAST = 4.5
 
-# Colours of texts, and what may be behind each of them.
+# Colours of texts, and what may be under each of them.
 INKS = ["ink", "faint", "link", "good", "refused", "iso", "trn", "ref", "val", "box", "tag", "none"]
 GROUNDS = ["ground", "card", "marked", "refused-ground", "band"]
 

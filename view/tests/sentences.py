@@ -36,7 +36,7 @@ class Sentences(unittest.TestCase):
 
 
 class Contrast(unittest.TestCase):
-    """Texts have at least 4.5 to 1 with all that may be behind them, and signs at least 3 to 1."""
+    """Texts have at least 4.5 to 1 with all that may be under them, and signs at least 3 to 1."""
 
     def test_all(self):
         style = (pages.VIEW / "assets/style.css").read_text()
