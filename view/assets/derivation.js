@@ -703,7 +703,7 @@ picture.addEventListener("scroll", () => {
   waiting = true;
   requestAnimationFrame(() => { waiting = false; refresh(); });
 });
-addEventListener("resize", () => {
+onResize(() => {
   rowHeight = parseFloat(getComputedStyle(root).getPropertyValue("--row"));
   refresh();
 });

@@ -3,7 +3,8 @@
 const TAKE = 0, SEND = 1, MAKE = 2, NEW = 3, READ = 4, WRITE = 5;
 const WHOLE_RUN = 2000, WINDOW = 1000;
 const LEAST_LANE = 54, MOST_LANE = 150, AXIS = 34, STRIP = 46;
-const LEAST_STEP = 6, COMMON_STEP = 12.5, MOST_STEP = 60;
+const LEAST_STEP = 6, COMMON_STEP = 12.5, MOST_STEP = 60, MOST_FITTED_STEP = 34;
+const PRINTED_WIDTH = 560, LEAST_PRINTED_STEP = 3;
 const COLOURS = 8, MOST_OBJECTS = 24, MOST_LINES = 500, MOST_CLOCK = 70;
 const NAME_ROWS = 4, ROW_HEIGHT = 13, CHARACTER = 6.7;
 
@@ -122,7 +123,7 @@ function fitted() {
   const rows = turns().length;
   const room = picture.clientWidth - labelWidth - 60;
   const fit = room / Math.max(1, after - first + rows * .7);
-  return fit >= 12 ? Math.min(fit, 24) : COMMON_STEP;
+  return fit >= 12 ? Math.min(fit, MOST_FITTED_STEP) : COMMON_STEP;
 }
 
 /* Signs. */
@@ -233,12 +234,16 @@ function drawTurns() {
   }
 }
 
+/** The messages that are sent or taken in the window. */
 function drawMessages() {
   arrows = [];
-  for (let i = 0; i < size; i++) if (word[i] === TAKE && other[i] >= 0 && i >= first && other[i] < after) {
-    const made = arrow(other[i], i);
+  for (let i = first; i < after; i++) {
+    if (other[i] < 0) continue;
+    const [from, to] = word[i] === TAKE ? [other[i], i] : [i, other[i]];
+    if (word[i] !== TAKE && to < after) continue;
+    const made = arrow(from, to);
     made.classList.add("fades");
-    arrows.push([i, made]);
+    arrows.push([to, made]);
     board.append(made);
   }
 }
@@ -254,27 +259,33 @@ function drawLabels() {
   corner.style.width = labels.style.width = `${labelWidth}px`;
 }
 
+/** Which lanes have an event in which column of the strip: a row of flags for each lane. */
+let columns = null;
+
+function columnsOf(wide) {
+  if (columns?.wide === wide) return columns.flags;
+  const flags = new Uint8Array(lanes * wide);
+  for (let i = 0; i < size; i++) flags[actorOf[i] * wide + Math.floor(i / size * wide)] = 1;
+  columns = { wide, flags };
+  return flags;
+}
+
 /** The whole run, a column of points for a row of events, with the window in it. */
 function drawStrip() {
-  const wide = Math.max(200, picture.clientWidth - labelWidth - 20), ratio = devicePixelRatio || 1;
+  const wide = Math.floor(Math.max(200, picture.clientWidth - labelWidth - 20)), ratio = devicePixelRatio || 1;
   strip.width = wide * ratio;
   strip.height = STRIP * ratio;
   strip.style.width = `${wide}px`;
   strip.style.height = `${STRIP}px`;
   strip.style.marginLeft = `${labelWidth}px`;
-  const brush = strip.getContext("2d"), style = getComputedStyle(root);
+  const brush = strip.getContext("2d"), style = getComputedStyle(root), flags = columnsOf(wide);
   brush.scale(ratio, ratio);
   brush.fillStyle = style.getPropertyValue("--band");
   brush.fillRect(0, 0, wide, STRIP);
   const high = (STRIP - 10) / lanes;
   for (let lane = 0; lane < lanes; lane++) {
     brush.fillStyle = style.getPropertyValue(`--object-${lane % COLOURS}`);
-    let last = -1;
-    for (let i = 0; i < size; i++) if (actorOf[i] === lane) {
-      const at = Math.floor(i / size * wide);
-      if (at !== last) brush.fillRect(at, 5 + lane * high, 1, Math.max(1, high - .3));
-      last = at;
-    }
+    for (let at = 0; at < wide; at++) if (flags[lane * wide + at]) brush.fillRect(at, 5 + lane * high, 1, Math.max(1, high - .3));
   }
   brush.strokeStyle = style.getPropertyValue("--ink");
   brush.lineWidth = 2;
@@ -531,7 +542,17 @@ function build() {
     const i = eventAt(event, 18);
     hold(i === held ? -1 : i, "pointer");
   });
-  addEventListener("resize", draw);
+  onResize(draw);
+  let before = step;
+  addEventListener("beforeprint", () => {
+    before = step;
+    step = Math.max(LEAST_PRINTED_STEP, Math.min(step, PRINTED_WIDTH / (after - first + turns().length * .7)));
+    draw();
+  });
+  addEventListener("afterprint", () => {
+    step = before;
+    draw();
+  });
   new MutationObserver(() => { if (windowed) drawStrip(); }).observe(root, { attributeFilter: ["data-theme"] });
 }
 

@@ -114,7 +114,7 @@ function tallScene() {
     const source = placed[box], sorted = [...row].sort((a, b) => portOf(placed, a)[0] - portOf(placed, b)[0] || b - a);
     const outs = outlets(sorted.length, source.x + 10, source.x + source.width - 10);
     sorted.forEach((m, i) => {
-      const target = messages[m][MESSAGE.box], [px, py] = portOf(placed, m), beside = px - 13;
+      const target = messages[m][MESSAGE.box], [px, py] = portOf(placed, m), beside = px - 9 - i % 4 * 3.5;
       const way = wayOf.get(box * boxes.length + target), shift = (i - (sorted.length - 1) / 2) * 2.5;
       const back = layer[target] <= layer[box], points = [[outs[i], source.y + source.height]];
       for (const [passed, along] of way) {
@@ -202,13 +202,13 @@ function draw() {
   if (!boxes.length) return;
   scene = !whole ? nearScene() : matchMedia(NARROW).matches ? tallScene() : wideScene();
   const room = Math.max(200, picture.clientWidth), high = picture.clientHeight;
-  const fit = Math.min(room / scene.width, high / scene.height);
-  const used = scale * Math.max(.8, Math.min(1.2, fit));
+  const narrow = matchMedia(NARROW).matches;
+  const fit = narrow ? room / scene.width : Math.min(room / scene.width, high / scene.height);
+  const used = scale * Math.max(.8, Math.min(narrow ? 1 : 1.2, fit));
   const width = scene.width * used, height = scene.height * used;
   board.setAttribute("width", width);
   board.setAttribute("height", height);
   board.setAttribute("viewBox", `0 0 ${scene.width} ${scene.height}`);
-  board.style.margin = `${Math.max(0, (high - height) / 2)}px ${Math.max(0, (room - width) / 2)}px`;
   board.replaceChildren(drawn("defs", {}, ...Array.from({ length: COLOURS }, (_, i) => marker(i))));
   boxParts = [];
   rowParts = [];
@@ -355,7 +355,7 @@ function boxButton(box, name) {
 }
 
 function messageButton(m) {
-  return button("link code", messageName(m), () => hold({ box: messages[m][MESSAGE.box], message: m }));
+  return button("link code", visible(messageName(m)), () => hold({ box: messages[m][MESSAGE.box], message: m }));
 }
 
 function pairLine(box, m) {
@@ -500,6 +500,7 @@ frame("Who sends what in", [`${count(boxes.length, "entity", "entities")} · ${c
     ["click", "hold an entity or a message: its arrows stay"], ["?", "these keys"],
   ]);
 picture.append(board);
+picture.classList.add("centred");
 board.setAttribute("role", "img");
 board.setAttribute("aria-label", "entities and the messages that they may send");
 if (!boxes.length) board.replaceWith(paragraph("Nothing is sent in this program."));
@@ -511,7 +512,7 @@ hold(null);
   if (m >= 0) hold({ box: messages[m][MESSAGE.box], message: m });
   else if (box >= 0) hold({ box });
 }
-addEventListener("resize", draw);
+onResize(draw);
 board.addEventListener("mousemove", (event) => hover(at(event)));
 board.addEventListener("mouseleave", () => hover(null));
 board.addEventListener("click", (event) => {

@@ -125,7 +125,7 @@ function withCode(kind, word, text) {
 function card(head, lines) {
   const made = element("div", "card", element("p", "head", visible(head)));
   made.setAttribute("role", "note");
-  for (const [word, words] of lines) made.append(withCode(word.split(" ")[0].replace("rules", "rule"), word, words));
+  for (const [word, words] of lines) made.append(withCode(`of-${word.split(" ")[0].replace("rules", "rule")}`, word, words));
   return made;
 }
 
@@ -137,6 +137,17 @@ function onKeys(act) {
     else if (!act(event.key, event)) return;
     event.preventDefault();
   });
+}
+
+/** Draws again if the picture gets another size. */
+function onResize(draw) {
+  let width = picture.clientWidth, height = picture.clientHeight;
+  new ResizeObserver(() => {
+    if (width === picture.clientWidth && height === picture.clientHeight) return;
+    width = picture.clientWidth;
+    height = picture.clientHeight;
+    draw();
+  }).observe(picture);
 }
 
 function press(key) {
@@ -169,6 +180,11 @@ function checkFrame() {
     if (low > innerHeight * .47) fail("the panel hides the picture");
   }
 }
+
+/** Notes when the page was laid out, in milliseconds after it was begun. */
+addEventListener("load", () => {
+  if (root.offsetHeight) root.dataset.drawn = Math.round(performance.now());
+});
 
 /** Walks the page if it is asked to, and notes how many things were looked at, or the first error. */
 function testItself(walk) {

@@ -61,10 +61,11 @@ def browser():
 
 
 def opened(address, size, own_time):
-    """The document after a page has run, as the browser writes it."""
+    """The document after a page has run, as the browser writes it. Its own time runs fast, if it is given any."""
     profile = tempfile.mkdtemp(prefix="view-profile-")
     words = [browser(), "--headless", "--no-sandbox", "--disable-gpu", "--hide-scrollbars", "--allow-file-access-from-files"]
-    words += [f"--user-data-dir={profile}", f"--window-size={size[0]},{size[1]}", f"--virtual-time-budget={own_time}", "--dump-dom", address]
+    words += [f"--user-data-dir={profile}", f"--window-size={size[0]},{size[1]}", "--dump-dom"]
+    words += ([f"--virtual-time-budget={own_time}"] if own_time else []) + [address]
     try:
         ran = subprocess.run(words, stdin=subprocess.DEVNULL, capture_output=True, check=False, timeout=SECONDS)
     finally:
