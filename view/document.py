@@ -37,9 +37,16 @@ def style():
     return asset("style.css")
 
 
+# The scripts of each page, in the order in which they run. They share one scope.
+SCRIPTS = {
+    "derivation": ["shared.js", "core.js", "code.js", "derivation.js"],
+    "run": ["shared.js", "events.js", "lanes.js", "run.js"],
+    "sends": ["shared.js", "table.js", "boxes.js", "sends.js"],
+}
+
+
 def script(page):
-    """The shared script and that of the page, which share one scope."""
-    return '"use strict";\n{\n' + asset("shared.js") + asset(f"{page}.js") + "}\n"
+    return '"use strict";\n{\n' + "".join(asset(name) for name in SCRIPTS[page]) + "}\n"
 
 
 def encoded(data):
