@@ -20,6 +20,7 @@ class Thing:
     extent: float
     layer: int
     box: int | None = None
+    is_back: bool = False
     at: float = 0.0
 
 
@@ -85,6 +86,8 @@ def crossings(order, links):
 def arranged(things, links, layers):
     """The order of the things in each layer."""
     rows = [[i for i, it in enumerate(things) if it.layer == layer] for layer in range(layers)]
+    for row in rows:
+        row.sort(key=lambda i: not things[i].is_back)
     before, after = [[] for _ in things], [[] for _ in things]
     for layer in links:
         for a, b in layer:
@@ -145,7 +148,7 @@ def place(extents, arrows, first):
     for (source, target), passed in chains(layer, arrows).items():
         way, last = [], source
         for between in passed:
-            things.append(Thing(PASSING, between))
+            things.append(Thing(PASSING, between, is_back=layer[target] <= layer[source]))
             way.append(len(things) - 1)
         ways[source, target] = way
         for a, b in zip([source, *way], [*way, target]):
