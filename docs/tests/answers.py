@@ -4,7 +4,8 @@
 - The lines of a block of code are run in order, if one of them begins with `./rcap ` or if it is of shell commands that make
   files. A line that begins with `./rcap ` ends with status 0 and says nothing on standard error, or as the comment after it
   says: `# 1: the line`, or `# 1` alone.
-- A block after `<!-- output of COMMAND -->` is what the command writes. A line `..` stands for any lines.
+- A block after `<!-- output of COMMAND -->` is what the command writes, and so are the lines after a line `$ COMMAND` with
+  which a block begins. A line `..` stands for any lines.
 - A row with a file or words, a status and a line is what the program answers. A row with a text and a source `written by` a
   command is a source of which `check` says that text.
 
@@ -14,18 +15,13 @@ import os
 import pathlib
 import re
 import shutil
-import subprocess
 import tempfile
 
 import pages
+from shell import Folder, is_like, run_said, said_of, session
 
 # How many commands the pages have at least.
 LEAST = 110
-
-SECONDS = 600
-
-# What comes after a command on its line: the status, and the line on standard error.
-COMMENT = re.compile(r"\s+# (\d+)(?:: (.*))?$")
 
 # Commands that begin a line of a block and are not run: they build, or their words stand for others.
 NOT_RUN = re.compile(r"\./rcap (WORDS|COMMAND|--prove|--version|--help)")
@@ -33,61 +29,15 @@ NOT_RUN = re.compile(r"\./rcap (WORDS|COMMAND|--prove|--version|--help)")
 # Commands of a shell that a block may have besides: they make the files that the others name.
 SHELL = re.compile(r"(echo|printf|sed|head|cat|seq|:|\{) ")
 
-# What the launcher says before the program's own line.
-LAUNCHER_LINE = re.compile(r"^rcap: .*\n", re.MULTILINE)
-
 WORDS = re.compile(r"`([^`]*)`")
 
 
-class Folder:
-    """A folder with the examples and the launcher, in which commands run."""
-
-    def __init__(self):
-        self.path = pathlib.Path(tempfile.mkdtemp(prefix="rcap-docs-"))
-        shutil.copytree(pages.TOP / "examples", self.path / "examples")
-        os.symlink(pages.TOP / "rcap", self.path / "rcap")
-
-    def run(self, command):
-        """Runs a line of a shell, and returns its status, its output and its line on standard error."""
-        ran = subprocess.run(
-            ["bash", "-c", command], cwd=self.path, stdin=subprocess.DEVNULL, capture_output=True, timeout=SECONDS, check=False
-        )
-        line = LAUNCHER_LINE.sub("", ran.stderr.decode(errors="replace"))
-        return ran.returncode, ran.stdout.decode(errors="replace"), line.rstrip("\n")
-
-    def write(self, name, lines):
-        """Writes a file."""
-        (self.path / name).write_text("\n".join(lines) + "\n")
-
-    def replace(self, name, number, line):
-        """Replaces a line of a file."""
-        lines = (self.path / name).read_text().splitlines()
-        lines[number - 1] = line
-        self.write(name, lines)
-
-    def close(self):
-        shutil.rmtree(self.path, ignore_errors=True)
-
-
-def is_like(wanted, found):
-    """Whether lines are those that are wanted, where `..` stands for any."""
-    if not wanted:
-        return not found
-    if wanted[0].strip() == "..":
-        return any(is_like(wanted[1:], found[at:]) for at in range(len(found) + 1))
-    return bool(found) and wanted[0] == found[0] and is_like(wanted[1:], found[1:])
-
-
-def run_line(folder, line):
-    """Runs a line of a page, and returns what differs from what it says, or nothing."""
-    said = COMMENT.search(line)
-    status, _, error = folder.run(COMMENT.sub("", line))
-    wanted = int(said[1]) if said else 0
-    if status != wanted:
-        return f"status {status} and not {wanted}: {error}"
-    if said is None and error or said and said[2] and error != said[2]:
-        return f"says {error}"
-    return None
+def make_folder():
+    """A folder with the examples and the launcher."""
+    path = pathlib.Path(tempfile.mkdtemp(prefix="rcap-docs-"))
+    shutil.copytree(pages.TOP / "examples", path / "examples")
+    os.symlink(pages.TOP / "rcap", path / "rcap")
+    return Folder(path)
 
 
 def run_block(block, where, folder, results):
@@ -105,12 +55,18 @@ def run_block(block, where, folder, results):
         is_right = status == 0 and is_like(block.lines, out.splitlines())
         results.check(is_right, f"{where}: output of {block.said}", f"status {status}: {error} {out[:400]}")
         return 1
+    commands = session(block.lines)
+    for said in commands:
+        wrong = run_said(folder, said)
+        results.check(wrong is None, f"{where}: {said.command}", wrong)
+    if commands:
+        return len(commands)
     if not all(line == "" or line.startswith("./rcap ") or SHELL.match(line) for line in block.lines):
         return 0
     ran = 0
     for line in block.lines:
         if line and not NOT_RUN.match(line):
-            wrong = run_line(folder, line)
+            wrong = run_said(folder, said_of(line))
             ran += 1
             results.check(wrong is None, f"{where}: {line}", wrong)
     return ran
@@ -147,7 +103,7 @@ def run(found, results):
     """Runs all commands of the pages, and returns how many they are."""
     ran = 0
     for page in found:
-        folder = Folder()
+        folder = make_folder()
         try:
             for block in pages.blocks(page):
                 ran += run_block(block, f"{page.name}:{block.line}", folder, results)
@@ -157,5 +113,5 @@ def run(found, results):
                     ran += 1
                     results.check(said[1] is None, f"{page.name}:{row.line}: {said[0]}", said[1])
         finally:
-            folder.close()
+            shutil.rmtree(folder.path, ignore_errors=True)
     return ran

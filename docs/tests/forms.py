@@ -5,6 +5,7 @@ import pathlib
 import re
 
 import pages
+from shell import PROMPT, session
 
 README_LINES = 120
 PAGES = 22
@@ -138,6 +139,16 @@ def bad_phrases(name, text):
     return found
 
 
+def prose(page):
+    """The text of a page, without what commands write: those are the words of a program."""
+    lines = list(page.lines)
+    for block in pages.blocks(page):
+        for at, line in enumerate(block.lines, block.line - 1):
+            if session(block.lines) and not line.startswith(PROMPT):
+                lines[at] = ""
+    return "\n".join(lines)
+
+
 def long_lines(page):
     """The lines of prose of a page that are longer than a screen is wide: none of a table, of code, or with a link."""
     code = {block.line + at for block in pages.blocks(page) for at in range(len(block.lines))}
@@ -169,7 +180,7 @@ def look(found, results):
             ("links", bad_links(page)),
             ("paths", bad_paths(page, files, crates)),
             ("names", bad_names(page, words)),
-            ("phrases", bad_phrases(page.name, page.text())),
+            ("phrases", bad_phrases(page.name, prose(page))),
             ("lines are wrapped", long_lines(page)),
         ):
             results.check(not bad, f"{page.name}: {what}", "; ".join(map(str, bad)))

@@ -6,11 +6,13 @@ import re
 
 TOP = pathlib.Path(__file__).resolve().parents[2]
 
-# What a comment says of the block after it: which command writes it, that it is a file, or that it is a line of a file.
+# What a comment says of the block after it: which command writes it; that it is written as a file, or as a line of one; or
+# that it shows the whole or some lines of a file that is there.
 MARKS = {
     "output": re.compile(r"<!-- output of (.*\S) -->$"),
     "file": re.compile(r"<!-- file (\S+) -->$"),
     "line": re.compile(r"<!-- line (\d+ of \S+) -->$"),
+    "shown": re.compile(r"<!-- ((?:whole|lines \d+ to \d+) of \S+) -->$"),
 }
 
 
