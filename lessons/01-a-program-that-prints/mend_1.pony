@@ -1,0 +1,3 @@
+class Main
+  new create(env: Env) =>
+    env.out.print("ready")

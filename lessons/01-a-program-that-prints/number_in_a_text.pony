@@ -1,0 +1,5 @@
+actor Main
+  new create(env: Env) =>
+    let count: U64 = 3
+    let text: String = "pages: " + count
+    env.out.print(text)
