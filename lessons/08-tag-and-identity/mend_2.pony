@@ -1,0 +1,10 @@
+class Cat
+class Dog
+
+actor Main
+  new create(env: Env) =>
+    let cat: Cat tag = Cat
+    let dog: Dog tag = Dog
+    let is_home: Bool = true
+    let same: Bool = if is_home then cat else dog end is cat
+    env.out.print("it is the cat: " + same.string())

@@ -1,0 +1,10 @@
+class Ticket
+  var seat: U64 = 0
+
+actor Main
+  new create(env: Env) =>
+    let ticket: Ticket iso = Ticket
+    ticket.seat = 12
+    let sold: Ticket iso = consume ticket
+    let ticket: Ticket iso = Ticket
+    env.out.print(sold.seat.string() + " and " + ticket.seat.string())
