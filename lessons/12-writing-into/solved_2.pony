@@ -1,0 +1,11 @@
+class Cup
+  var full: Bool = false
+
+class Tray
+  var cup: Cup trn = Cup
+
+actor Main
+  new create(env: Env) =>
+    let tray: Tray trn = Tray
+    let old: Cup box = tray.cup = Cup
+    env.out.print(old.full.string())

@@ -1,0 +1,14 @@
+class Cell
+  var value: U64 = 1
+
+actor Main
+  let _cell: Cell ref = Cell
+
+  new create(env: Env) =>
+    _cell.value = 5
+    let copy: Cell iso = recover
+      let fresh: Cell ref = Cell
+      fresh.value = _cell.value
+      fresh
+    end
+    env.out.print(copy.value.string())
