@@ -1,0 +1,8 @@
+actor Main
+  new create(env: Env) =>
+    var left: U64 = 3
+    let go_on: Bool = true
+    while (left > 0) and go_on do
+      env.out.print(left.string())
+      left = left - 1
+    end
