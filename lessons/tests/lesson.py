@@ -1,0 +1,132 @@
+"""One lesson: what it shows, its programs, and its exercises."""
+
+import difflib
+import re
+
+import pages
+from shell import run_said, said_of, session
+
+LINES = 80
+NEIGHBOURS = range(1, 4)
+EXERCISES = (1, 2)
+
+SHOWN = re.compile(r"(?:whole|lines (\d+) to (\d+)) of (\S+)")
+CHECKED = re.compile(r"\./rcap check (\w+\.pony)\b")
+EXPLAINED = re.compile(r"\./rcap explain (\w+\.pony)$")
+PLACE = re.compile(r"(\w+\.pony):(\d+):(\d+): ")
+WINDOW = re.compile(r"(\d+) \| (.*)")
+EXERCISE = re.compile(r"(mend|solved)_\d\.pony")
+
+
+def shown_lines(lesson, said):
+    """The lines of a file that a comment says are shown."""
+    first, last, name = SHOWN.fullmatch(said).groups()
+    lines = lesson.source(name).splitlines()
+    return lines if first is None else lines[int(first) - 1 : int(last)]
+
+
+def commands_of(block):
+    """What a block shows of commands: those of a session, or those of lines that begin with ./rcap or make a file."""
+    if block.lines and not any(line.startswith("./rcap ") for line in block.lines):
+        return session(block.lines)
+    return [said_of(line) for line in block.lines if line]
+
+
+def run_page(lesson, copy, results):
+    """Compares what the page shows with the files, and runs its commands from the first to the last."""
+    for block in pages.blocks(lesson.page):
+        where = f"{lesson.page.name}:{block.line}"
+        if block.mark == "shown":
+            results.check(block.lines == shown_lines(lesson, block.said), f"{where}: {block.said}", "the file is another")
+            continue
+        for said in commands_of(block):
+            if copy.is_looked_at(said.command):
+                wrong = run_said(lesson.folder, said)
+                results.check(wrong is None, f"{where}: {said.command}", wrong)
+
+
+def said_on(page):
+    """All that a page says of commands."""
+    return [said for block in pages.blocks(page) if block.mark is None for said in commands_of(block)]
+
+
+def explanations_on(page):
+    """The explanations that a page shows, by the program."""
+    found = {}
+    for said in said_on(page):
+        name = EXPLAINED.search(said.command)
+        if name:
+            found[name[1]] = said.output
+    return found
+
+
+def explanations(lesson):
+    """All explanations of a lesson, by the program: those on its page, and those of its exercises."""
+    found = explanations_on(lesson.page)
+    for name in lesson.files("*.explained"):
+        found[name.replace(".explained", ".pony")] = lesson.source(name).splitlines()
+    return found
+
+
+def by_lines(first, second):
+    """By how many lines two texts differ."""
+    changes = [it for it in difflib.ndiff(first.splitlines(), second.splitlines()) if it[0] in "+-"]
+    return max(sum(it[0] == sign for it in changes) for sign in "+-")
+
+
+def line_is_that_of(lesson, name, explanation):
+    """Whether an explanation shows the line that its first line names, as it is in the program."""
+    place = PLACE.match(explanation[0])
+    if place is None:
+        return explanation[0].startswith(f"{name}: ")
+    window = WINDOW.match(explanation[1])
+    line = lesson.source(name).splitlines()[int(place[2]) - 1]
+    return place[1] == name and window is not None and window[1] == place[2] and window[2] == line
+
+
+def look_at_programs(lesson, results):
+    """Looks at what the page says of each program: that it is accepted, or refused at a place that its explanation names."""
+    checked = {name[1]: said for said in said_on(lesson.page) for name in [CHECKED.search(said.command)] if name}
+    programs = [name for name in lesson.files("*.pony") if not EXERCISE.fullmatch(name)]
+    explained = explanations_on(lesson.page)
+    accepted = [name for name in programs if name in checked and checked[name].status == 0]
+    refused = [name for name in programs if name in checked and checked[name].status != 0]
+    page = lesson.page.name
+    named = [name for name in programs if name in checked or f"`{name}`" in lesson.page.text()]
+    results.check(named == programs, f"{page}: names each program", set(programs) - set(named))
+    results.check(bool(accepted), f"{page}: a program that is accepted", "there is none")
+    results.check(len(refused) in NEIGHBOURS, f"{page}: one to three that are refused", refused)
+    for name in refused:
+        lines = min((by_lines(lesson.source(other), lesson.source(name)) for other in accepted), default=None)
+        results.check(lines == 1, f"{page}: {name} differs by a line", f"it differs by {lines}")
+    results.check(sorted(explained) == sorted(refused), f"{page}: explains each program that is refused", sorted(explained))
+    for name, explanation in explained.items():
+        is_right = name in checked and explanation[0] == checked[name].error
+        results.check(is_right, f"{page}: {name}: the place is that of check", explanation[0])
+
+
+def look_at_exercise(lesson, number, copy, results):
+    """Looks at an exercise: its program is refused, as its explanation says, and its solution is accepted."""
+    name, where = f"mend_{number}.pony", f"{lesson.name}: exercise {number}"
+    explanation = lesson.source(f"mend_{number}.explained").splitlines()
+    status, _, error = lesson.folder.run(f"./rcap check {name}")
+    results.check(status in (1, 4) and error == explanation[0], f"{where}: is refused", f"status {status}: {error}")
+    results.check(line_is_that_of(lesson, name, explanation), f"{where}: the line that is explained", explanation[1])
+    status, _, error = lesson.folder.run(f"./rcap check solved_{number}.pony")
+    results.check(status == 0 and error == "", f"{where}: its solution is accepted", f"status {status}: {error}")
+    command = f"./rcap explain {name}"
+    if copy.is_looked_at(command):
+        _, output, error = lesson.folder.run(command)
+        results.check(output.splitlines() == explanation, f"{where}: its explanation", error or output)
+
+
+def look(lesson, copy, results):
+    """Looks at all of a lesson."""
+    page = lesson.page
+    results.check(len(page.lines) <= LINES, f"{page.name}: at most {LINES} lines", len(page.lines))
+    run_page(lesson, copy, results)
+    look_at_programs(lesson, results)
+    for name, explanation in explanations_on(page).items():
+        results.check(line_is_that_of(lesson, name, explanation), f"{page.name}: {name}: its line", explanation[:2])
+    for number in EXERCISES:
+        look_at_exercise(lesson, number, copy, results)
