@@ -68,10 +68,26 @@ def refusals():
     return {text for row in rows if row.cells["Status"] in ("1", "4") for text in REFUSAL.findall(row.cells["Line on standard error"])}
 
 
+def rules_met(lessons):
+    """The rules by which programs of the course are refused, each with the numbers of the lessons that have one."""
+    found = {}
+    for lesson in lessons:
+        for line in lines_of(lesson):
+            said = RULE_LINE.match(line)
+            for name in said[1].split(", ") if said else []:
+                found.setdefault(name, set()).add(int(lesson.name[:2]))
+    return found
+
+
+def lines_of(lesson):
+    """The lines of all explanations of a lesson."""
+    return [line for explanation in explanations(lesson).values() for line in explanation]
+
+
 def look(lessons, results):
     """Looks for all of these in the explanations of the course."""
-    lines = [line for lesson in lessons for explanation in explanations(lesson).values() for line in explanation]
-    rules = {name for line in lines for said in [RULE_LINE.match(line)] if said for name in said[1].split(", ")}
+    lines = [line for lesson in lessons for line in lines_of(lesson)]
+    rules = rules_met(lessons)
     hints = [line.removeprefix(HINT_LINE) for line in lines if line.startswith(HINT_LINE)]
     wanted = rules_that_refuse()
     results.check(len(wanted) > 20, "rules of docs/rules.md", sorted(wanted))
