@@ -7,6 +7,10 @@ import pages
 from shell import run_said, said_of, session
 
 LINES = 80
+SECTIONS = ["Why it must be so", "What it rules out", "Try", "Exercises"]
+
+# The lesson on the theorem has sections of its own before the last two.
+LAST = "20-what-is-guaranteed"
 NEIGHBOURS = range(1, 4)
 EXERCISES = (1, 2)
 
@@ -124,6 +128,8 @@ def look(lesson, copy, results):
     """Looks at all of a lesson."""
     page = lesson.page
     results.check(len(page.lines) <= LINES, f"{page.name}: at most {LINES} lines", len(page.lines))
+    missing = [title for title in SECTIONS if f"## {title}" not in page.lines]
+    results.check(not missing or lesson.name == LAST and missing == SECTIONS[:2], f"{page.name}: has its sections", missing)
     run_page(lesson, copy, results)
     look_at_programs(lesson, results)
     for name, explanation in explanations_on(page).items():
