@@ -1,3 +1,4 @@
 mod Grouping
 mod Ended
 mod Adding
+mod Finding

@@ -3,7 +3,7 @@
 use pc_caps::List;
 
 /// How a play ended.
-#[derive(Clone, Copy, Debug, PartialEq, Eq)]
+#[derive(Clone, Copy, Debug, PartialEq, Eq, Hash)]
 pub enum Ending {
     /// No actor has anything to do.
     Done,
@@ -19,6 +19,25 @@ pub struct Play {
     /// What was printed, each text with a line end.
     pub text: List<u8>,
     pub ending: Ending,
+    pub steps: u32,
+}
+
+/// What a play printed, and how it ended.
+#[derive(Debug, PartialEq, Eq, Hash, Drop)]
+pub struct Outcome {
+    /// Each text with a line end.
+    pub text: Vec<u8>,
+    pub ending: Ending,
+}
+
+/// The seeds that have an outcome.
+#[derive(Clone, Copy, Debug)]
+pub struct Seeds {
+    /// The first of them.
+    pub first: u32,
+    /// How many there are.
+    pub number: u32,
+    /// How many steps the play of the first has.
     pub steps: u32,
 }
 

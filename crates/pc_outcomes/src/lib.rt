@@ -8,6 +8,7 @@
 //! Not proved: that these are all outcomes that a program has. The seeds are a sample of its schedules.
 #![tactic(auto)]
 
+mod entries;
 mod entry;
 mod fault;
 mod playing;

@@ -17,7 +17,7 @@ use pc_play::play_through;
 use pc_run::Progress;
 use std::alloc::{AllocError, Global};
 
-// Puts a text with its line end behind others.
+// Puts a text with its line end after others.
 fn push_line(all: &mut Vec<u8>, text: &[u8]) -> Result<(), AllocError>
     ensures { OnOk result (all.new.items ≡ all.old.items ++ (text.now ++ line_end)) }
 {

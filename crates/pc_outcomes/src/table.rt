@@ -1,13 +1,15 @@
 //! The table of the outcomes of some seeds.
-ghost use Rattle.std.specs.Prelude.{◌≡◌, ◌+◌, ◌<◌, ◌≤◌, ◌^◌, ℕ, length, position, slice_get, slice_set, IfSome, None};
+ghost use Rattle.std.specs.Prelude.{◌≡◌, ◌+◌, ◌<◌, ◌≤◌, ◌^◌, ℕ, position, slice_get, IfSome, None};
 ghost use Rattle.pc_core.specs.CoreData.{CoreData};
 ghost use Rattle.pc_run.specs.Ends.{NeverLacks};
-ghost use Rattle.pc_outcomes.specs.Plays.{IsPlay, same_ending as is_same_ending};
+ghost use Rattle.pc_outcomes.specs.Plays.{IsPlay};
+ghost use Rattle.pc_outcomes.specs.Shown.{play_with};
 ghost use Rattle.pc_outcomes.specs.Tables as table;
 ghost use Rattle.pc_outcomes.specs.Tables.{Answers};
-ghost use Rattle.pc_outcomes.specs.Under.{Under, AddsTo, one_more};
+ghost use Rattle.pc_outcomes.specs.Under.{Under, AddsTo};
 
-use crate::entry::{Ending, Entry, Play};
+use crate::entries::{Entries, outcome_of};
+use crate::entry::{Entry, Outcome, Play};
 use crate::fault::OutcomesFault;
 use crate::playing::play_of;
 use pc_caps::List;
@@ -29,70 +31,23 @@ pub struct Totals {
     pub texts: u64,
 }
 
-// Whether two plays ended in one way.
-fn same_ending(one: Ending, other: Ending) -> bool
-    ensures { result ≡ is_same_ending one other }
-{
-    match (one, other) {
-        (Ending::Done, Ending::Done) => true,
-        (Ending::Cut, Ending::Cut) => true,
-        (Ending::TooLong, Ending::TooLong) => true,
-        (Ending::Done, Ending::Cut | Ending::TooLong) => false,
-        (Ending::Cut, Ending::Done | Ending::TooLong) => false,
-        (Ending::TooLong, Ending::Done | Ending::Cut) => false,
-    }
-}
-
-// Whether a play has the outcome of an entry.
-fn shows(entry: &Entry, play: &Play) -> bool
-    ensures { result ≡ table.shows entry.now play.now }
-{
-    entry.text.as_slice() == play.text.as_slice() && same_ending(entry.ending, play.ending)
-}
-
-// The place of the entry with the outcome of a play.
-fn place_of(entries: &[Entry], play: &Play) -> Option<usize>
-    ensures { result ≡ position (λ e. table.shows e play.now) entries.now }
-{
-    entries.iter().position(|entry| shows(entry, play))
-}
-
-// One seed more has the outcome of the entry at a place.
-fn count_at(entries: &mut Vec<Entry>, at: usize)
-    requires there { at < length entries.old.items }
-    requires few { IfSome (slice_get entries.old.items at) (λ e. e.number + 1 < 2 ^ 32) }
-    ensures { IfSome (slice_get entries.old.items at) (λ e. entries.new.items ≡ slice_set entries.old.items at (one_more e)) }
-{
-    let entry = &mut entries[at];
-    entry.number += 1;
-}
-
 // A play whose outcome no entry has comes to the entries. The totals have its steps, and not yet its text.
 fn add_new(
-    entries: &mut Vec<Entry>,
+    entries: &mut Entries,
     totals: Totals,
     seed: u32,
-    play: Play,
+    steps: u32,
+    outcome: Outcome,
 ) -> Result<Totals, OutcomesFault>
     requires texts { totals.texts ≤ table.texts_limit }
-    ensures { (core : CoreData) (before : ℕ) → Under core seed entries.old.items (record { steps = before; texts = totals.texts }) → IsPlay core seed play → totals.steps ≡ before + play.steps → totals.steps ≤ table.steps_limit → position (λ e. table.shows e play) entries.old.items ≡ None → AddsTo core seed entries.new.items result }
+    requires new { position (λ e. table.shows e (play_with outcome 0)) entries.old ≡ None }
+    ensures { (core : CoreData) (before : ℕ) → Under core seed entries.old (record { steps = before; texts = totals.texts }) → IsPlay core seed (play_with outcome steps) → totals.steps ≡ before + steps → totals.steps ≤ table.steps_limit → AddsTo core seed entries.new result }
 {
-    let texts = totals.texts + play.text.len() as u64;
+    let texts = totals.texts + outcome.text.len() as u64;
     if texts > TEXTS_LIMIT {
         return Err(OutcomesFault::Texts(seed));
     }
-    let Play {
-        text,
-        ending,
-        steps,
-    } = play;
-    entries.push(Entry {
-        seed,
-        number: 1,
-        steps,
-        text,
-        ending,
-    })?;
+    entries.push(seed, steps, outcome)?;
     Ok(Totals {
         steps: totals.steps,
         texts,
@@ -101,15 +56,15 @@ fn add_new(
 
 // The play of a seed comes to the entries of the seeds below it.
 fn add(
-    entries: &mut Vec<Entry>,
+    entries: &mut Entries,
     totals: Totals,
     seed: u32,
     play: Play,
 ) -> Result<Totals, OutcomesFault>
     requires steps { totals.steps ≤ table.steps_limit }
     requires texts { totals.texts ≤ table.texts_limit }
-    requires few { (at : ℕ) → IfSome (slice_get entries.old.items at) (λ e. e.number + 1 < 2 ^ 32) }
-    ensures { (core : CoreData) → Under core seed entries.old.items totals → IsPlay core seed play → AddsTo core seed entries.new.items result }
+    requires few { (at : ℕ) → IfSome (slice_get entries.old at) (λ e. e.number + 1 < 2 ^ 32) }
+    ensures { (core : CoreData) → Under core seed entries.old totals → IsPlay core seed play → AddsTo core seed entries.new result }
 {
     let steps = totals.steps + u64::from(play.steps);
     if steps > STEPS_LIMIT {
@@ -119,12 +74,18 @@ fn add(
         steps,
         texts: totals.texts,
     };
-    match place_of(entries, &play) {
+    let Play {
+        text,
+        ending,
+        steps,
+    } = play;
+    let outcome = outcome_of(text, ending);
+    match entries.place_of(&outcome) {
         Some(at) => {
-            count_at(entries, at);
+            entries.count_at(at);
             Ok(totals)
         }
-        None => add_new(entries, totals, seed, play),
+        None => add_new(entries, totals, seed, steps, outcome),
     }
 }
 
@@ -140,7 +101,7 @@ pub fn outcomes(alloc: Global, core: &Core, count: u32) -> Result<List<Entry>, O
     requires never_lacks { NeverLacks core.now }
     ensures { Answers core.now count result }
 {
-    let mut entries = Vec::new(alloc);
+    let mut entries = Entries::new(alloc);
     let mut totals = Totals { steps: 0, texts: 0 };
     'seeds: for seed in 0..count {
         let play = play_of(alloc, core, seed)?;
@@ -149,5 +110,5 @@ pub fn outcomes(alloc: Global, core: &Core, count: u32) -> Result<List<Entry>, O
             Err(fault) => return Err(fault),
         }
     }
-    Ok(List::from_vec(entries))
+    Ok(entries.into_list(alloc)?)
 }

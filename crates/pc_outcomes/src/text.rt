@@ -30,7 +30,7 @@ fn head_of(
     format!(in alloc; "seed {seed}: {number} of {count}, {steps} steps")
 }
 
-// Puts a text with two blanks before each of its lines behind others.
+// Puts a text with two blanks before each of its lines after others.
 fn push_indented(all: &mut Vec<u8>, text: &[u8]) -> Result<(), AllocError>
     ensures { OnOk result (all.new.items ≡ all.old.items ++ spec.indented text.now) }
 {
@@ -45,7 +45,7 @@ fn push_indented(all: &mut Vec<u8>, text: &[u8]) -> Result<(), AllocError>
     Ok(())
 }
 
-// Puts the head and the text of an entry behind others.
+// Puts the head and the text of an entry after others.
 fn push_entry(alloc: Global, all: &mut Vec<u8>, count: u32, entry: &Entry) -> Result<(), AllocError>
     ensures { OnOk result (all.new.items ≡ all.old.items ++ spec.entry_text count entry.now) }
 {

@@ -1,25 +1,29 @@
-use Rattle.std.proofs.Common.{◌≤◌, ◌<◌, ◌+◌, ◌∙◌, ℕ, refl, sym, ap, subst, arith}
+use Rattle.std.proofs.Common.{◌≡◌, ◌≤◌, ◌<◌, ◌+◌, ◌∙◌, ℕ, refl, sym, ap, subst, arith}
 use Rattle.std.specs.Prelude.{position}
 use Rattle.pc_outcomes.specs.declared.entry.Entry.{Entry}
+use Rattle.pc_outcomes.specs.declared.entry.Play.{Play}
+use Rattle.pc_outcomes.specs.Plays.{IsPlay}
 use Rattle.pc_outcomes.specs.Tables.{shows, steps_limit}
 use Rattle.pc_outcomes.specs.Under.{Under}
 use Rattle.pc_outcomes.proofs.Adding.{steps_pass, adds_found}
+use Rattle.pc_outcomes.proofs.Finding.{same_play}
 use Rattle.pc_outcomes.proofs.table.add.Goals as goal
 
 pub returns-then-steps-gt-STEPS_LIMIT : goal.returns-then-steps-gt-STEPS_LIMIT
 returns-then-steps-gt-STEPS_LIMIT c core u is =
     let l : steps_limit < c.args.totals.steps + c.args.play.steps = omega (arith, c.if-steps-gt-STEPS_LIMIT.true, c.from.ensures) in
-    (refl, steps_pass core c.args.seed c.args.entries.now.items c.args.totals u c.args.play is l)
+    (refl, steps_pass core c.args.seed c.args.entries.now c.args.totals u c.args.play is l)
 
 pub returns-in-Some : goal.returns-in-Some
 returns-in-Some c core u is =
     let l : c.args.totals.steps + c.args.play.steps ≤ steps_limit = omega (arith, c.if-steps-gt-STEPS_LIMIT.false, c.from.ensures) in
-    let found = sym (c.in-Some.ensures ∙ ap (position (λ (e : Entry). shows e c.args.play)) c.deref.ensures.value) in
-    subst (λ (n : ℕ). Under core (c.args.seed + 1) c.count_at.new.entries.items (record { steps = c.args.totals.steps + n; texts = c.args.totals.texts })) (sym c.from.ensures)
-    (adds_found core c.args.seed c.args.entries.now.items c.args.totals u c.args.play is l c.in-Some.at found c.count_at.new.entries.items c.count_at.ensures)
+    let same = same_play c.outcome_of-outcome.result c.args.play c.outcome_of-outcome.ensures.text c.outcome_of-outcome.ensures.ending in
+    let found = sym (c.in-Some.ensures ∙ ap (λ (p : Play). position (λ (e : Entry). shows e p) c.args.entries.now) same) in
+    subst (λ (n : ℕ). Under core (c.args.seed + 1) c.count_at.new.self (record { steps = c.args.totals.steps + n; texts = c.args.totals.texts })) (sym c.from.ensures)
+    (adds_found core c.args.seed c.args.entries.now c.args.totals u c.args.play is l c.in-Some.at found c.count_at.new.self c.count_at.ensures)
 
 pub returns-in-None : goal.returns-in-None
 returns-in-None c core u is =
     let l : c.args.totals.steps + c.from.result ≤ steps_limit = omega (arith, c.if-steps-gt-STEPS_LIMIT.false) in
-    let none = sym (c.in-None.ensures ∙ ap (position (λ (e : Entry). shows e c.args.play)) c.deref.ensures.value) in
-    c.add_new.ensures core c.args.totals.steps u is (ap (λ (n : ℕ). c.args.totals.steps + n) c.from.ensures) l none
+    let same = same_play c.outcome_of-outcome.result c.args.play c.outcome_of-outcome.ensures.text c.outcome_of-outcome.ensures.ending in
+    c.add_new.ensures core c.args.totals.steps u (subst (IsPlay core c.args.seed) (sym same) is) (ap (λ (n : ℕ). c.args.totals.steps + n) c.from.ensures) l

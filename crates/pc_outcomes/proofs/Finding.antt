@@ -1,0 +1,120 @@
+-- Outcomes with their seeds, found by a test of the outcome.
+use Rattle.std.proofs.Common.{◌≡◌, ℕ, zero, suc, ◌+◌, ◌<◌, ◌^◌, Bool, true, false, cond, not, nat_lt, List, [], ◌∷◌, ◌++◌, length, map, position, Option, Some, None, refl, sym, ap, subst, ◌∙◌}
+use Rattle.std.proofs.lemmas.Bool.{false≢true}
+use Rattle.std.proofs.lemmas.List.{map_push}
+use Rattle.std.proofs.lemmas.Option.{none-some, same_Some}
+use Rattle.std.specs.List.{list_any, position_or_len}
+use Rattle.std.specs.Map.{keys_of, lookup, values_of}
+use Rattle.std.specs.Prelude.{IfSome, slice_get, slice_set, ◌&&◌, ◌||◌}
+use Rattle.std.specs.Str.{bytes_eq}
+use Rattle.std.proofs.lemmas.Slice.Eq.{bytes_eq-Decides}
+use Rattle.indexmap.specs.IndexMap.{IndexMap, insert_entry}
+use Rattle.indexmap.specs.Layout.{set_value_at}
+use Rattle.indexmap.proofs.CallerLemmas.{insert_entry-new}
+use Rattle.pc_outcomes.specs.contracts.entry.EndingPartialEq.TheImpl as ending_eq
+use Rattle.pc_outcomes.specs.contracts.entry.OutcomePartialEq.TheImpl as outcome_eq
+use Rattle.pc_outcomes.specs.declared.entry.Ending.{Ending}
+use Rattle.pc_outcomes.specs.declared.entry.Ending.TheVariants.{Done, Cut, TooLong}
+use Rattle.pc_outcomes.specs.declared.entry.Entry.{Entry}
+use Rattle.pc_outcomes.specs.declared.entry.Outcome.{Outcome}
+use Rattle.pc_outcomes.specs.declared.entry.Play.{Play}
+use Rattle.pc_outcomes.specs.declared.entry.Seeds.{Seeds}
+use Rattle.pc_outcomes.specs.Shown.{play_with, shown}
+use Rattle.pc_outcomes.specs.Plays.{same_ending}
+use Rattle.pc_outcomes.specs.Tables.{shows}
+use Rattle.pc_outcomes.specs.Under.{one_more}
+use Rattle.pc_outcomes.proofs.Adding.{not_found}
+
+-- ---- what it is for two outcomes to be equal
+
+bytes_by : (s t : List ℕ) (a b : Bool) → bytes_eq s t ≡ a → bytes_eq t s ≡ b → a ≡ b
+bytes_by s t true true e f = refl
+bytes_by s t false false e f = refl
+bytes_by s t true false e f = sym (sym f ∙ (bytes_eq-Decides t s).1 (sym ((bytes_eq-Decides s t).0 e)))
+bytes_by s t false true e f = sym e ∙ (bytes_eq-Decides s t).1 (sym ((bytes_eq-Decides t s).0 f))
+
+bytes_sym : (s t : List ℕ) → bytes_eq s t ≡ bytes_eq t s
+bytes_sym s t = bytes_by s t (bytes_eq s t) (bytes_eq t s) refl refl
+
+ending_same : (a b : Ending) → (ending_eq.ghosts).eq a b ≡ same_ending b a
+ending_same Done Done = refl
+ending_same Done Cut = refl
+ending_same Done TooLong = refl
+ending_same Cut Done = refl
+ending_same Cut Cut = refl
+ending_same Cut TooLong = refl
+ending_same TooLong Done = refl
+ending_same TooLong Cut = refl
+ending_same TooLong TooLong = refl
+
+pub outcome_same : (o : Outcome) (e : Outcome × Seeds) → (outcome_eq.ghosts).eq o e.0 ≡ shows (shown e) (play_with o 0)
+outcome_same o e =
+    ap (λ (b : Bool). b && (ending_eq.ghosts).eq o.ending e.0.ending) (bytes_sym o.text.items e.0.text.items)
+    ∙ ap (λ (b : Bool). bytes_eq e.0.text.items o.text.items && b) (ending_same o.ending e.0.ending)
+
+-- The outcome of a play, with its steps, is the play.
+pub same_play : (o : Outcome) (p : Play) → o.text.items ≡ p.text → o.ending ≡ p.ending → play_with o p.steps ≡ p
+same_play o p e f =
+    ap (λ (t : List ℕ). record { text = t; ending = o.ending; steps = p.steps }) e
+    ∙ ap (λ (x : Ending). record { text = p.text; ending = x; steps = p.steps }) f
+
+module _ (p : Entry → Bool) (q : Outcome → Bool) (same : (e : Outcome × Seeds) → q e.0 ≡ p (shown e)) where
+  first_same : (es : List (Outcome × Seeds)) → position_or_len q (keys_of es) ≡ position_or_len p (map shown es)
+  first_same [] = refl
+  first_same (e ∷ es) =
+      ap (λ (b : Bool). cond (not b) (1 + position_or_len q (keys_of es)) 0) (same e)
+      ∙ ap (λ (n : ℕ). cond (not (p (shown e))) (1 + n) 0) (first_same es)
+
+  long : (es : List (Outcome × Seeds)) → length (keys_of es) ≡ length (map shown es)
+  long [] = refl
+  long (e ∷ es) = ap suc (long es)
+
+  -- A test of outcomes finds what the same test of entries finds.
+  pub position_same : (es : List (Outcome × Seeds)) → position q (keys_of es) ≡ position p (map shown es)
+  position_same es =
+      ap (λ (n : ℕ). cond (nat_lt n (length (keys_of es))) (Some n) None) (first_same es)
+      ∙ ap (λ (n : ℕ). cond (nat_lt (position_or_len p (map shown es)) n) (Some (position_or_len p (map shown es))) None) (long es)
+
+-- the seeds with one more
+abbrev pub seeds_more : Seeds → Seeds
+seeds_more s = record { first = s.first; number = s.number + 1; steps = s.steps }
+
+if_map : {X : Type 0} (P Q : X → Type 0) → ((x : X) → P x → Q x) → (o : Option X) → IfSome o P → IfSome o Q
+if_map P Q f None a = tt
+if_map P Q f (Some x) a = f x a
+
+-- ---- seeds at a place
+
+pub few_at : (es : List (Outcome × Seeds)) (i : ℕ) (s : Seeds) → slice_get (values_of es) i ≡ Some s → IfSome (slice_get (map shown es) i) (λ e. e.number + 1 < 2 ^ 32) → s.number + 1 < 2 ^ 32
+few_at [] i s there few = absurd (none-some s there)
+few_at (x ∷ xs) zero s there few = subst (λ (t : Seeds). t.number + 1 < 2 ^ 32) (same_Some x.1 s there) few
+few_at (x ∷ xs) (suc i) s there few = few_at xs i s there few
+
+pub counted_at : (es : List (Outcome × Seeds)) (i : ℕ) (s : Seeds) → slice_get (values_of es) i ≡ Some s
+    → IfSome (slice_get (map shown es) i) (λ e. map shown (set_value_at es i (seeds_more s)) ≡ slice_set (map shown es) i (one_more e))
+counted_at [] i s there = tt
+counted_at (x ∷ xs) zero s there = ap (λ (t : Seeds). shown (x.0, seeds_more t) ∷ map shown xs) (sym (same_Some x.1 s there))
+counted_at (x ∷ xs) (suc i) s there =
+    if_map (λ e. map shown (set_value_at xs i (seeds_more s)) ≡ slice_set (map shown xs) i (one_more e)) (λ e. shown x ∷ map shown (set_value_at xs i (seeds_more s)) ≡ shown x ∷ slice_set (map shown xs) i (one_more e))
+    (λ e r. ap (λ (l : List Entry). shown x ∷ l) r) (slice_get (map shown xs) i) (counted_at xs i s there)
+
+-- ---- what a test finds
+
+pub found_same : (p : Entry → Bool) (q : Outcome → Bool) (es : List (Outcome × Seeds)) (r : Option ℕ) → r ≡ position q (keys_of es) → ((e : Outcome × Seeds) → q e.0 ≡ p (shown e)) → r ≡ position p (map shown es)
+found_same p q es r e same = e ∙ position_same p q same es
+
+module _ (p : Entry → Bool) (q : Outcome → Bool) (same : (e : Outcome × Seeds) → q e.0 ≡ p (shown e)) where
+  absent_here : (e : Outcome × Seeds) (es : List (Outcome × Seeds)) → (list_any p (map shown es) ≡ false → lookup q es ≡ None) → (b : Bool) → p (shown e) ≡ b → (b || list_any p (map shown es)) ≡ false → lookup q (e ∷ es) ≡ None
+  absent_here e es more true h n = absurd (false≢true (sym n))
+  absent_here e es more false h n = ap (λ (b : Bool). cond b (Some e.1) (lookup q es)) (same e ∙ h) ∙ more n
+
+  absent : (es : List (Outcome × Seeds)) → list_any p (map shown es) ≡ false → lookup q es ≡ None
+  absent [] n = refl
+  absent (e ∷ es) n = absent_here e es (absent es) (p (shown e)) refl n
+
+-- A new outcome goes last.
+pub pushed : {S : Type 0} (p : Entry → Bool) (eq : Outcome → Outcome → Bool) (m : IndexMap Outcome Seeds S) (new : List (Outcome × Seeds)) (o : Outcome) (s : Seeds) → new ≡ insert_entry eq m.entries o s
+    → position p (map shown m.entries) ≡ None → ((e : Outcome × Seeds) → eq o e.0 ≡ p (shown e)) → map shown new ≡ map shown m.entries ++ shown (o, s) ∷ []
+pushed p eq m new o s e none same =
+    ap (map shown) (e ∙ insert_entry-new eq m o s (absent p (eq o) same m.entries (not_found p (map shown m.entries) none)))
+    ∙ map_push shown m.entries (o, s)
