@@ -3,7 +3,7 @@ use crate::plays::is_accepted;
 use pc_core::Core;
 use pc_outcomes::{Ending, Entry, outcomes, text_of};
 use pc_test_inputs::core_of;
-use pc_test_inputs::programs::HELLO;
+use pc_test_inputs::programs::{DOUBLES, HELLO};
 use std::alloc::Global;
 
 /// What an entry is to be: the steps of its play if they are known, its text and its ending.
@@ -97,4 +97,12 @@ fn a_program_that_never_ends_is_cut(rt: HostRuntime) {
     let text = b"seed 0: 2 of 2, 1000000 steps (cut)\n";
     let wanted = [(Some(1_000_000), b"".as_slice(), Ending::Cut)];
     assert!(rt; has(rt.alloc(), ENDLESS, 2, &wanted, Some(text)));
+}
+
+// The play of seed 0 has 156 steps of Main, the last of which is too long, and one of the stream.
+#[test]
+fn a_play_that_makes_too_long_a_text_is_reported_so(rt: HostRuntime) {
+    let text = b"seed 0: 1 of 1, 157 steps (too long)\n  go\n";
+    let wanted = [(Some(157), b"go\n".as_slice(), Ending::TooLong)];
+    assert!(rt; has(rt.alloc(), DOUBLES, 1, &wanted, Some(text)));
 }

@@ -8,7 +8,7 @@ use pc_io::MemSink;
 use pc_play::play;
 use pc_run::{Report, RunFault};
 use pc_test_inputs::core_of;
-use pc_test_inputs::programs::HELLO;
+use pc_test_inputs::programs::{DOUBLES, HELLO};
 use pc_types::accepted_never_lacks;
 use std::alloc::Global;
 
@@ -64,4 +64,11 @@ fn a_play_writes_its_texts_and_then_its_numbers(rt: HostRuntime) {
     let text = b"hi\nsteps 11 skipped 0 actors 2 objects 3 waiting 0\n";
     assert!(rt; writes(rt.alloc(), HELLO, 0, Ok(11), text));
     assert!(rt; writes(rt.alloc(), HELLO, 1, Ok(11), text));
+}
+
+// By round robin Main takes 64 steps, of which the 9th sends, and then the stream takes its one. The first join is Main's 24th
+// step, a turn of its loop takes 12 steps, and the 12th join, its 156th step, is too long.
+#[test]
+fn a_play_ends_at_a_text_that_is_too_long(rt: HostRuntime) {
+    assert!(rt; writes(rt.alloc(), DOUBLES, 0, Err(157), b"go\n"));
 }
