@@ -8,7 +8,6 @@
 #![tactic(auto)]
 
 mod laws;
-mod line;
 mod numbers;
 mod words;
 

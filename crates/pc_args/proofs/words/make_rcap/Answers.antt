@@ -3,7 +3,7 @@ use Rattle.std.proofs.lemmas.Result.{IfOk-weaker}
 use Rattle.clap.specs.Simple.{Shape}
 use Rattle.clap.specs.Words.{App, with_subcommand}
 use Rattle.pc_args.specs.Line as line
-use Rattle.pc_args.proofs.line.make_rcap.Goals as goal
+use Rattle.pc_args.proofs.words.make_rcap.Goals as goal
 
 abbrev on : Shape → App → App
 on leaf a = with_subcommand a leaf

@@ -4,7 +4,7 @@ use Rattle.std.proofs.lemmas.Result.{IfErr-weaker, IfOk-weaker}
 use Rattle.clap.specs.Words.{App, FailsBy, fault_of, is_simple, is_simple_and_free, subcommand_of, takes}
 use Rattle.pc_args.specs.Asked.{texts}
 use Rattle.pc_args.proofs.Simple.{simple, simple_and_free}
-use Rattle.pc_args.proofs.line.read_matches.Goals as goal
+use Rattle.pc_args.proofs.words.read_matches.Goals as goal
 
 pub returns-clause-ok : goal.returns-clause-ok
 returns-clause-ok c =

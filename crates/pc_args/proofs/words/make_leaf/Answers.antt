@@ -5,7 +5,7 @@ use Rattle.clap.specs.Simple.{Shape, new_shape}
 use Rattle.clap.specs.Words.{App, Rule, Text, app_of, rule_of, with_rule}
 use Rattle.pc_args.specs.Asked.{texts}
 use Rattle.pc_args.specs.Line.{positional}
-use Rattle.pc_args.proofs.line.make_leaf.Goals as goal
+use Rattle.pc_args.proofs.words.make_leaf.Goals as goal
 
 abbrev leaf : Text → List (Bor Text) → Shape
 leaf name ids = record (new_shape name) { rules = map positional (texts ids) }

@@ -8,7 +8,7 @@ use Rattle.clap.specs.declared.builder.command.Command.{Command}
 use Rattle.clap.specs.declared.builder.command.Command.TheViews.{out-Command as fields_of}
 use Rattle.pc_args.specs.Asked.{texts}
 use Rattle.pc_args.specs.Line.{positional}
-use Rattle.pc_args.proofs.line.with_leaf.Goals as goal
+use Rattle.pc_args.proofs.words.with_leaf.Goals as goal
 
 -- A command with one subcommand more has its shape.
 one_more : (old leaf new : Command) (shape : Shape) → shape_of leaf ≡ shape → (fields_of leaf).has_globals ≡ false → AddsSubcommand old leaf new

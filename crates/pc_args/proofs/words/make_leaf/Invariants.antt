@@ -4,7 +4,7 @@ use Rattle.clap.specs.Simple.{new_shape, shape_of}
 use Rattle.clap.specs.declared.builder.command.Command.TheViews.{out-Command as fields_of}
 use Rattle.pc_args.specs.Asked.{texts}
 use Rattle.pc_args.specs.Line.{positional}
-use Rattle.pc_args.proofs.line.make_leaf.Given as goal
+use Rattle.pc_args.proofs.words.make_leaf.Given as goal
 
 abbrev pub invariant-loop-id : goal.invariant-loop-id
 invariant-loop-id l = record {
