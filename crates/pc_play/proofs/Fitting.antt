@@ -1,10 +1,8 @@
 -- How long the line of a list is that is one of turns: 11 bytes a turn at most.
 use Rattle.std.proofs.Common.{◌≡◌, ℕ, zero, suc, ◌+◌, ◌-◌, ◌*◌, ◌<◌, ◌≤◌, ◌^◌, Bool, true, false, nat_eq, List, [], ◌∷◌, ◌++◌, length, replicate, inl, inr, refl, sym, ap, subst, ◌∙◌, arith, length-append}
-use Rattle.std.proofs.lemmas.Bool.{eqb-true}
 use Rattle.std.proofs.lemmas.Fmt.{length-decimal-le}
 use Rattle.std.specs.Prelude.{decimal, if◌then◌else◌, ◌⊎◌}
 use Rattle.std.specs.List.{AllByRecursion}
-use Rattle.pc_core.specs.CoreData.{CoreData}
 use Rattle.pc_semantics.specs.Text.{steps_of}
 use Rattle.pc_run.specs.Spreading.{spread}
 use Rattle.pc_sched.specs.declared.turns.Turn.{Turn}
@@ -12,9 +10,7 @@ use Rattle.pc_sched.specs.Limits.{schedule_limit, turn_limit}
 use Rattle.pc_sched.specs.Schedules.{total}
 use Rattle.pc_sched_lines.specs.Lines.{IsLine, line_of, word_of, words_behind}
 use Rattle.pc_sched_lines.specs.Rows.{AreRows, Differs}
-use Rattle.pc_choose.specs.Choice.{most_times, most_turns}
 use Rattle.pc_choose.specs.Laws.{InTurns, IsTurn}
-use Rattle.pc_choose.specs.Lists.{most_steps}
 use Rattle.pc_choose.proofs.Cutting.{lists_are_in_turns}
 use Rattle.pc_play.specs.Laws.{LinesFit}
 

@@ -1,6 +1,4 @@
-use Rattle.std.proofs.Common.{arith, ◌<◌, ◌+◌, ◌^◌, subst}
-use Rattle.std.specs.Prelude.{IfSome, List, slice_get}
-use Rattle.pc_outcomes.specs.declared.entry.Entry.{Entry}
+use Rattle.std.proofs.Common.{arith}
 use Rattle.pc_outcomes.proofs.Finding.{counted_at, few_at}
 use Rattle.pc_outcomes.proofs.entries.Entries.count_at.Goals as goal
 
