@@ -6,8 +6,8 @@ use Rattle.clap.specs.Walk.{answers_to, stop_after}
 use Rattle.clap.specs.Words.{Row, fault_of, subcommand_of, takes}
 use Rattle.clap.proofs.OnLiterals.{clap_on_literals}
 use Rattle.pc_lists.specs.Texts.{Text}
-use Rattle.pc_args.specs.Asked.{Asked, check, command_of, has_fault, is_refused, judge, make, named, outcomes, play, run, schedule_of, sends, show, swap, trace, upgrade}
-use Rattle.pc_args.specs.Forms.{AskFor, WrittenFormsAreTaken, check_words, is_plain, judge_words, make_words, outcomes_words, play_words, run_words, schedule_words, sends_words, show_words, swap_words, trace_words, upgrade_words}
+use Rattle.pc_args.specs.Asked.{Asked, check, command_of, events, has_fault, is_refused, judge, make, named, outcomes, places, play, run, schedule_of, sends, show, swap, trace, upgrade}
+use Rattle.pc_args.specs.Forms.{AskFor, WrittenFormsAreTaken, check_words, events_words, is_plain, judge_words, make_words, outcomes_words, places_words, play_words, run_words, schedule_words, sends_words, show_words, swap_words, trace_words, upgrade_words}
 use Rattle.pc_args.specs.Line.{rcap}
 use Rattle.std.proofs.lemmas.Bool.{not-true}
 
@@ -73,6 +73,23 @@ trace_found : (c d : ℕ) (rest more : Text) → nat_eq c 45 ≡ false → nat_e
 unfolding clap_on_literals
 trace_found c d rest more plain also = simp plain (simp also refl)
 
+events_taken : (c d : ℕ) (rest more : Text) → nat_eq c 45 ≡ false → nat_eq d 45 ≡ false → takes rcap (events_words (c ∷ rest) (d ∷ more)) ≡ true
+unfolding clap_on_literals
+events_taken c d rest more plain also = simp plain (simp also refl)
+
+events_found : (c d : ℕ) (rest more : Text) → nat_eq c 45 ≡ false → nat_eq d 45 ≡ false
+    → option_and_then named (subcommand_of rcap (events_words (c ∷ rest) (d ∷ more))) ≡ Some (events (c ∷ rest) (d ∷ more))
+unfolding clap_on_literals
+events_found c d rest more plain also = simp plain (simp also refl)
+
+places_taken : (c : ℕ) (rest : Text) → nat_eq c 45 ≡ false → takes rcap (places_words (c ∷ rest)) ≡ true
+unfolding clap_on_literals
+places_taken c rest plain = simp plain refl
+
+places_found : (c : ℕ) (rest : Text) → nat_eq c 45 ≡ false → option_and_then named (subcommand_of rcap (places_words (c ∷ rest))) ≡ Some (places (c ∷ rest))
+unfolding clap_on_literals
+places_found c rest plain = simp plain refl
+
 sends_taken : (c : ℕ) (rest : Text) → nat_eq c 45 ≡ false → takes rcap (sends_words (c ∷ rest)) ≡ true
 unfolding clap_on_literals
 sends_taken c rest plain = simp plain refl
@@ -136,6 +153,16 @@ trace_asks : (c d : ℕ) (rest more : Text) → nat_eq c 45 ≡ false → nat_eq
 trace_asks c d rest more plain also =
     let t = trace_taken c d rest more plain also in
     (t, read_from (trace_words (c ∷ rest) (d ∷ more)) (trace (c ∷ rest) (d ∷ more)) t (trace_found c d rest more plain also))
+
+events_asks : (c d : ℕ) (rest more : Text) → nat_eq c 45 ≡ false → nat_eq d 45 ≡ false → AskFor (events_words (c ∷ rest) (d ∷ more)) (events (c ∷ rest) (d ∷ more))
+events_asks c d rest more plain also =
+    let t = events_taken c d rest more plain also in
+    (t, read_from (events_words (c ∷ rest) (d ∷ more)) (events (c ∷ rest) (d ∷ more)) t (events_found c d rest more plain also))
+
+places_asks : (c : ℕ) (rest : Text) → nat_eq c 45 ≡ false → AskFor (places_words (c ∷ rest)) (places (c ∷ rest))
+places_asks c rest plain =
+    let t = places_taken c rest plain in
+    (t, read_from (places_words (c ∷ rest)) (places (c ∷ rest)) t (places_found c rest plain))
 
 sends_asks : (c : ℕ) (rest : Text) → nat_eq c 45 ≡ false → AskFor (sends_words (c ∷ rest)) (sends (c ∷ rest))
 sends_asks c rest plain =
@@ -217,6 +244,20 @@ traces (c ∷ rest) (d ∷ more) e f =
     let also : nat_eq d 45 ≡ false = not-true (nat_eq d 45) f in
     trace_asks c d rest more plain also
 
+tellings : (source schedule : Text) → is_plain source ≡ true → is_plain schedule ≡ true → AskFor (events_words source schedule) (events source schedule)
+tellings [] schedule e f = let bad : false ≡ true = e in cc
+tellings (c ∷ rest) [] e f = let bad : false ≡ true = f in cc
+tellings (c ∷ rest) (d ∷ more) e f =
+    let plain : nat_eq c 45 ≡ false = not-true (nat_eq c 45) e in
+    let also : nat_eq d 45 ≡ false = not-true (nat_eq d 45) f in
+    events_asks c d rest more plain also
+
+placings : (source : Text) → is_plain source ≡ true → AskFor (places_words source) (places source)
+placings [] e = let bad : false ≡ true = e in cc
+placings (c ∷ rest) e =
+    let plain : nat_eq c 45 ≡ false = not-true (nat_eq c 45) e in
+    places_asks c rest plain
+
 sendings : (source : Text) → is_plain source ≡ true → AskFor (sends_words source) (sends source)
 sendings [] e = let bad : false ≡ true = e in cc
 sendings (c ∷ rest) e =
@@ -256,7 +297,7 @@ tables (c ∷ rest) (d ∷ more) e f =
     outcomes_asks c d rest more plain also
 
 pub forms_taken : WrittenFormsAreTaken
-forms_taken = record { checks = checks; judges = judges; runs = runs; shows = shows; makes = makes; swaps = swaps; traces = traces; sendings = sendings; upgrades = upgrades; schedules = schedules; plays = plays; tables = tables }
+forms_taken = record { checks = checks; judges = judges; runs = runs; shows = shows; makes = makes; swaps = swaps; traces = traces; sendings = sendings; upgrades = upgrades; schedules = schedules; plays = plays; tables = tables; placings = placings; tellings = tellings }
 
 -- ---- each subcommand asks for something
 
@@ -319,8 +360,14 @@ play_known rows e = cc
 outcomes_known : Asks (codes "outcomes")
 outcomes_known rows e = cc
 
+places_known : Asks (codes "places")
+places_known rows e = cc
+
+events_known : Asks (codes "events")
+events_known rows e = cc
+
 -- Words that ask for nothing have no subcommand.
 pub nothing_asked : (words : List Text) → option_and_then named (subcommand_of rcap words) ≡ None → subcommand_of rcap words ≡ None
 nothing_asked words e =
     let stop = stop_after (built rcap).top.rules (names_of (built rcap)) (argument_words rcap words) in
-    enters (built rcap) stop (check_known, (judge_known, (run_known, (show_known, (make_known, (swap_known, (trace_known, (sends_known, (upgrade_known, (schedule_known, (play_known, (outcomes_known, tt)))))))))))) e
+    enters (built rcap) stop (check_known, (judge_known, (run_known, (show_known, (make_known, (swap_known, (trace_known, (sends_known, (upgrade_known, (schedule_known, (play_known, (outcomes_known, (places_known, (events_known, tt)))))))))))))) e

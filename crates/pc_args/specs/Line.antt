@@ -34,6 +34,14 @@ swap = with_rule (with_rule (with_rule (new_app (codes "swap")) (positional (cod
 abbrev pub trace : App
 trace = with_rule (with_rule (new_app (codes "trace")) (positional (codes "SRC"))) (positional (codes "SCHED"))
 
+-- `events SRC SCHED`
+abbrev pub events : App
+events = with_rule (with_rule (new_app (codes "events")) (positional (codes "SRC"))) (positional (codes "SCHED"))
+
+-- `places SRC`
+abbrev pub places : App
+places = with_rule (new_app (codes "places")) (positional (codes "SRC"))
+
 -- `sends SRC`
 abbrev pub sends : App
 sends = with_rule (new_app (codes "sends")) (positional (codes "SRC"))
@@ -60,7 +68,7 @@ bare = on_top (λ s. record s { no_binary_name = true; disable_help_subcommand =
 
 -- The subcommands, in this order.
 abbrev pub subcommands : List App
-subcommands = check ∷ judge ∷ run ∷ show ∷ make ∷ swap ∷ trace ∷ sends ∷ upgrade ∷ schedule ∷ play ∷ outcomes ∷ []
+subcommands = check ∷ judge ∷ run ∷ show ∷ make ∷ swap ∷ trace ∷ sends ∷ upgrade ∷ schedule ∷ play ∷ outcomes ∷ places ∷ events ∷ []
 
 -- A command line with these subcommands more.
 abbrev pub with_all : App → List App → App

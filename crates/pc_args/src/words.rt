@@ -50,6 +50,15 @@ pub enum Command<'a> {
         source: &'a str,
         schedule: &'a str,
     },
+    /// To write the events of a run of a source by a schedule, with their clocks.
+    Events {
+        source: &'a str,
+        schedule: &'a str,
+    },
+    /// To write the core of a source with its names and places.
+    Places {
+        source: &'a str,
+    },
     /// To tell which entity of a source may send which message.
     Sends {
         source: &'a str,
@@ -149,7 +158,9 @@ fn make_rcap<'a>(alloc: Global) -> Result<clap::Command<'a>, AllocError>
     let upgrade = with_leaf(sends, alloc, "upgrade", &["SRC", "DERIV"])?;
     let schedule = with_leaf(upgrade, alloc, "schedule", &["SRC", "SEED"])?;
     let play = with_leaf(schedule, alloc, "play", &["SRC", "SEED"])?;
-    with_leaf(play, alloc, "outcomes", &["SRC", "COUNT"])
+    let outcomes = with_leaf(play, alloc, "outcomes", &["SRC", "COUNT"])?;
+    let places = with_leaf(outcomes, alloc, "places", &["SRC"])?;
+    with_leaf(places, alloc, "events", &["SRC", "SCHED"])
 }
 
 // The matches of the words, or why clap refuses them.
@@ -208,6 +219,13 @@ fn command_in<'a>(matches: &ArgMatches<'a>) -> Option<Command<'a>>
         "trace" => Some(Command::Trace {
             source: value_of(own, "SRC"),
             schedule: value_of(own, "SCHED"),
+        }),
+        "events" => Some(Command::Events {
+            source: value_of(own, "SRC"),
+            schedule: value_of(own, "SCHED"),
+        }),
+        "places" => Some(Command::Places {
+            source: value_of(own, "SRC"),
         }),
         "sends" => Some(Command::Sends {
             source: value_of(own, "SRC"),

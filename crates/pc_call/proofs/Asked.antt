@@ -2,7 +2,7 @@
 use Rattle.std.proofs.Common.{◌≡◌, ℕ, List, [], Option, Some, None, inl, inr, refl, subst, arith}
 use Rattle.std.specs.Prelude.{◌⊎◌, Result, length}
 use Rattle.std.specs.Io.KnownBytes.{Appends}
-use Rattle.pc_args.specs.Asked.{Asked, check, command_of, judge, make, outcomes, play, run, schedule_of, sends, show, swap, trace, upgrade}
+use Rattle.pc_args.specs.Asked.{Asked, check, command_of, events, judge, make, outcomes, places, play, run, schedule_of, sends, show, swap, trace, upgrade}
 use Rattle.pc_buffers.specs.Laying.{laid}
 use Rattle.pc_buffers.specs.Places.{no_place}
 use Rattle.pc_buffers.specs.declared.place.Place.{Place}
@@ -46,6 +46,8 @@ never_fails entries taken (Some (upgrade source derivation)) name f = never_in_t
 never_fails entries taken (Some (schedule_of source seed)) name (p, f) = never_at entries taken source name f
 never_fails entries taken (Some (play source seed)) name (p, f) = never_at entries taken source name f
 never_fails entries taken (Some (outcomes source count)) name (p, f) = never_at entries taken source name f
+never_fails entries taken (Some (places source)) name f = never_at entries taken source name f
+never_fails entries taken (Some (events source schedule)) name f = never_in_turn entries taken source schedule source_limit (AcceptedStage source) name f
 
 -- a count that stands did not rise
 never_rose : Rose 0 0 → ⊥

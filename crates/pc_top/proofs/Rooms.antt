@@ -1,11 +1,13 @@
 -- The rooms, one for each command.
-use Rattle.pc_args.specs.Asked.{Asked, check, judge, make, outcomes, play, run, schedule_of, sends, show, swap, trace, upgrade}
+use Rattle.pc_args.specs.Asked.{Asked, check, events, judge, make, outcomes, places, play, run, schedule_of, sends, show, swap, trace, upgrade}
 use Rattle.pc_refusals.specs.Named.{Files}
 use Rattle.pc_top.proofs.Room.{Room}
 use Rattle.pc_top.proofs.Rooms.Check.{check_room}
+use Rattle.pc_top.proofs.Rooms.Events.{events_room}
 use Rattle.pc_top.proofs.Rooms.Judge.{judge_room}
 use Rattle.pc_top.proofs.Rooms.Make.{make_room}
 use Rattle.pc_top.proofs.Rooms.Outcomes.{outcomes_room}
+use Rattle.pc_top.proofs.Rooms.Places.{places_room}
 use Rattle.pc_top.proofs.Rooms.Play.{play_room}
 use Rattle.pc_top.proofs.Rooms.Run.{run_room}
 use Rattle.pc_top.proofs.Rooms.Schedule.{schedule_room}
@@ -15,9 +17,11 @@ use Rattle.pc_top.proofs.Rooms.Swap.{swap_room}
 use Rattle.pc_top.proofs.Rooms.Trace.{trace_room}
 use Rattle.pc_top.proofs.Rooms.Upgrade.{upgrade_room}
 pub mod Check
+pub mod Events
 pub mod Judge
 pub mod Make
 pub mod Outcomes
+pub mod Places
 pub mod Play
 pub mod Run
 pub mod Schedule
@@ -35,6 +39,8 @@ room_of files (show source) = show_room files source
 room_of files (make seed size) = make_room files seed size
 room_of files (swap source schedule place) = swap_room files source schedule place
 room_of files (trace source schedule) = trace_room files source schedule
+room_of files (events source schedule) = events_room files source schedule
+room_of files (places source) = places_room files source
 room_of files (sends source) = sends_room files source
 room_of files (upgrade source derivation) = upgrade_room files source derivation
 room_of files (schedule_of source seed) = schedule_room files source seed

@@ -2,16 +2,18 @@
 use Rattle.std.specs.Prelude.{ℕ, ◌≡◌, ◌⊎◌, Bool, true, false, List, [], ◌∷◌, Option, Some, None, IfSome}
 use Rattle.std.specs.Io.KnownBytes.{Appends}
 use Rattle.pc_lists.specs.Texts.{Text}
-use Rattle.pc_args.specs.Asked.{Asked, check, judge, make, outcomes, play, run, schedule_of, sends, show, swap, trace, upgrade}
+use Rattle.pc_args.specs.Asked.{Asked, check, events, judge, make, outcomes, places, play, run, schedule_of, sends, show, swap, trace, upgrade}
 use Rattle.pc_args.specs.Numbers.{IsSeed, IsSize}
 use Rattle.pc_io.specs.Change.{Change}
 use Rattle.pc_refusals.specs.Lines.{usage_line}
 use Rattle.pc_refusals.specs.Named.{FailedAt, Files, named}
 use Rattle.pc_refusals.specs.Verdict.{Verdict, refused}
 use Rattle.pc_top.specs.Commands.Check.{IsCheck, WritesDerivation}
+use Rattle.pc_top.specs.Commands.Events.{IsEvents, WritesEvents}
 use Rattle.pc_top.specs.Commands.Judge.{IsJudge, accepted_text}
 use Rattle.pc_top.specs.Commands.Make.{IsMake, WritesMade}
 use Rattle.pc_top.specs.Commands.Outcomes.{IsCount, IsOutcomes, WritesOutcomes}
+use Rattle.pc_top.specs.Commands.Places.{IsPlaces, WritesPlaces}
 use Rattle.pc_top.specs.Commands.Play.{IsPlay, WritesPlay}
 use Rattle.pc_top.specs.Commands.Run.{IsRun, WritesRun}
 use Rattle.pc_top.specs.Commands.Schedule.{IsSchedule, WritesSchedule}
@@ -22,9 +24,11 @@ use Rattle.pc_top.specs.Commands.Trace.{IsTrace, WritesTrace}
 use Rattle.pc_top.specs.Commands.Upgrade.{IsUpgrade, WritesUpgraded}
 use Rattle.pc_top.specs.Shapes.{UnreadDerivation, UnreadNumbered, UnreadScheduled}
 pub mod Check
+pub mod Events
 pub mod Judge
 pub mod Make
 pub mod Outcomes
+pub mod Places
 pub mod Play
 pub mod Run
 pub mod Schedule
@@ -44,6 +48,8 @@ IsVerdictOf files (Some (show source)) v = IsShow (named files source) v
 IsVerdictOf files (Some (make seed size)) v = IsMake seed size v
 IsVerdictOf files (Some (swap source schedule place)) v = IsSwap (named files source) (named files schedule) place v
 IsVerdictOf files (Some (trace source schedule)) v = IsTrace (named files source) (named files schedule) v
+IsVerdictOf files (Some (events source schedule)) v = IsEvents (named files source) (named files schedule) v
+IsVerdictOf files (Some (places source)) v = IsPlaces (named files source) v
 IsVerdictOf files (Some (sends source)) v = IsSends (named files source) v
 IsVerdictOf files (Some (upgrade source derivation)) v = IsUpgrade (named files source) (named files derivation) v
 IsVerdictOf files (Some (schedule_of source seed)) v = IsSchedule (named files source) seed v
@@ -66,6 +72,8 @@ FailedOf files (Some (upgrade source derivation)) name = UnreadDerivation (named
 FailedOf files (Some (schedule_of source seed)) name = UnreadNumbered (IsSeed seed) (named files source) name
 FailedOf files (Some (play source seed)) name = UnreadNumbered (IsSeed seed) (named files source) name
 FailedOf files (Some (outcomes source count)) name = UnreadNumbered (IsCount count) (named files source) name
+FailedOf files (Some (places source)) name = FailedAt (named files source) name
+FailedOf files (Some (events source schedule)) name = UnreadScheduled (named files source) (named files schedule) name
 
 -- The files that a command reads, in this order.
 abbrev pub files_of : Asked → List Text
@@ -76,6 +84,8 @@ files_of (show source) = source ∷ []
 files_of (make seed size) = []
 files_of (swap source schedule place) = source ∷ schedule ∷ []
 files_of (trace source schedule) = source ∷ schedule ∷ []
+files_of (events source schedule) = source ∷ schedule ∷ []
+files_of (places source) = source ∷ []
 files_of (sends source) = source ∷ []
 files_of (upgrade source derivation) = source ∷ derivation ∷ []
 files_of (schedule_of source seed) = source ∷ []
@@ -91,6 +101,8 @@ source_of (show source) = None
 source_of (make seed size) = None
 source_of (swap source schedule place) = Some source
 source_of (trace source schedule) = Some source
+source_of (events source schedule) = Some source
+source_of (places source) = None
 source_of (sends source) = Some source
 source_of (upgrade source derivation) = Some source
 source_of (schedule_of source seed) = Some source
@@ -106,6 +118,8 @@ infers (show source) = false
 infers (make seed size) = true
 infers (swap source schedule place) = true
 infers (trace source schedule) = true
+infers (events source schedule) = true
+infers (places source) = false
 infers (sends source) = true
 infers (upgrade source derivation) = false
 infers (schedule_of source seed) = true
@@ -140,6 +154,9 @@ OnOutOf told (Some (swap source schedule place)) out =
     IfSome (told source) (λ bytes. IfSome (told schedule) (λ text. (n : ℕ) × IsPlace place n × (WritesSwap out bytes text n ⊎ Appends out.before out.now [])))
 OnOutOf told (Some (trace source schedule)) out =
     IfSome (told source) (λ bytes. IfSome (told schedule) (λ text. WritesTrace out bytes text ⊎ Appends out.before out.now []))
+OnOutOf told (Some (events source schedule)) out =
+    IfSome (told source) (λ bytes. IfSome (told schedule) (λ text. WritesEvents out bytes text ⊎ Appends out.before out.now []))
+OnOutOf told (Some (places source)) out = IfSome (told source) (WritesPlaces out)
 OnOutOf told (Some (sends source)) out = IfSome (told source) (WritesSends out)
 OnOutOf told (Some (upgrade source derivation)) out = IfSome (told source) (λ bytes. IfSome (told derivation) (WritesUpgraded out bytes))
 OnOutOf told (Some (schedule_of source seed)) out = IfSome (told source) (λ bytes. (n : ℕ) × IsSeed seed n × WritesSchedule out n bytes)

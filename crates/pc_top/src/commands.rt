@@ -9,9 +9,11 @@ ghost use Rattle.pc_top.specs.Commands.{FailedOf, IsVerdictOf};
 ghost use Rattle.pc_top.specs.Inner.Asking.{AsksSo};
 
 mod check;
+mod events;
 mod judge;
 mod make;
 mod outcomes;
+mod places;
 mod play;
 mod run;
 mod schedule;
@@ -24,6 +26,7 @@ mod traced_lines;
 mod upgrade;
 
 use check::check_source;
+use events::tell_events;
 use judge::judge_source;
 use make::make_program;
 use outcomes::tell_outcomes;
@@ -31,6 +34,7 @@ use pc_args::Command;
 use pc_io::{Files, Sink};
 use pc_referee::Referee;
 use pc_refusals::{Stop, put_answer};
+use places::tell_places;
 use play::play_source;
 use run::run_source;
 use schedule::choose_schedule;
@@ -74,6 +78,10 @@ pub fn run_command<F: Files, O: Sink, R: Referee>(
         Command::Trace { source, schedule } => {
             put_answer(out, trace_run(alloc, files, source, schedule))
         }
+        Command::Events { source, schedule } => {
+            put_answer(out, tell_events(alloc, files, source, schedule))
+        }
+        Command::Places { source } => put_answer(out, tell_places(alloc, files, source)),
         Command::Sends { source } => put_answer(out, tell_sends(alloc, files, source)),
         Command::Upgrade { source, derivation } => {
             put_answer(out, upgrade_derivation(alloc, files, source, derivation))

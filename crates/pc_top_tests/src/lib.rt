@@ -13,6 +13,8 @@ mod choose_cases;
 #[cfg(test)]
 mod counted_sink;
 #[cfg(test)]
+mod event_cases;
+#[cfg(test)]
 mod failing_cases;
 #[cfg(test)]
 mod field_cases;
@@ -28,6 +30,8 @@ mod limit_cases;
 mod make_cases;
 #[cfg(test)]
 mod name_cases;
+#[cfg(test)]
+mod place_cases;
 #[cfg(test)]
 mod programs;
 #[cfg(test)]

@@ -21,4 +21,6 @@ returns c =
     let upgrade = c.in_ok-upgrade.ensures ∙ ap (on line.upgrade.top) sends in
     let schedule = c.in_ok-schedule.ensures ∙ ap (on line.schedule.top) upgrade in
     let play = c.in_ok-play.ensures ∙ ap (on line.play.top) schedule in
-    IfOk-weaker c.with_leaf-12.result _ _ (λ r added. added ∙ ap (on line.outcomes.top) play) c.with_leaf-12.ensures
+    let outcomes = c.in_ok-outcomes.ensures ∙ ap (on line.outcomes.top) play in
+    let places = c.in_ok-places.ensures ∙ ap (on line.places.top) outcomes in
+    IfOk-weaker c.with_leaf-14.result _ _ (λ r added. added ∙ ap (on line.events.top) places) c.with_leaf-14.ensures

@@ -43,7 +43,7 @@ lists_same (x ∷ xs) (y ∷ ys) e h =
     less_one : (n m : ℕ) → suc n ≡ suc m → n ≡ m
     less_one n m e = omega (arith, e)
 
-one_clock : (core : CoreData) (list : List ℕ) (p : ℕ) (xs ys : List ℕ) → Clocks core list p xs → Clocks core list p ys → xs ≡ ys
+pub one_clock : (core : CoreData) (list : List ℕ) (p : ℕ) (xs ys : List ℕ) → Clocks core list p xs → Clocks core list p ys → xs ≡ ys
 one_clock core list p xs ys a b = lists_same xs ys (a.actors ∙ sym b.actors) (λ i x y e f. one_many _ x y (a.each i x e) (b.each i y f))
 
 -- ---- accesses
@@ -91,10 +91,10 @@ module _ (core : CoreData) (list : List ℕ) where
 
   -- ---- the verdict
 
-  step_same : (n m : ℕ) (end : Option (ℕ × Outcome)) → end ≡ Some (n, outcome.TooLong) → end ≡ Some (m, outcome.TooLong) → n ≡ m
+  pub step_same : (n m : ℕ) (end : Option (ℕ × Outcome)) → end ≡ Some (n, outcome.TooLong) → end ≡ Some (m, outcome.TooLong) → n ≡ m
   step_same n m end p q = ap (λ (x : ℕ × Outcome). x.0) (same_Some (n, outcome.TooLong) (m, outcome.TooLong) (sym p ∙ q))
 
-  crowd_apart : (n : ℕ) → TooManyAt core list n → length (after core list).actors ≤ actor_limit → ⊥
+  pub crowd_apart : (n : ℕ) → TooManyAt core list n → length (after core list).actors ≤ actor_limit → ⊥
   crowd_apart n m few = let many = crowded core list n m in omega (arith, many, few)
 
   pub one_tracing : (name : Text) → IsOne (Tracing name core list)

@@ -1,5 +1,5 @@
 use Rattle.std.proofs.Common.{ap}
-use Rattle.pc_args.specs.Asked.{asked_by, check, judge, make, outcomes, play, run, schedule_of, sends, show, swap, trace, upgrade}
+use Rattle.pc_args.specs.Asked.{asked_by, check, events, judge, make, outcomes, places, play, run, schedule_of, sends, show, swap, trace, upgrade}
 use Rattle.pc_io.specs.Change.{change}
 use Rattle.pc_refusals.specs.Named.{files_change}
 use Rattle.pc_top.proofs.Asking.{asks_judge, asks_other}
@@ -57,6 +57,24 @@ returns-in-Trace-clause-ends g c =
 
 pub returns-in-Trace-clause-asks : goal.returns-in-Trace-clause-asks
 returns-in-Trace-clause-asks g c = asks_other (g.F.Files.bytes c.args.files.now) (asked_by c.args.command) (trace c.in-Trace.source.now c.in-Trace.schedule.now) (g.R.Referee.asked c.args.referee.now) c.put_answer-in-Trace.result (ap asked_by c.in-Trace.is) (λ s d e. cc)
+
+pub returns-in-Events-clause-ends : goal.returns-in-Events-clause-ends
+returns-in-Events-clause-ends g c =
+    let files = files_change (g.F.Files.bytes c.args.files.now) (g.F.Files.faults c.args.files.now) (g.F.Files.faults c.tell_events.new.files) (g.F.Files.taken c.tell_events.new.files) in
+    let out = change (g.O.Sink.written c.args.out.now) (g.O.Sink.written c.put_answer-in-Events.new.out) (g.O.Sink.faults c.args.out.now) (g.O.Sink.faults c.put_answer-in-Events.new.out) in
+    command_puts files out _ (events c.in-Events.source.now c.in-Events.schedule.now) _ _ (ap asked_by c.in-Events.is) c.tell_events.ensures.answers c.put_answer-in-Events.ensures.puts
+
+pub returns-in-Events-clause-asks : goal.returns-in-Events-clause-asks
+returns-in-Events-clause-asks g c = asks_other _ _ (events c.in-Events.source.now c.in-Events.schedule.now) _ _ (ap asked_by c.in-Events.is) (λ s d e. cc)
+
+pub returns-in-Places-clause-ends : goal.returns-in-Places-clause-ends
+returns-in-Places-clause-ends g c =
+    let files = files_change (g.F.Files.bytes c.args.files.now) (g.F.Files.faults c.args.files.now) (g.F.Files.faults c.tell_places.new.files) (g.F.Files.taken c.tell_places.new.files) in
+    let out = change (g.O.Sink.written c.args.out.now) (g.O.Sink.written c.put_answer-in-Places.new.out) (g.O.Sink.faults c.args.out.now) (g.O.Sink.faults c.put_answer-in-Places.new.out) in
+    command_puts files out _ (places c.in-Places.source.now) _ _ (ap asked_by c.in-Places.is) c.tell_places.ensures.answers c.put_answer-in-Places.ensures.puts
+
+pub returns-in-Places-clause-asks : goal.returns-in-Places-clause-asks
+returns-in-Places-clause-asks g c = asks_other _ _ (places c.in-Places.source.now) _ _ (ap asked_by c.in-Places.is) (λ s d e. cc)
 
 pub returns-in-Sends-clause-ends : goal.returns-in-Sends-clause-ends
 returns-in-Sends-clause-ends g c =

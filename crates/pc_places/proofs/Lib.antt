@@ -1,0 +1,4 @@
+pub mod Searching
+pub mod Methods
+pub mod Fields
+pub mod Joining

@@ -1,0 +1,134 @@
+-- The text of the places of a core.
+use Rattle.std.specs.Prelude.{◌≡◌, ℕ, suc, List, [], ◌∷◌, ◌++◌, length, map, Option, Some, None, nat_eq, if◌then◌else◌, codes, decimal, slice_get}
+use Rattle.pc_caps.specs.declared.span.Span.{Span}
+use Rattle.pc_core.specs.CoreData.{CoreData}
+use Rattle.pc_core.specs.declared.declarations.EntityDef.{EntityDef}
+use Rattle.pc_core.specs.declared.declarations.FieldInfo.{FieldInfo}
+use Rattle.pc_core.specs.declared.declarations.Method.{Method}
+use Rattle.pc_core.specs.declared.nodes.Node.{Node}
+use Rattle.pc_core.specs.declared.nodes.Slot.{Slot}
+use Rattle.pc_deriv.specs.Names.{cap_name}
+use Rattle.pc_lex.specs.Answers.{TokenList}
+use Rattle.pc_lists.specs.Texts.{Text, line_end}
+use Rattle.pc_places.specs.Kinds.{kind_text, name_text}
+use Rattle.pc_places.specs.Names.{slot_place, text_at, writer_of}
+use Rattle.pc_places.specs.Words.{entity_word, field_word, method_word, slot_word}
+use Rattle.pc_token.specs.declared.kinds.Token.{Token}
+
+abbrev pub blank : Text
+blank = codes " "
+
+-- A place, with a blank at its end.
+abbrev pub place_text : Span → Text
+place_text place = decimal place.start ++ (blank ++ (decimal place.end ++ blank))
+
+-- ---- the lines
+
+-- `e KIND CAP START END NAME`
+abbrev pub entity_line : EntityDef → Text
+entity_line x = codes "e " ++ (entity_word x.kind ++ (blank ++ (cap_name x.cap ++ (blank ++ (place_text x.span ++ (x.name ++ line_end))))))
+
+-- `f ENTITY WORD E K `
+abbrev pub field_words : ℕ × FieldInfo → Text
+field_words (e, x) = codes "f " ++ (decimal e ++ (blank ++ (field_word x.fixed ++ (blank ++ (decimal x.entity ++ (blank ++ (cap_name x.cap ++ blank)))))))
+
+-- `f ENTITY WORD E K NAME`
+abbrev pub field_line : CoreData → ℕ × FieldInfo → Text
+field_line core x = field_words x ++ (name_text (slice_get core.names x.1.name) ++ line_end)
+
+-- The entity from which a method is taken over, if it is not written in its own.
+abbrev pub taken_text : (writer entity : ℕ) → Text
+taken_text writer entity = if nat_eq writer entity then codes "-" else decimal writer
+
+-- `m ENTITY KIND `
+abbrev pub method_kind : Method → Text
+method_kind x = codes "m " ++ (decimal x.entity ++ (blank ++ (method_word x.kind ++ blank)))
+
+-- `SLOT NODE `
+abbrev pub firsts_text : Method → Text
+firsts_text x = decimal x.first_slot ++ (blank ++ (decimal x.first_node ++ blank))
+
+-- A name that ends its line.
+abbrev pub last_name : CoreData → ℕ → Text
+last_name core name = blank ++ (name_text (slice_get core.names name) ++ line_end)
+
+-- `m ENTITY KIND START END SLOT NODE TAKEN NAME`
+abbrev pub method_line : CoreData → Method → Text
+method_line core x = method_kind x ++ (place_text x.span ++ (firsts_text x ++ (taken_text (writer_of core x) x.entity ++ last_name core x.name)))
+
+-- A place in the source and what stands there, or no place and no name.
+abbrev pub named_place : Text → Option Span → Text
+named_place source None = codes "0 0 -"
+named_place source (Some place) = place_text place ++ text_at source place
+
+-- `s DEPTH KIND START END NAME`
+abbrev pub slot_line : CoreData → List Token → Text → ℕ → Slot → Text
+slot_line core tokens source k y = codes "s " ++ (decimal y.depth ++ (blank ++ (slot_word y.kind ++ (blank ++ (named_place source (slot_place core tokens k y) ++ line_end)))))
+
+-- Numbers, each after a blank.
+abbrev pub numbers_text : List ℕ → Text
+numbers_text [] = []
+numbers_text (n ∷ ns) = blank ++ (decimal n ++ numbers_text ns)
+
+-- ` METHOD DEPTH START END`
+abbrev pub node_words : Node → Text
+node_words x = blank ++ (decimal x.method ++ (blank ++ (decimal x.depth ++ (blank ++ (decimal x.span.start ++ (blank ++ decimal x.span.end))))))
+
+-- `n KIND METHOD DEPTH START END CHILD ..`
+abbrev pub node_line : CoreData → Node → Text
+node_line core x = codes "n " ++ (kind_text core x.kind ++ (node_words x ++ (numbers_text x.children ++ line_end)))
+
+-- ---- all of each sort
+
+abbrev pub entities_text : List EntityDef → Text
+entities_text [] = []
+entities_text (x ∷ xs) = entity_line x ++ entities_text xs
+
+-- The fields of the entities from number e on, each with the number of its entity.
+abbrev pub fields_from : ℕ → List EntityDef → List (ℕ × FieldInfo)
+fields_from e [] = []
+fields_from e (x ∷ xs) = map (λ f. (e, f)) x.fields ++ fields_from (suc e) xs
+
+abbrev pub fields_text : CoreData → List (ℕ × FieldInfo) → Text
+fields_text core [] = []
+fields_text core (x ∷ xs) = field_line core x ++ fields_text core xs
+
+abbrev pub methods_text : CoreData → List Method → Text
+methods_text core [] = []
+methods_text core (x ∷ xs) = method_line core x ++ methods_text core xs
+
+-- The slots from number k on.
+abbrev pub slots_text : CoreData → List Token → Text → ℕ → List Slot → Text
+slots_text core tokens source k [] = []
+slots_text core tokens source k (y ∷ ys) = slot_line core tokens source k y ++ slots_text core tokens source (suc k) ys
+
+abbrev pub nodes_text : CoreData → List Node → Text
+nodes_text core [] = []
+nodes_text core (x ∷ xs) = node_line core x ++ nodes_text core xs
+
+-- ---- the whole
+
+-- `rcap-places 1 E F M S N`
+abbrev pub head_line : (entities fields methods slots nodes : ℕ) → Text
+head_line entities fields methods slots nodes =
+    codes "rcap-places 1 " ++ (decimal entities ++ (blank ++ (decimal fields ++ (blank ++ (decimal methods ++ (blank ++ (decimal slots ++ (blank ++ (decimal nodes ++ line_end)))))))))
+
+-- The same of a core with this many fields.
+abbrev pub head_of : CoreData → ℕ → Text
+head_of core fields = head_line (length core.entities) fields (length core.methods) (length core.slots) (length core.nodes)
+
+-- The counts, and then a line for each entity, field, method, slot and node, in the order of the core. The core stands for the
+-- source of these tokens.
+abbrev pub places_text : Text → List Token → CoreData → Text
+places_text source tokens core =
+    head_of core (length (fields_from 0 core.entities))
+    ++ (entities_text core.entities ++ (fields_text core (fields_from 0 core.entities) ++ (methods_text core core.methods
+    ++ (slots_text core tokens source 0 core.slots ++ nodes_text core core.nodes))))
+
+-- The source has tokens.
+abbrev pub HasTokens : Text → Type 0
+HasTokens source = (tokens : List Token) × TokenList source tokens
+
+-- This is the text of the places of a core that stands for this source.
+abbrev pub IsPlacesText : Text → CoreData → Text → Type 0
+IsPlacesText source core text = (tokens : List Token) × TokenList source tokens × (text ≡ places_text source tokens core)

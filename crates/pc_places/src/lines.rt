@@ -1,0 +1,239 @@
+//! A line of each sort.
+ghost use Rattle.std.specs.Prelude.{◌≡◌, ◌++◌, ◌-◌, OnOk, count_by};
+ghost use Rattle.pc_lists.specs.Places.{Ascends};
+ghost use Rattle.pc_places.specs.Names as names;
+ghost use Rattle.pc_places.specs.Text as spec;
+ghost use Rattle.pc_text_order.specs.Laws.{starts};
+
+use crate::kinds::{push_kind, push_name, push_number};
+use crate::locals::slot_place;
+use crate::words::{cap_word, entity_word, field_word, method_word, slot_word};
+use pc_caps::Span;
+use pc_core::{Core, EntityDef, FieldInfo, Method, Node, Slot};
+use pc_token::Token;
+use std::alloc::{AllocError, Global};
+
+/// Puts the first line at the end.
+pub fn push_head(
+    alloc: Global,
+    text: &mut Vec<u8>,
+    core: &Core,
+    fields: usize,
+) -> Result<(), AllocError>
+    ensures { OnOk result (text.new.items ≡ text.old.items ++ spec.head_of core.now fields) }
+{
+    let entities = core.entities().len();
+    let methods = core.methods().len();
+    let slots = core.slots().len();
+    let nodes = core.nodes().len();
+    let line = format!(in alloc; "rcap-places 1 {entities} {fields} {methods} {slots} {nodes}\n")?;
+    text.extend_from_slice(line.as_bytes())
+}
+
+// Puts a place at the end, with a blank after it.
+fn push_place(alloc: Global, text: &mut Vec<u8>, place: Span) -> Result<(), AllocError>
+    ensures { OnOk result (text.new.items ≡ text.old.items ++ spec.place_text place) }
+{
+    let words = format!(in alloc; "{} {} ", place.start, place.end)?;
+    text.extend_from_slice(words.as_bytes())
+}
+
+/// Puts the line of an entity at the end.
+pub fn push_entity(alloc: Global, text: &mut Vec<u8>, entity: &EntityDef) -> Result<(), AllocError>
+    ensures { OnOk result (text.new.items ≡ text.old.items ++ spec.entity_line entity.now) }
+{
+    let kind = entity_word(entity.kind);
+    let cap = cap_word(entity.cap);
+    let words = format!(in alloc; "e {kind} {cap} ")?;
+    text.extend_from_slice(words.as_bytes())?;
+    push_place(alloc, text, entity.span)?;
+    text.extend_from_slice(entity.name.as_slice())?;
+    text.extend_from_slice(b"\n")
+}
+
+// Puts what stands before the name of a field at the end.
+fn push_field_words(
+    alloc: Global,
+    text: &mut Vec<u8>,
+    field: (u32, FieldInfo),
+) -> Result<(), AllocError>
+    ensures { OnOk result (text.new.items ≡ text.old.items ++ spec.field_words field) }
+{
+    let (owner, field) = field;
+    let word = field_word(field.fixed);
+    let entity = field.entity;
+    let cap = cap_word(field.cap);
+    let words = format!(in alloc; "f {owner} {word} {entity} {cap} ")?;
+    text.extend_from_slice(words.as_bytes())
+}
+
+/// Puts the line of a field at the end. It comes with the number of the entity that it belongs to.
+pub fn push_field(
+    alloc: Global,
+    text: &mut Vec<u8>,
+    core: &Core,
+    field: (u32, FieldInfo),
+) -> Result<(), AllocError>
+    ensures { OnOk result (text.new.items ≡ text.old.items ++ spec.field_line core.now field) }
+{
+    push_field_words(alloc, text, field)?;
+    push_name(text, core, field.1.name)?;
+    text.extend_from_slice(b"\n")
+}
+
+// How many of these entities have a name that does not start after this byte.
+fn count_started(entities: &[EntityDef], place: u32) -> usize
+    ensures { result ≡ count_by (names.starts_by place) entities.now }
+{
+    let mut count: usize = 0;
+    for entity in entities {
+        if entity.span.start <= place {
+            count += 1;
+        }
+    }
+    count
+}
+
+// Puts the number of the entity from which a method is taken over at the end, or `-` if it is its own.
+fn push_taken(text: &mut Vec<u8>, core: &Core, method: &Method) -> Result<(), AllocError>
+    ensures { OnOk result (text.new.items ≡ text.old.items ++ spec.taken_text (names.writer_of core.now method.now) method.now.entity) }
+{
+    core.formed();
+    let writer = count_started(core.entities(), method.span.start).saturating_sub(1) as u32;
+    if writer == method.entity {
+        text.extend_from_slice(b"-")
+    } else {
+        push_number(text, writer)
+    }
+}
+
+// Puts the entity and the kind of a method at the end.
+fn push_method_kind(alloc: Global, text: &mut Vec<u8>, method: &Method) -> Result<(), AllocError>
+    ensures { OnOk result (text.new.items ≡ text.old.items ++ spec.method_kind method.now) }
+{
+    let entity = method.entity;
+    let kind = method_word(method.kind);
+    let words = format!(in alloc; "m {entity} {kind} ")?;
+    text.extend_from_slice(words.as_bytes())
+}
+
+// Puts the first slot and the first node of a method at the end.
+fn push_firsts(alloc: Global, text: &mut Vec<u8>, method: &Method) -> Result<(), AllocError>
+    ensures { OnOk result (text.new.items ≡ text.old.items ++ spec.firsts_text method.now) }
+{
+    let words = format!(in alloc; "{} {} ", method.first_slot, method.first_node)?;
+    text.extend_from_slice(words.as_bytes())
+}
+
+// Puts a name at the end that ends its line.
+fn push_last_name(text: &mut Vec<u8>, core: &Core, name: u32) -> Result<(), AllocError>
+    ensures { OnOk result (text.new.items ≡ text.old.items ++ spec.last_name core.now name) }
+{
+    text.extend_from_slice(b" ")?;
+    push_name(text, core, name)?;
+    text.extend_from_slice(b"\n")
+}
+
+/// Puts the line of a method at the end.
+pub fn push_method(
+    alloc: Global,
+    text: &mut Vec<u8>,
+    core: &Core,
+    method: &Method,
+) -> Result<(), AllocError>
+    ensures { OnOk result (text.new.items ≡ text.old.items ++ spec.method_line core.now method.now) }
+{
+    push_method_kind(alloc, text, method)?;
+    push_place(alloc, text, method.span)?;
+    push_firsts(alloc, text, method)?;
+    push_taken(text, core, method)?;
+    push_last_name(text, core, method.name)
+}
+
+// The bytes of the source at a place.
+fn text_at(source: &[u8], place: Span) -> &[u8]
+    ensures { result.now ≡ names.text_at source.now place }
+{
+    let (start, end) = (place.start as usize, place.end as usize);
+    if start <= end && end <= source.len() {
+        &source[start..end]
+    } else {
+        &[]
+    }
+}
+
+// Puts a place and what the source has there at the end, or that there is none.
+fn push_named_place(
+    alloc: Global,
+    text: &mut Vec<u8>,
+    source: &[u8],
+    place: Option<Span>,
+) -> Result<(), AllocError>
+    ensures { OnOk result (text.new.items ≡ text.old.items ++ spec.named_place source.now place) }
+{
+    match place {
+        None => text.extend_from_slice(b"0 0 -"),
+        Some(place) => {
+            push_place(alloc, text, place)?;
+            text.extend_from_slice(text_at(source, place))
+        }
+    }
+}
+
+/// Puts the line of the slot of this number at the end.
+pub fn push_slot(
+    alloc: Global,
+    text: &mut Vec<u8>,
+    core: &Core,
+    tokens: &[Token],
+    source: &[u8],
+    number: u32,
+    slot: Slot,
+) -> Result<(), AllocError>
+    requires { Ascends (starts tokens.now) }
+    ensures { OnOk result (text.new.items ≡ text.old.items ++ spec.slot_line core.now tokens.now source.now number slot) }
+{
+    let depth = slot.depth;
+    let kind = slot_word(slot.kind);
+    let words = format!(in alloc; "s {depth} {kind} ")?;
+    text.extend_from_slice(words.as_bytes())?;
+    push_named_place(alloc, text, source, slot_place(core, tokens, number, slot))?;
+    text.extend_from_slice(b"\n")
+}
+
+// Puts numbers at the end, each after a blank.
+fn push_numbers(text: &mut Vec<u8>, numbers: &[u32]) -> Result<(), AllocError>
+    ensures { OnOk result (text.new.items ≡ text.old.items ++ spec.numbers_text numbers.now) }
+{
+    for number in numbers {
+        text.push(b' ')?;
+        push_number(text, *number)?;
+    }
+    Ok(())
+}
+
+// Puts the method, the depth and the place of a node at the end.
+fn push_node_words(alloc: Global, text: &mut Vec<u8>, node: &Node) -> Result<(), AllocError>
+    ensures { OnOk result (text.new.items ≡ text.old.items ++ spec.node_words node.now) }
+{
+    let (method, depth) = (node.method, node.depth);
+    let (start, end) = (node.span.start, node.span.end);
+    let words = format!(in alloc; " {method} {depth} {start} {end}")?;
+    text.extend_from_slice(words.as_bytes())
+}
+
+/// Puts the line of a node at the end.
+pub fn push_node(
+    alloc: Global,
+    text: &mut Vec<u8>,
+    core: &Core,
+    node: &Node,
+) -> Result<(), AllocError>
+    ensures { OnOk result (text.new.items ≡ text.old.items ++ spec.node_line core.now node.now) }
+{
+    text.extend_from_slice(b"n ")?;
+    push_kind(text, core, &node.kind)?;
+    push_node_words(alloc, text, node)?;
+    push_numbers(text, node.children.as_slice())?;
+    text.extend_from_slice(b"\n")
+}

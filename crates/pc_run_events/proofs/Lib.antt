@@ -1,0 +1,5 @@
+pub mod Access
+pub mod Posting
+pub mod Recording
+pub mod Turning
+pub mod One

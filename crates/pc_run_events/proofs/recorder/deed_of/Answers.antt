@@ -1,0 +1,12 @@
+use Rattle.std.proofs.Common.{ℕ, Some, ap}
+use Rattle.pc_run_events.specs.declared.events.Deed.TheVariants as deed
+use Rattle.pc_run_events.proofs.Posting.{row_rest, row_taken}
+use Rattle.pc_run_events.proofs.recorder.deed_of.Goals as goal
+
+pub returns-in-Take-clause-deed : goal.returns-in-Take-clause-deed
+returns-in-Take-clause-deed c =
+    let there = rw c.in-Take.is at c.requires in
+    rw c.in-Take.is (ap (λ (n : ℕ). Some (deed.Take n)) (row_taken c.args.posts.now c.take.new.self c.args.actor c.take.result c.take.ensures there))
+
+pub returns-in-Take-clause-posts : goal.returns-in-Take-clause-posts
+returns-in-Take-clause-posts c = rw c.in-Take.is (row_rest c.args.posts.now c.take.new.self c.args.actor c.take.result c.take.ensures)

@@ -1,0 +1,5 @@
+pub mod Posts
+pub mod Events
+pub mod Turns
+pub mod Kept
+pub mod Lines

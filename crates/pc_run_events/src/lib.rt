@@ -1,0 +1,18 @@
+//! The events of a run that are no plain steps, each with its clock: messages that are taken and sent, actors that are made, fields
+//! that are read and written. `specs/Events.antt` says which they are, `docs/events.md` what is written of them.
+//!
+//! Proved: `accepted_events` gives exactly these events of the run of a safe core, in order, each with the clock of `pc_events`. A message
+//! that is taken is the one that the event at its place put into the mailbox. The accesses among them are those of `pc_trace`, and those
+//! that conflict are ordered. `write_events` gives their lines, byte for byte.
+#![tactic(auto)]
+
+mod events;
+mod follow;
+mod lines;
+mod posts;
+mod recorder;
+mod told;
+
+pub use events::{Deed, RunEvent};
+pub use lines::write_events;
+pub use told::accepted_events;

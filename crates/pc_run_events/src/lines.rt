@@ -1,0 +1,159 @@
+//! The events of a run, as lines.
+ghost use Rattle.std.specs.Prelude.{◌≡◌, ◌++◌, IfOk, OnOk, decimal, length};
+ghost use Rattle.pc_run_events.specs.Events.{touches_in};
+ghost use Rattle.pc_run_events.specs.Lines as spec;
+
+use crate::events::{Deed, RunEvent};
+use itoa::Buffer;
+use pc_caps::List;
+use pc_semantics::Access;
+use std::alloc::{AllocError, Global};
+
+// Puts a number at the end.
+fn push_number(text: &mut Vec<u8>, number: u64) -> Result<(), AllocError>
+    ensures { OnOk result (text.new.items ≡ text.old.items ++ decimal number) }
+{
+    let mut buffer = Buffer::new();
+    text.extend_from_slice(buffer.format(number).as_bytes())
+}
+
+// Puts numbers at the end, each after a comma.
+fn push_more(text: &mut Vec<u8>, numbers: &[u64]) -> Result<(), AllocError>
+    ensures { OnOk result (text.new.items ≡ text.old.items ++ spec.more_text numbers.now) }
+{
+    for number in numbers {
+        text.push(b',')?;
+        push_number(text, *number)?;
+    }
+    Ok(())
+}
+
+// Puts the numbers of a clock at the end, with one comma between two.
+fn push_clock(text: &mut Vec<u8>, clock: &[u64]) -> Result<(), AllocError>
+    ensures { OnOk result (text.new.items ≡ text.old.items ++ spec.clock_text clock.now) }
+{
+    match clock {
+        [] => Ok(()),
+        [first, rest @ ..] => {
+            push_number(text, *first)?;
+            push_more(text, rest)
+        }
+    }
+}
+
+// What an access does.
+fn kind_of(write: bool) -> &'static str
+    ensures { result.now ≡ spec.kind_text write }
+{
+    if write { "write" } else { "read" }
+}
+
+// Puts an access at the end.
+fn push_access(alloc: Global, text: &mut Vec<u8>, access: &Access) -> Result<(), AllocError>
+    ensures { OnOk result (text.new.items ≡ text.old.items ++ spec.access_text access.now) }
+{
+    let kind = kind_of(access.write);
+    let words = format!(in alloc;
+        "{} {}.{} {}",
+        kind, access.address.maker, access.address.serial, access.field
+    )?;
+    text.extend_from_slice(words.as_bytes())
+}
+
+// Puts what an event does at the end.
+fn push_deed(alloc: Global, text: &mut Vec<u8>, deed: &Deed) -> Result<(), AllocError>
+    ensures { OnOk result (text.new.items ≡ text.old.items ++ spec.deed_text deed.now) }
+{
+    match deed {
+        Deed::Take(sent) => {
+            text.extend_from_slice(b"take - ")?;
+            push_number(text, *sent)
+        }
+        Deed::Send(receiver) => {
+            text.extend_from_slice(b"send ")?;
+            push_number(text, u64::from(*receiver))?;
+            text.extend_from_slice(b" -")
+        }
+        Deed::Make(actor) => {
+            text.extend_from_slice(b"make ")?;
+            push_number(text, u64::from(*actor))?;
+            text.extend_from_slice(b" -")
+        }
+        Deed::Touch(access) => push_access(alloc, text, access),
+    }
+}
+
+// Puts the place and the actor of an event at the end.
+fn push_words(alloc: Global, text: &mut Vec<u8>, event: &RunEvent) -> Result<(), AllocError>
+    ensures { OnOk result (text.new.items ≡ text.old.items ++ spec.event_words event.now) }
+{
+    let words = format!(in alloc; "{} {} ", event.place, event.actor)?;
+    text.extend_from_slice(words.as_bytes())
+}
+
+// Puts the line of an event at the end.
+fn push_event(alloc: Global, text: &mut Vec<u8>, event: &RunEvent) -> Result<(), AllocError>
+    ensures { OnOk result (text.new.items ≡ text.old.items ++ spec.event_line event.now) }
+{
+    push_words(alloc, text, event)?;
+    push_deed(alloc, text, &event.deed)?;
+    text.extend_from_slice(b" clock ")?;
+    push_clock(text, event.clock.as_slice())?;
+    text.extend_from_slice(b"\n")
+}
+
+// Puts the lines of events at the end.
+fn push_events(alloc: Global, text: &mut Vec<u8>, events: &[RunEvent]) -> Result<(), AllocError>
+    ensures { OnOk result (text.new.items ≡ text.old.items ++ spec.events_text events.now) }
+{
+    for event in events {
+        push_event(alloc, text, event)?;
+    }
+    Ok(())
+}
+
+// Whether an event reads or writes a field.
+fn is_access(deed: &Deed) -> bool
+    ensures { result ≡ spec.is_access deed.now }
+{
+    match deed {
+        Deed::Touch(_) => true,
+        Deed::Take(_) | Deed::Send(_) | Deed::Make(_) => false,
+    }
+}
+
+// How many of these events read or write a field.
+fn count_accesses(events: &[RunEvent]) -> usize
+    ensures { result ≡ length (touches_in events.now) }
+{
+    let mut count: usize = 0;
+    for event in events {
+        if is_access(&event.deed) {
+            count += 1;
+        }
+    }
+    count
+}
+
+// Puts the last line at the end.
+fn push_counts(
+    alloc: Global,
+    text: &mut Vec<u8>,
+    events: usize,
+    accesses: usize,
+) -> Result<(), AllocError>
+    ensures { OnOk result (text.new.items ≡ text.old.items ++ spec.count_line events accesses) }
+{
+    let words = format!(in alloc; "events {events} accesses {accesses} ordered\n")?;
+    text.extend_from_slice(words.as_bytes())
+}
+
+/// The lines of the events of a run, and then `events N accesses M ordered`.
+pub fn write_events(alloc: Global, events: &[RunEvent]) -> Result<List<u8>, AllocError>
+    ensures { IfOk result (λ text. text ≡ spec.run_text events.now) }
+{
+    let mut text: Vec<u8> = Vec::new(alloc);
+    push_events(alloc, &mut text, events)?;
+    push_counts(alloc, &mut text, events.len(), count_accesses(events))?;
+    Ok(List::from_vec(text))
+}

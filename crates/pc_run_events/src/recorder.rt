@@ -1,0 +1,208 @@
+//! The events of a run, with their clocks.
+ghost use Rattle.std.specs.Prelude.{◌≡◌, ◌+◌, ◌<◌, ◌≤◌, [], IfErr, IfOk, MatchResult, OnErr, OnOk, length};
+ghost use Rattle.pc_clocks.specs.Seats.{clock_of};
+ghost use Rattle.pc_machine.specs.Limits.{list_limit};
+ghost use Rattle.pc_run_events.specs.Kept.{Recorded, Under, first_posts as posts_at_start};
+ghost use Rattle.pc_run_events.specs.Events.{touches_in};
+ghost use Rattle.pc_run_events.specs.Turns.{HasRow, Posted, deed_by, noted_with};
+ghost use Rattle.pc_trace.specs.Keeps.{first_seats as seats_at_start};
+ghost use Rattle.pc_trace.specs.Noted.{Noted};
+ghost use Rattle.pc_trace.specs.Traces.{RanOn, TraceStops, actor_limit};
+ghost use Rattle.pc_trace.specs.Turns.{Room, Says};
+
+use crate::events::{Deed, RunEvent};
+use crate::follow::follow;
+use crate::posts::Posts;
+use pc_caps::List;
+use pc_clocks::Seats;
+use pc_core::Core;
+use pc_machine::{Machine, start};
+use pc_semantics::{Access, Ahead, Outcome};
+use pc_trace::TraceFault;
+use std::alloc::{AllocError, Global};
+
+// How many actors a clock may speak of.
+const ACTORS: u32 = 64;
+
+// The clocks at the start of a program: nobody, or the stream and Main, for whom a message waits that no event sent.
+fn first_seats(alloc: Global, actors: u32) -> Result<Seats, AllocError>
+    ensures { IfOk result (λ seats. seats ≡ seats_at_start actors) }
+{
+    let mut seats = Seats::new(alloc);
+    if actors > 0 {
+        seats.add_idle(alloc)?;
+        seats.add_waiting(alloc, List::new(alloc))?;
+    }
+    Ok(seats)
+}
+
+// The same of the places at which messages were sent.
+fn first_posts(alloc: Global, actors: u32) -> Result<Posts, AllocError>
+    ensures { IfOk result (λ posts. posts ≡ posts_at_start actors) }
+{
+    let mut posts = Posts::new(alloc);
+    if actors > 0 {
+        posts.add_idle(alloc)?;
+        posts.add_waiting(alloc, 0)?;
+    }
+    Ok(posts)
+}
+
+// There is room for another actor, if a step makes one.
+fn room(ahead: Ahead, actors: u32, place: u64) -> Result<(), TraceFault>
+    requires { actors ≤ actor_limit }
+    ensures { Room ahead actors place result }
+{
+    match ahead {
+        Ahead::Spawn => {
+            if actors < ACTORS {
+                Ok(())
+            } else {
+                Err(TraceFault::TooMany(place))
+            }
+        }
+        Ahead::Skipped => Ok(()),
+        Ahead::Lacks => Ok(()),
+        Ahead::TooLong => Ok(()),
+        Ahead::Take => Ok(()),
+        Ahead::Send(_) => Ok(()),
+        Ahead::Task => Ok(()),
+    }
+}
+
+// Whether a step moved, if it did not end the run.
+fn moved(outcome: Outcome, place: u64) -> Result<bool, TraceFault>
+    ensures { Says outcome place result }
+{
+    match outcome {
+        Outcome::Moved => Ok(true),
+        Outcome::Skipped => Ok(false),
+        Outcome::Lacks(_) => Err(TraceFault::Lacks(place)),
+        Outcome::TooLong => Err(TraceFault::TooLong(place)),
+    }
+}
+
+// What an event did by what it was, and what becomes of the places at which waiting messages were sent. There were this many actors.
+fn deed_of(
+    alloc: Global,
+    posts: &mut Posts,
+    ahead: Ahead,
+    access: Option<Access>,
+    actor: u32,
+    actors: u32,
+    place: u64,
+) -> Result<Option<Deed>, AllocError>
+    requires { HasRow ahead actor posts.old }
+    ensures deed { IfOk result (λ deed. deed ≡ deed_by ahead access actor actors posts.old) }
+    ensures posts { OnOk result (Posted ahead actor place posts.old posts.new) }
+{
+    match ahead {
+        Ahead::Take => Ok(Some(Deed::Take(posts.take(actor as usize)))),
+        Ahead::Send(receiver) => {
+            posts.put(receiver as usize, place)?;
+            Ok(Some(Deed::Send(receiver)))
+        }
+        Ahead::Spawn => {
+            posts.add_waiting(alloc, place)?;
+            Ok(Some(Deed::Make(actors)))
+        }
+        Ahead::Task => match access {
+            Some(access) => Ok(Some(Deed::Touch(access))),
+            None => Ok(None),
+        },
+        Ahead::Skipped | Ahead::Lacks | Ahead::TooLong => Ok(None),
+    }
+}
+
+// One more event, if a step did something.
+fn note(
+    alloc: Global,
+    seats: &Seats,
+    events: &mut List<RunEvent>,
+    deed: Option<Deed>,
+    actor: u32,
+    place: u64,
+) -> Result<(), AllocError>
+    ensures { OnOk result (events.new ≡ noted_with deed place actor (clock_of seats.now actor) events.old) }
+{
+    match deed {
+        Some(deed) => {
+            let clock = seats.clock(alloc, actor as usize)?;
+            events.push(RunEvent {
+                place,
+                actor,
+                deed,
+                clock,
+            })
+        }
+        None => Ok(()),
+    }
+}
+
+// One turn of a run.
+fn turn(
+    alloc: Global,
+    machine: &mut Machine<'_>,
+    seats: &mut Seats,
+    posts: &mut Posts,
+    events: &mut List<RunEvent>,
+    list: &[u32],
+    at: usize,
+) -> Result<(), TraceFault>
+    requires within { at < length list.now }
+    requires few { length list.now ≤ list_limit }
+    requires under { Under machine.old.core list.now at machine.old.configuration seats.old posts.old events.old }
+    ensures ok { OnOk result (Under machine.old.core list.now (at + 1) machine.new.configuration seats.new posts.new events.new) }
+    ensures err { IfErr result (TraceStops machine.old.core list.now) }
+    ensures core { machine.new.core ≡ machine.old.core }
+{
+    let actor = list[at];
+    let place = at as u64 + 1;
+    let ahead = machine.ahead(actor);
+    let actors = machine.actors();
+    let access = machine.access(actor);
+    match room(ahead, actors, place) {
+        Ok(()) => {}
+        Err(fault) => return Err(fault),
+    }
+    let outcome = machine.step(actor)?;
+    match moved(outcome, place) {
+        Ok(true) => {}
+        Ok(false) => return Ok(()),
+        Err(fault) => return Err(fault),
+    }
+    follow(alloc, seats, ahead, actors as usize, actor as usize)?;
+    let deed = deed_of(alloc, posts, ahead, access, actor, actors, place)?;
+    note(alloc, seats, events, deed, actor, place)?;
+    Ok(())
+}
+
+/// The events of a run of a core that are no plain steps, in order, with their clocks.
+///
+/// # Errors
+/// - `TooLong` and `Lacks` iff a step of the list ends the run so, with its place, counted from 1.
+/// - `TooMany` iff a step would make the 65th actor, with its place; the first of these three.
+/// - `Memory` if memory ran out.
+pub fn recorded(alloc: Global, core: &Core, list: &[u32]) -> Result<List<RunEvent>, TraceFault>
+    requires { length list.now ≤ list_limit }
+    ensures { MatchResult result
+        (λ events. RanOn core.now list.now × Noted core.now list.now (length list.now) (touches_in events) × Recorded core.now list.now (length list.now) events)
+        (TraceStops core.now list.now) }
+{
+    let mut machine = start(alloc, core)?;
+    let mut seats = first_seats(alloc, machine.actors())?;
+    let mut posts = first_posts(alloc, machine.actors())?;
+    let mut events = List::new(alloc);
+    for at in 0..list.len() {
+        turn(
+            alloc,
+            &mut machine,
+            &mut seats,
+            &mut posts,
+            &mut events,
+            list,
+            at,
+        )?;
+    }
+    Ok(events)
+}

@@ -1,0 +1,25 @@
+-- `places SRC`.
+use Rattle.std.specs.Prelude.{◌≡◌}
+use Rattle.std.specs.Io.KnownBytes.{Appends}
+use Rattle.pc_io.specs.Change.{Change}
+use Rattle.pc_lists.specs.Texts.{Text}
+use Rattle.pc_core.specs.CoreData.{CoreData}
+use Rattle.pc_places.specs.Text.{IsPlacesText}
+use Rattle.pc_refusals.specs.FromFile.{FromFile}
+use Rattle.pc_refusals.specs.Named.{Named}
+use Rattle.pc_refusals.specs.Source.{SourceStage, source_limit}
+use Rattle.pc_refusals.specs.Verdict.{Verdict, done}
+use Rattle.pc_refusals.specs.declared.source.Source.{Source}
+use Rattle.pc_top.specs.CoreOf.{CoreOf}
+
+-- Done, with the text of the places of the source's core.
+abbrev pub Placed : Source → Verdict → Type 0
+Placed source v = (text : Text) × IsPlacesText source.bytes source.core text × (v ≡ done text)
+
+-- The verdict of `places` on this source, whose core is not asked for a derivation.
+abbrev pub IsPlaces : Named → Verdict → Type 0
+IsPlaces source = FromFile source source_limit (SourceStage source.name) Placed
+
+-- Out grew by the text of the places of the source's core.
+abbrev pub WritesPlaces : Change → Text → Type 0
+WritesPlaces out bytes = (core : CoreData) × CoreOf bytes core × (text : Text) × IsPlacesText bytes core text × Appends out.before out.now text
