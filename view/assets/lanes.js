@@ -2,7 +2,7 @@
 
 const WHOLE_RUN = 2000, WINDOW = 1000;
 const LEAST_LANE = 54, MOST_LANE = 150, AXIS = 34, STRIP = 46;
-const LEAST_STEP = 6, COMMON_STEP = 12.5, MOST_STEP = 60, MOST_FITTED_STEP = 34;
+const LEAST_STEP = 6, COMMON_STEP = 12.5, MOST_STEP = 60, LEAST_FITTED_STEP = 10, MOST_FITTED_STEP = 34;
 const PRINTED_WIDTH = 560, LEAST_PRINTED_STEP = 3;
 const NAME_ROWS = 4, ROW_HEIGHT = 13, CHARACTER = 6.7;
 
@@ -49,7 +49,7 @@ function fitted() {
   const rows = turns().length;
   const room = picture.clientWidth - labelWidth - 60;
   const fit = room / Math.max(1, after - first + rows * .7);
-  return fit >= 12 ? Math.min(fit, MOST_FITTED_STEP) : COMMON_STEP;
+  return fit >= LEAST_FITTED_STEP ? Math.min(fit, MOST_FITTED_STEP) : COMMON_STEP;
 }
 
 /* Signs. */
@@ -101,8 +101,8 @@ function namesBelow() {
     const rows = ends.get(lane), row = rows.findIndex((it) => it + 6 < left);
     if (row < 0) continue;
     rows[row] = left + length;
-    const made = drawn("text", { x: left, y: y(lane) + 24 + row * ROW_HEIGHT, "font-size": 11 }, name);
-    made.style.fontSize = "11px";
+    const made = drawn("text", { x: left, y: y(lane) + 24 + row * ROW_HEIGHT }, name);
+    made.classList.add("below");
     found.push([i, made]);
   }
   return found;

@@ -10,6 +10,7 @@ import subprocess
 import tempfile
 import unittest
 
+import odd
 import of_examples
 import pages
 
@@ -89,6 +90,18 @@ class Browser(unittest.TestCase):
             result = re.search(r'<html[^>]* data-found="([^"]*)"', opened(file.as_uri(), WIDE, OWN_TIME))
         self.assertIsNotNone(result, "the browser did not end")
         return json.loads(html.unescape(result[1]))
+
+
+class OddWalks(Browser):
+    """Odd pages, which need no program."""
+
+    def test_each_odd_page_walks_itself(self):
+        with tempfile.TemporaryDirectory(prefix="view-odd-") as folder:
+            wanted = [(file, size, theme) for file in odd.made(folder) for size, theme in ((WIDE, "light"), (NARROW, "dark"))]
+            found = self.walked(wanted)
+        bad = [f"{file.name} {size[0]} {theme}: {result}" for (file, size, theme), result in zip(wanted, found) if not result.startswith("ok ")]
+        self.assertEqual(bad, [])
+        self.assertEqual(len(found), 2 * len(odd.ALL))
 
 
 class Walks(Browser):
