@@ -14,12 +14,16 @@ ENDED = (program.LIMIT_PASSED, program.TEXT_TOO_LONG)
 STREAM, MAIN = "OutStream", "Main"
 ENVIRONMENT = ("0.1", "Env")
 OWN_SERIAL = "0"
-PRINT = "OutStream.print"
 WORDS = ("take", "send", "make", "new", "read", "write")
 
 
+# The number of a message whose method is not reported.
+NO_MESSAGE = -1
+
+
 def entity_of(message):
-    return message.split(".", 1)[0]
+    """The entity of a message's method, if that is reported."""
+    return message.split(".", 1)[0] if message else ""
 
 
 class Clocks:
@@ -68,7 +72,7 @@ def columns(events):
         places.append(event.place)
         what = companion = 0
         if event.word in ("take", "send", "make"):
-            what = messages.number(event.message)
+            what = messages.number(event.message) if event.message else NO_MESSAGE
             companion = event.other
         if event.word == "take":
             if event.other and event.other not in numbers:
@@ -112,7 +116,8 @@ def data(name, by, events, accesses, printed, numbers, places):
     reads_and_writes = sum(WORDS[it] in ("read", "write") for it in rows["word"])
     if reads_and_writes != accesses:
         raise program.Failed(f"{name}: events and trace have different numbers of accesses")
-    prints = sum(WORDS[word] == "take" and messages[what] == PRINT for word, what in zip(rows["word"], rows["what"]))
+    # The stream takes a message to print its text, and for nothing else.
+    prints = sum(WORDS[word] == "take" and actor == 0 for word, actor in zip(rows["word"], rows["actor"]))
     return {
         "page": "run",
         "name": name,

@@ -131,7 +131,8 @@ class Event:
     """A step: its place, its actor, what it does, and its clock.
 
     `word` is take, send, make, new, read or write. `other` is the actor that is sent to or made, and of a take the place of
-    the sending. `message` is E.m, `address` an object M.S, `of` the entity of a new object, `field` an index."""
+    the sending. `message` is E.m, or nothing if it is not reported. `address` is an object M.S, `of` the entity of a new
+    object, `field` an index."""
 
     place: int
     actor: int
@@ -148,6 +149,10 @@ def numbers(clock):
     return [int(it) for it in clock.split(",")]
 
 
+def reported(name):
+    return None if name == NONE else name
+
+
 def event(words):
     """The event of a line's words."""
     place, actor, word, *rest, mark, clock = words
@@ -155,11 +160,11 @@ def event(words):
         raise ValueError
     found = Event(int(place), int(actor), word, numbers(clock))
     if word == "take":
-        found.message, sent = rest
-        found.other = int(sent)
+        message, other = rest
+        found.message, found.other = reported(message), int(other)
     elif word in ("send", "make"):
-        other, found.message = rest
-        found.other = int(other)
+        other, message = rest
+        found.message, found.other = reported(message), int(other)
     elif word == "new":
         found.address, found.of = rest
     elif word in ("read", "write"):

@@ -193,6 +193,7 @@ function draw() {
   drawPorts();
   if (scene.left) drawRest();
   emphasise();
+  if (!whole) reveal({ box: centre });
 }
 
 function drawBox(it) {

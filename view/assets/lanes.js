@@ -94,6 +94,7 @@ function namesBelow() {
   for (let i = first; i < after; i++) if (word[i] === TAKE) {
     const printed = printedAt.get(i);
     let name = printed === undefined ? methodOf(i) : `\u201c${visible(printed)}\u201d`;
+    if (!name) continue;
     if (name.length > 24) name = `${name.slice(0, 23)}\u2026`;
     const lane = actorOf[i], length = name.length * CHARACTER;
     const left = Math.max(2, Math.min(x(i) - 4, width - length - 4));
@@ -177,7 +178,7 @@ function drawMessages() {
 function drawLabels() {
   labels.replaceChildren();
   for (let lane = 0; lane < lanes; lane++) {
-    const label = element("div", "lane-label", element("b", "", actorName(lane)), element("small", "", lane === 0 ? "the stream" : `actor ${lane}`));
+    const label = element("div", "lane-label", element("b", "", actorName(lane)), element("small", "", lane === 0 ? "the stream" : isNamed(lane) ? `actor ${lane}` : ""));
     label.title = actorWords(lane);
     label.style.height = `${laneHeight}px`;
     labels.append(label);

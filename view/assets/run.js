@@ -5,8 +5,8 @@ const MOST_OBJECTS = 24, MOST_LINES = 500, MOST_CLOCK = 70;
 /* The panel. */
 function does(i) {
   switch (word[i]) {
-    case TAKE: return `takes ${methodOf(i)}`;
-    case SEND: return `sends ${actorWords(events.with[i])} ${methodOf(i)}`;
+    case TAKE: return `takes ${methodOf(i) || "a message"}`;
+    case SEND: return methodOf(i) ? `sends ${actorWords(events.with[i])} ${methodOf(i)}` : `sends a message to ${actorWords(events.with[i])}`;
     case MAKE: return `makes ${actorWords(events.with[i])}`;
     case NEW: return `makes an object of ${objectOf(i)[1]}`;
     case READ: return `reads ${fieldName(i)}`;
@@ -20,8 +20,7 @@ function dot(kind, colour) {
 }
 
 function objectLine(number, more) {
-  const [address, entity] = data.objects[number];
-  return element("div", "sign-line", dot(WRITE, objectColour(number)), element("span", "code", `${entity} ${address}${more || ""}`));
+  return element("div", "sign-line", dot(WRITE, objectColour(number)), element("span", "code", objectWords(number) + (more || "")));
 }
 
 /** What an event has to do with others: the other end of its message, its object and field, its text. */
@@ -49,7 +48,7 @@ function clock(i) {
     const bar = element("i");
     bar.style.width = `${clockAt(i, a) / most * 100}%`;
     bar.style.background = objectColour(a);
-    const name = element("code", "", a > 0 ? `${actorName(a)} ${a}` : actorName(a));
+    const name = element("code", "", a > 0 && isNamed(a) ? `${actorName(a)} ${a}` : actorName(a));
     name.title = actorWords(a);
     made.append(element("span", "", name), element("span", "grow", bar), element("b", "", String(clockAt(i, a))));
     bar.parentNode.style.alignItems = "center";
@@ -84,16 +83,17 @@ function aboutEvent(i) {
     ...sameField(i)];
 }
 
+const SIGNS = [[WRITE, "writes a field (colour: the object)"], [READ, "reads a field"], [NEW, "makes an object"], [SEND, "sends a message"],
+  [MAKE, "makes an actor"], [TAKE, "takes a message"]];
+
+/** The signs of this run. */
 function legendLines() {
-  const colour = "var(--object-1)";
-  return [[WRITE, "writes a field (colour: the object)"], [READ, "reads a field"], [NEW, "makes an object"], [SEND, "sends a message"],
-    [MAKE, "makes an actor"], [TAKE, "takes a message"]].map(([kind, words]) => element("div", "sign-line", dot(kind, colour), words));
+  return SIGNS.filter(([kind]) => word.includes(kind)).map(([kind, words]) => element("div", "sign-line", dot(kind, "var(--object-1)"), words));
 }
 
 function atRest() {
   if (ended) return [heading("The run"), paragraph("This run ends without a text that could be drawn.")];
-  const found = [heading("Signs"), ...legendLines()];
-  if (!size) found.unshift(paragraph("In this run no message is taken, so nothing is drawn."));
+  const found = size ? [heading("Signs"), ...legendLines()] : [paragraph("In this run no message is taken, so nothing is drawn.")];
   if (data.objects.length) found.push(heading("Objects"), ...data.objects.slice(0, MOST_OBJECTS).map((it, number) => objectLine(number)));
   if (data.objects.length > MOST_OBJECTS) found.push(paragraph(`and ${data.objects.length - MOST_OBJECTS} more`));
   found.push(heading("Printed"));

@@ -198,10 +198,11 @@ def events_of(data):
 def event_of(data, places, number, word, what, companion):
     """The words of an event between its actor and its clock."""
     name = data["words"][word]
+    message = data["messages"][what] if what >= 0 else "-"
     if name == "take":
-        return f"take {data['messages'][what]} {places[number - companion] if companion else 0}"
+        return f"take {message} {places[number - companion] if companion else 0}"
     if name in ("send", "make"):
-        return f"{name} {companion} {data['messages'][what]}"
+        return f"{name} {companion} {message}"
     address, entity = data["objects"][what]
     return f"new {address} {entity}" if name == "new" else f"{name} {address} {companion}"
 
