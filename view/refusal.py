@@ -11,6 +11,10 @@ WORD = re.compile(rb"[0-9A-Za-z_']+|[^\x80-\xbf][\x80-\xbf]*", re.DOTALL)
 CHARACTER = re.compile(rb"[^\x80-\xbf][\x80-\xbf]*|[\x80-\xbf]", re.DOTALL)
 
 
+# Kinds of nodes that meet a rule whatever there is before them, so that none of them is refused (docs/rules.md).
+NEVER_REFUSED = ("number", "truth", "text", "prim", "this", "seq")
+
+
 def explained(path, checked):
     """The text of `explain`, if this program has one for this refusal, and else the line of `check` alone."""
     if checked.status in (program.NO_DERIVATION, program.BAD_NAMES):
@@ -33,18 +37,27 @@ def start_of(path, source, line):
 
 def end_of(source, start, explanation, places):
     """The end of the place, as a byte: that of a node which begins there and ends as `explain` says; or what `explain` says;
-    or the end of the one word."""
+    or the end of the one node that may meet no rule and begins there; or the end of the one word."""
+    if explanation.end is None and explanation.width == 0:
+        return end_without(source, start, explanation.head, places)
+    end = start
     if explanation.end is not None:
         end = source.byte(*explanation.end)
-    elif explanation.width:
-        end = start
+    else:
         for found in itertools.islice(CHARACTER.finditer(source.data, start), explanation.width):
             end = found.end()
-    else:
-        found = WORD.match(source.data, start)
-        return found.end() if found else start
     near = [row[4] for row in places.nodes if row[3] == start and abs(row[4] - end) <= 1]
     return near[0] if near else end
+
+
+def end_without(source, start, line, places):
+    """The end of the place, if nothing says where it is."""
+    if line.endswith(": no rule"):
+        ends = {row[4] for row in places.nodes if row[3] == start and row[0].split(":")[0] not in NEVER_REFUSED}
+        if len(ends) == 1:
+            return ends.pop()
+    found = WORD.match(source.data, start)
+    return found.end() if found else start
 
 
 def data(path, source, checked, places):

@@ -202,7 +202,7 @@ function build() {
 if (ended) picture.append(card(data.line, []));
 else build();
 hold(-1);
-if (wishes().hold !== undefined && Number(wishes().hold) < size) hold(Number(wishes().hold));
+if (place.includes(Number(wishes().step))) hold(place.indexOf(Number(wishes().step)));
 onKeys(key);
 
 /** Walks the page: each event is held, all conflicts are looked through, each key is pressed. */

@@ -157,10 +157,17 @@ class OddPages(unittest.TestCase):
         self.assertEqual((status, err), (0, ""))
         return out
 
-    def test_a_refusal_without_an_explanation_has_its_line_and_its_word(self):
+    def test_a_refusal_without_an_explanation_has_its_line_and_its_one_node(self):
         (self.folder / "alias.explain").unlink()
         found = pages.data_of(self.made("derivation", "alias.pony"))
-        self.assertEqual(found["refusal"], {"head": "alias.pony:4:34: no rule", "place": [77, 80], "lines": []})
+        self.assertEqual(found["refusal"], {"head": "alias.pony:4:34: no rule", "place": [77, 93], "lines": []})
+
+    def test_a_refusal_at_which_two_nodes_begin_has_its_word(self):
+        (self.folder / "alias.explain").unlink()
+        file = self.folder / "alias.places"
+        file.write_text(file.read_text().replace("n local:2 2 0 93 94", "n local:2 2 0 78 79"))
+        found = pages.data_of(self.made("derivation", "alias.pony"))
+        self.assertEqual(found["refusal"]["place"], [77, 80])
 
     def test_a_fault_of_the_tree_has_no_nodes(self):
         (self.folder / "alias.check.refused").write_text("3\nalias.pony:4:11: bad byte\n")

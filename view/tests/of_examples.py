@@ -198,11 +198,10 @@ def events_of(data):
 def event_of(data, places, number, word, what, companion):
     """The words of an event between its actor and its clock."""
     name = data["words"][word]
-    message = data["messages"][what] if what >= 0 else "-"
-    if name == "take":
-        return f"take {message} {places[number - companion] if companion else 0}"
-    if name in ("send", "make"):
-        return f"{name} {companion} {message}"
+    if name in ("take", "send", "make"):
+        message = data["messages"][what] if what >= 0 else "-"
+        sent = places[number - companion] if companion else 0
+        return f"take {message} {sent}" if name == "take" else f"{name} {companion} {message}"
     address, entity = data["objects"][what]
     return f"new {address} {entity}" if name == "new" else f"{name} {address} {companion}"
 
