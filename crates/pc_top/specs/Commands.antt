@@ -140,6 +140,8 @@ HasNumber (upgrade source derivation) = Unit {0}
 HasNumber (schedule_of source seed) = (n : ℕ) × IsSeed seed n
 HasNumber (play source seed) = (n : ℕ) × IsSeed seed n
 HasNumber (outcomes source count) = (n : ℕ) × IsCount count n
+HasNumber (places source) = Unit {0}
+HasNumber (events source schedule) = Unit {0}
 
 -- What stands on out where it went through all its stages, of files that tell their bytes. `swap` and `trace` write nothing where a
 -- text ended the run.
