@@ -196,7 +196,7 @@ def look_at_all(found, results):
     results.check(not phrases, "launcher/help.txt: phrases", "; ".join(phrases))
     crates = next(it for it in found if it.name == "crates/README.md")
     lines = (pages.TOP / "crates.txt").read_text().splitlines()
-    unnamed = [name for name in (line.split(":")[0] for line in lines if line.startswith("pc_")) if f"`{name}`" not in crates.text()]
+    unnamed = [name for name in (line.split(":")[0].split()[0] for line in lines if line.startswith("pc_")) if f"`{name}`" not in crates.text()]
     results.check(not unnamed, "crates/README.md names each crate", ", ".join(unnamed))
     cited = bad_citations(all_files())
     results.check(not cited, "pages that comments cite", "; ".join(cited))
