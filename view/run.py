@@ -46,26 +46,35 @@ class Clocks:
         self.last[actor] = clock
 
 
-class Objects:
-    """Objects by their addresses, in the order of their first events, each with the name of its entity."""
+def only_made(places, kind):
+    """The entity of which alone the nodes of a kind, `new` or `spawn`, make anything; or nothing, if there are several."""
+    made = {int(row[0].removeprefix(f"{kind}:")) for row in places.nodes if row[0].startswith(f"{kind}:")}
+    names = {places.entities[places.methods[it][0]][4] for it in made}
+    return names.pop() if len(names) == 1 else ""
 
-    def __init__(self):
+
+class Objects:
+    """Objects by their addresses, in the order of their first events, each with the name of its entity if that is known:
+    of an actor's own object it is the actor's, and of others that of the line that makes it, or the only one."""
+
+    def __init__(self, only):
         self.table = Table()
+        self.only = only
         self.entities = dict([ENVIRONMENT])
 
     def number(self, address, actors):
         maker, serial = address.split(".")
-        if serial == OWN_SERIAL:
-            self.entities.setdefault(address, actors[int(maker)])
+        self.entities.setdefault(address, actors[int(maker)] if serial == OWN_SERIAL else self.only)
         return self.table.number(address)
 
     def rows(self):
-        return [[address, self.entities.get(address, "")] for address in self.table.values]
+        return [[address, self.entities[address]] for address in self.table.values]
 
 
-def columns(events):
+def columns(events, places_of_core):
     """The columns of the events, with the actors, the messages and the objects that they name."""
-    actors, messages, objects, clocks = [STREAM, MAIN], Table(), Objects(), Clocks()
+    actors, messages, clocks = [STREAM, MAIN], Table(), Clocks()
+    objects, only_actor = Objects(only_made(places_of_core, "new")), only_made(places_of_core, "spawn")
     numbers, places, rows = {}, [], []
     for number, event in enumerate(events):
         numbers[event.place] = number
@@ -79,7 +88,7 @@ def columns(events):
                 raise program.Failed(f"events: nothing was sent at step {event.other}")
             companion = number - numbers[event.other] if event.other else 0
         elif event.word == "make":
-            actors.append(entity_of(event.message))
+            actors.append(entity_of(event.message) or only_actor)
         elif event.word == "new":
             objects.entities[event.address] = event.of
             what = objects.number(event.address, actors)
@@ -112,7 +121,7 @@ def field_names(places, wanted):
 
 def data(name, by, events, accesses, printed, numbers, places):
     """The page's data."""
-    actors, messages, objects, rows = columns(events)
+    actors, messages, objects, rows = columns(events, places)
     reads_and_writes = sum(WORDS[it] in ("read", "write") for it in rows["word"])
     if reads_and_writes != accesses:
         raise program.Failed(f"{name}: events and trace have different numbers of accesses")
