@@ -169,7 +169,8 @@ let scene = null, boxParts = [], rowParts = [], arrowParts = [];
 
 function marker(number) {
   const fill = number === "never" ? "var(--none)" : `var(--object-${number})`;
-  return drawn("marker", { id: `tip-${number}`, viewBox: "0 0 10 10", refX: 8, refY: 5, markerWidth: 11, markerHeight: 11, orient: "auto", markerUnits: "userSpaceOnUse" },
+  const size = { viewBox: "0 0 10 10", refX: 8, refY: 5, markerWidth: 11, markerHeight: 11 };
+  return drawn("marker", { id: `tip-${number}`, orient: "auto", markerUnits: "userSpaceOnUse", ...size },
     drawn("path", { d: "M0 0L10 5L0 10Z", fill }));
 }
 
@@ -249,7 +250,8 @@ function drawPorts() {
 }
 
 function drawRest() {
-  const words = [scene.left[0] ? `and ${scene.left[0]} more send to it` : "", scene.left[2] ? `and it sends to ${scene.left[2]} more` : ""].filter(Boolean).join("; ");
+  const [senders, , receivers] = scene.left;
+  const words = [senders ? `and ${senders} more send to it` : "", receivers ? `and it sends to ${receivers} more` : ""].filter(Boolean).join("; ");
   if (words) board.append(drawn("text", { x: EDGE, y: 24, class: "faint" }, words));
 }
 

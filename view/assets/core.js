@@ -81,7 +81,8 @@ fields.forEach((it, f) => fieldsOf[it[FIELD.entity]].push(f));
 /** The class of the field that a write names: that of the origin's entity. */
 function writtenClass(n) {
   const origin = n - 1;
-  const entity = kindOf(origin) === "this" ? methods[methodOf[n]][METHOD.entity] : known && typeOf(origin) !== NO_TYPE ? Number(typeOf(origin).split(" ")[0]) : -1;
+  const noted = known && typeOf(origin) !== NO_TYPE ? Number(typeOf(origin).split(" ")[0]) : -1;
+  const entity = kindOf(origin) === "this" ? methods[methodOf[n]][METHOD.entity] : noted;
   const field = entity < 0 ? undefined : fieldsOf[entity].find((f) => fields[f][FIELD.name] === named(n));
   return field === undefined ? "" : fields[field][FIELD.capability];
 }

@@ -146,7 +146,8 @@ function tally() {
 function atRest() {
   if (!size) return data.refusal ? refusal() : [heading("Reading it"), paragraph("There is no expression in this source.")];
   const say = known
-    ? "Each name, literal and call has the colour of its capability. Choose an expression: its type, the rule that it meets, its parts and the names that are live there are shown here. Choose it again to go out to the expression around it."
+    ? "Each name, literal and call has the colour of its capability. Choose an expression: its type, the rule that it meets, its parts "
+      + "and the names that are live there are shown here. Choose it again to go out to the expression around it."
     : "Choose an expression to see its parts and what it is inside of.";
   return [...refusal(), heading("Reading it"), paragraph(say), ...(known ? [heading("Capabilities"), tally()] : [])];
 }

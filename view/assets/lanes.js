@@ -59,7 +59,8 @@ function sign(kind, cx, cy, colour) {
     case TAKE: return drawn("path", { d: `M${cx - 5} ${cy - 6.5}L${cx + 7} ${cy}L${cx - 5} ${cy + 6.5}Z`, fill: "var(--ink)" });
     case SEND: return drawn("rect", { x: cx - 4.2, y: cy - 4.2, width: 8.4, height: 8.4, fill: "var(--ink)" });
     case MAKE: return drawn("rect", { x: cx - 4, y: cy - 4, width: 8, height: 8, fill: "var(--card)", stroke: "var(--ink)", "stroke-width": 2 });
-    case NEW: return drawn("path", { d: `M${cx} ${cy - 6}L${cx + 5} ${cy}L${cx} ${cy + 6}L${cx - 5} ${cy}Z`, fill: "var(--card)", stroke: colour, "stroke-width": 2 });
+    case NEW: return drawn("path", { d: `M${cx} ${cy - 6}L${cx + 5} ${cy}L${cx} ${cy + 6}L${cx - 5} ${cy}Z`, fill: "var(--card)",
+      stroke: colour, "stroke-width": 2 });
     case READ: return drawn("circle", { cx, cy, r: r - .8, fill: "var(--card)", stroke: colour, "stroke-width": 2 });
     case WRITE: return drawn("circle", { cx, cy, r: r + .3, fill: colour });
   }
@@ -178,7 +179,8 @@ function drawMessages() {
 function drawLabels() {
   labels.replaceChildren();
   for (let lane = 0; lane < lanes; lane++) {
-    const label = element("div", "lane-label", element("b", "", actorName(lane)), element("small", "", lane === 0 ? "the stream" : isNamed(lane) ? `actor ${lane}` : ""));
+    const more = lane === 0 ? "the stream" : isNamed(lane) ? `actor ${lane}` : "";
+    const label = element("div", "lane-label", element("b", "", actorName(lane)), element("small", "", more));
     label.title = actorWords(lane);
     label.style.height = `${laneHeight}px`;
     labels.append(label);

@@ -79,7 +79,8 @@ function sameField(i) {
 function aboutEvent(i) {
   return [heading(`Step ${place[i]}`), element("p", "big", `${actorWords(actorOf[i])} ${does(i)}`), ...particulars(i),
     heading("Clock: what it knows"), clock(i),
-    paragraph("The number of steps of each actor that are this one or come before it. What stays in the picture comes before; what is faint comes later, or is not ordered with it."),
+    paragraph("The number of steps of each actor that are this one or come before it. What stays in the picture comes before; what is "
+      + "faint comes later, or is not ordered with it."),
     ...sameField(i)];
 }
 
@@ -148,10 +149,12 @@ function key(name) {
 
 /* The page. */
 const tools = element("div", "group", button("tool", "\u2212", () => zoom(.8), "narrower"), button("tool", "+", () => zoom(1.25), "wider"));
-if (windowed) tools.append(button("tool", "\u2190", () => moveWindow(first - WINDOW), "the events before"), button("tool", "\u2192", () => moveWindow(first + WINDOW), "the events after"));
+if (windowed) tools.append(button("tool", "\u2190", () => moveWindow(first - WINDOW), "the events before"),
+  button("tool", "\u2192", () => moveWindow(first + WINDOW), "the events after"));
 const facts = ended
   ? [element("b", "refused", "ended")]
-  : [element("b", "ordered", "ordered"), ` · ${count(lanes, "actor", "actors")} · ${count(size, "event", "events")} · ${count(data.accesses, "access", "accesses")}`];
+  : [element("b", "ordered", "ordered"), ` · ${count(lanes, "actor", "actors")} · ${count(size, "event", "events")}`,
+    ` · ${count(data.accesses, "access", "accesses")}`];
 frame("Run of", facts, ended ? element("div", "group") : tools, [
   ["→ ←", "the next and the last event"], ["↑ ↓", "the nearest in another lane"], ["m", "along the message"],
   ["+ −", "wider and narrower"], ["Page ↑ ↓", "the events before and after, if a run has more than 2,000"], ["Esc", "let go"],

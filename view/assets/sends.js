@@ -54,7 +54,9 @@ function about(it) {
   const own = sentBy.get(box) || [];
   const found = [heading("Entity"), element("p", "big code", boxes[box]), paragraph(kind)];
   found.push(heading("May send"), lines((take) => { for (const m of own) take(() => pairLine(box, m)); }, "It sends nothing."));
-  found.push(heading("May be sent"), lines((take) => { for (const m of messagesOf[box]) for (const from of sendersOf[m]) take(() => pairLine(from, m)); }, "Nothing is sent to it."));
+  found.push(heading("May be sent"), lines((take) => {
+    for (const m of messagesOf[box]) for (const from of sendersOf[m]) take(() => pairLine(from, m));
+  }, "Nothing is sent to it."));
   const dull = messagesOf[box].filter((m) => never.has(m));
   if (dull.length) found.push(heading("Never sent"), lines((take) => dull.forEach((m) => take(() => neverLine(m))), ""));
   return found;
@@ -70,8 +72,10 @@ function aboutMessage(m) {
 let sought = "";
 
 function atRest() {
-  const found = [heading("Reading it"), paragraph("An arrow says that a method of the one entity may send the message of the other: in some run, as far as types tell. A message in grey is sent in no run, whatever the schedule. A dashed entity is never made.")];
-  if (!whole && boxes.length) found.push(paragraph(`There are ${boxes.length} entities, so the picture shows one of them and its neighbours: who sends to it on the left, and what it sends on the right.`));
+  const found = [heading("Reading it"), paragraph("An arrow says that a method of the one entity may send the message of the other: in some "
+    + "run, as far as types show. A message in grey is sent in no run, whatever the schedule. A dashed entity is never made.")];
+  if (!whole && boxes.length) found.push(paragraph(`There are ${boxes.length} entities, so the picture shows one of them and its `
+    + "neighbours: who sends to it on the left, and what it sends on the right."));
   if (!boxes.length) return [...found, paragraph("In this program nothing is sent, and nothing could be.")];
   const field = element("input"), list = element("div");
   field.id = "find";
@@ -94,7 +98,8 @@ function atRest() {
   fill();
   found.push(heading("Find"), field, list);
   const hidden = data.never_made.filter((it) => !boxes.includes(it));
-  if (hidden.length) found.push(heading("Never made, and without an arrow"), lines((take) => hidden.forEach((it) => take(() => element("div", "line code", it))), ""));
+  const hiddenLines = (take) => hidden.forEach((it) => take(() => element("div", "line code", it)));
+  if (hidden.length) found.push(heading("Never made, and without an arrow"), lines(hiddenLines, ""));
   return found;
 }
 
@@ -147,7 +152,9 @@ function key(name) {
 }
 
 /* The page. */
-frame("Who sends what in", [`${count(boxes.length, "entity", "entities")} · ${count(data.pairs, "message that may be sent", "messages that may be sent")} · ${data.never.length} never sent, over every run`],
+const facts = [count(boxes.length, "entity", "entities"), count(data.pairs, "message that may be sent", "messages that may be sent"),
+  `${data.never.length} never sent, over every run`];
+frame("Who sends what in", [facts.join(" · ")],
   element("div", "group", button("tool", "\u2212", () => zoom(.8), "smaller"), button("tool", "+", () => zoom(1.25), "larger")), [
     ["→ ←", "the next and the last entity"], ["↓ ↑", "its messages"], ["+ −", "larger and smaller"], ["/", "find"], ["Esc", "let go"],
     ["click", "hold an entity or a message: its arrows stay"], ["?", "these keys"],

@@ -50,7 +50,10 @@ def ended_run(folder):
 def many_boxes(folder):
     """A ring of actors, each of which may send to the next one and to the one after it."""
     names = [f"A{number}" for number in range(ACTORS)]
-    pairs = [f"{name} sends {names[(number + far) % ACTORS]}.go" for number, name in enumerate(names) for far in sorted((1, 2), key=lambda far: (number + far) % ACTORS)]
+    pairs = []
+    for number, name in enumerate(names):
+        targets = sorted((number + far) % ACTORS for far in (1, 2))
+        pairs += [f"{name} sends {names[target]}.go" for target in targets]
     pairs += [f"Main sends {name}.create" for name in names]
     (folder / "stops.sends").write_text("\n".join(pairs) + "\n")
     entities = BUILT_IN + "".join(f"e actor tag {number} {number + 1} {name}\n" for number, name in enumerate(names)) + "e actor tag 90 94 Main\n"
