@@ -8,7 +8,7 @@ import pages
 from shell import PROMPT, session
 
 README_LINES = 120
-PAGES = 24
+PAGES = 22
 COLUMNS = 120
 
 # What reads as translated, and what to write in its place. A blank in a phrase may be a line's end on the page.

@@ -47,7 +47,7 @@ class Page:
 
 def all_pages():
     """The pages that are read by people, in order."""
-    names = ["README.md", "CONTRIBUTING.md", "crates/README.md"]
+    names = ["README.md", "CONTRIBUTING.md", "crates/README.md", "view/README.md"]
     names += sorted(str(it.relative_to(TOP)) for it in (TOP / "docs").glob("*.md"))
     return [Page(name, (TOP / name).read_text().splitlines()) for name in names if (TOP / name).exists()]
 
