@@ -1,0 +1,112 @@
+-- The line of a source in which a span starts, and under it where the span is.
+use Rattle.std.specs.Prelude.{ℕ, ◌+◌, ◌-◌, Bool, true, false, not, ◌==◌, nat_lt, List, [], ◌∷◌, ◌++◌, length, take, drop, map, flat_map, replicate, Option, Some, None, slice_get, if◌then◌else◌, codes, decimal}
+use Rattle.std.specs.List.{prefix_len}
+use Rattle.pc_caps.specs.declared.span.Span.{Span}
+use Rattle.pc_lists.specs.Texts.{Text, line_end}
+use Rattle.pc_refusals.specs.Place.{is_in_line, line_behind, column_behind}
+use Rattle.pc_window.specs.Places.{place}
+use Rattle.pc_window.specs.Shown.{shown, goes_on}
+
+-- If more than `far` bytes of its line stand before a span, the line is shown from `near` bytes before the span on. At most
+-- `width` bytes of a line are shown.
+abbrev pub far : ℕ
+far = 100
+
+abbrev pub near : ℕ
+near = 60
+
+abbrev pub width : ℕ
+width = 160
+
+-- ---- the line
+
+-- Where the line begins in which these bytes end.
+abbrev pub line_start : Text → ℕ
+line_start front = length front - (column_behind front - 1)
+
+abbrev pub to_line_end : Text → Text
+to_line_end rest = take (prefix_len is_in_line rest) rest
+
+abbrev pub is_cr : Option ℕ → Bool
+is_cr None = false
+is_cr (Some b) = b == 13
+
+abbrev pub without_cr : Text → Text
+without_cr line = if is_cr (slice_get line (length line - 1)) then take (length line - 1) line else line
+
+-- The line that begins at this byte, without its line end and a CR before that.
+abbrev pub line_at : Text → ℕ → Text
+line_at bytes start = without_cr (to_line_end (drop start bytes))
+
+-- ---- what of it is shown
+
+-- From which byte on a line is shown, if this many of its bytes stand before the span.
+abbrev pub shown_from : ℕ → ℕ
+shown_from before = if nat_lt far before then before - near else 0
+
+abbrev pub part_of : Text → ℕ → Text
+part_of line before = take width (drop (shown_from before) line)
+
+-- For what is left out before the part: two points, and two blanks under them.
+abbrev pub dots : Bool → Text
+dots true = codes ".."
+dots false = []
+
+abbrev pub gap : Bool → Text
+gap true = codes "  "
+gap false = []
+
+abbrev pub shown_line : Text → ℕ → Text
+shown_line line before = dots (nat_lt far before) ++ (map shown (part_of line before) ++ dots (nat_lt (shown_from before + width) (length line)))
+
+-- ---- what stands under it
+
+-- Under a byte before the span: a tab under a tab, and a blank under a character.
+abbrev pub under : ℕ → Text
+under b = if b == 9 then 9 ∷ [] else (if goes_on b then [] else 32 ∷ [])
+
+abbrev pub caret : ℕ → Text
+caret b = if goes_on b then [] else 94 ∷ []
+
+abbrev pub one_at_least : Text → Text
+one_at_least [] = 94 ∷ []
+one_at_least (b ∷ bs) = b ∷ bs
+
+-- A caret for each character of the span, and at least one.
+abbrev pub carets : Text → Text
+carets part = one_at_least (flat_map caret part)
+
+-- Of a span of this many bytes.
+abbrev pub marks : Text → (before size : ℕ) → Text
+marks line before size =
+    gap (nat_lt far before)
+    ++ (flat_map under (take (before - shown_from before) (part_of line before)) ++ carets (take size (drop (before - shown_from before) (part_of line before))))
+
+-- Where a span ends that goes on after its first line, which ends at this byte.
+abbrev pub further : Text → (end_of_line end : ℕ) → Text
+further bytes line_ends at = if nat_lt line_ends at then codes " .. " ++ place bytes at else []
+
+-- ---- the two lines
+
+-- As many blanks as the number has digits.
+abbrev pub blanks : ℕ → Text
+blanks number = replicate (length (decimal number)) 32
+
+abbrev pub bar : Text
+bar = codes " | "
+
+abbrev pub source_line : (number : ℕ) → Text → (before : ℕ) → Text
+source_line number line before = decimal number ++ (bar ++ (shown_line line before ++ line_end))
+
+abbrev pub marks_line : (number : ℕ) → (words : Text) → Text
+marks_line number words = blanks number ++ (bar ++ (words ++ line_end))
+
+-- The window of a span whose line begins at this byte; these bytes stand before the span.
+abbrev pub window_in : Text → Span → (front : Text) → Text → Text
+window_in bytes span front line =
+    source_line (line_behind front) line (column_behind front - 1)
+    ++ marks_line (line_behind front)
+    (marks line (column_behind front - 1) (span.end - length front) ++ further bytes (line_start front + length line) span.end)
+
+abbrev pub window : Text → Span → Text
+window bytes span = window_in bytes span (take span.start bytes) (line_at bytes (line_start (take span.start bytes)))

@@ -1,0 +1,197 @@
+//! The line of a source in which a span starts, and under it where the span is.
+ghost use Rattle.std.specs.Prelude.{◌≡◌, ◌++◌, ◌-◌, ◌≤◌, length, map, slice_get, OnOk};
+ghost use Rattle.pc_window.specs.Shown.{shown as shown_is};
+ghost use Rattle.pc_window.specs.Window as spec;
+
+use crate::marks::{push_all_under, push_carets};
+use crate::numbers::push_number;
+use crate::pieces::front_of;
+use crate::places::{place_after, push_place};
+use crate::shown::shown;
+use pc_caps::Span;
+use std::alloc::{AllocError, Global};
+
+// If more bytes than this stand before a span in its line, the line is shown from some before the span on.
+const FAR: usize = 100;
+
+const NEAR: usize = 60;
+
+// How many bytes of a line are shown.
+const WIDTH: usize = 160;
+
+// The bytes before the next line end.
+fn to_line_end(rest: &[u8]) -> &[u8]
+    ensures { result.now ≡ spec.to_line_end rest.now }
+{
+    let mut end = 0;
+    while end < rest.len() && rest[end] != b'\n' {
+        end += 1;
+    }
+    &rest[..end]
+}
+
+fn ends_with_cr(line: &[u8]) -> bool
+    ensures { result ≡ spec.is_cr (slice_get line.now (length line.now - 1)) }
+{
+    match line.get(line.len().saturating_sub(1)) {
+        Some(byte) => *byte == b'\r',
+        None => false,
+    }
+}
+
+// A line without a CR at its end.
+fn without_cr(line: &[u8]) -> &[u8]
+    ensures { result.now ≡ spec.without_cr line.now }
+{
+    if ends_with_cr(line) {
+        &line[..line.len().saturating_sub(1)]
+    } else {
+        line
+    }
+}
+
+// The line that begins at this byte.
+fn line_at(bytes: &[u8], start: usize) -> &[u8]
+    requires { start ≤ length bytes.now }
+    ensures { result.now ≡ spec.line_at bytes.now start }
+{
+    without_cr(to_line_end(&bytes[start..]))
+}
+
+// From which byte on a line is shown, if this many of its bytes stand before the span.
+fn shown_from(before: usize) -> usize
+    ensures value { result ≡ spec.shown_from before }
+    ensures within { result ≤ before }
+{
+    if before > FAR { before - NEAR } else { 0 }
+}
+
+// The part of a line that is shown.
+fn part_of(line: &[u8], before: usize) -> &[u8]
+    ensures { result.now ≡ spec.part_of line.now before }
+{
+    let rest = &line[shown_from(before).min(line.len())..];
+    &rest[..WIDTH.min(rest.len())]
+}
+
+// Appends bytes as they are shown.
+fn push_all_shown(out: &mut Vec<u8>, bytes: &[u8]) -> Result<(), AllocError>
+    ensures { OnOk result (out.new.items ≡ out.old.items ++ map shown_is bytes.now) }
+{
+    'bytes: for byte in bytes {
+        out.push(shown(*byte))?;
+    }
+    Ok(())
+}
+
+// Appends two points if something is left out.
+fn push_dots(out: &mut Vec<u8>, cut: bool) -> Result<(), AllocError>
+    ensures { OnOk result (out.new.items ≡ out.old.items ++ spec.dots cut) }
+{
+    if cut {
+        out.extend_from_slice(b"..")?;
+    }
+    Ok(())
+}
+
+// Appends two blanks under two points.
+fn push_gap(out: &mut Vec<u8>, cut: bool) -> Result<(), AllocError>
+    ensures { OnOk result (out.new.items ≡ out.old.items ++ spec.gap cut) }
+{
+    if cut {
+        out.extend_from_slice(b"  ")?;
+    }
+    Ok(())
+}
+
+// Appends the part of a line that is shown.
+fn push_shown_line(out: &mut Vec<u8>, line: &[u8], before: usize) -> Result<(), AllocError>
+    ensures { OnOk result (out.new.items ≡ out.old.items ++ spec.shown_line line.now before) }
+{
+    push_dots(out, before > FAR)?;
+    push_all_shown(out, part_of(line, before))?;
+    push_dots(out, line.len().saturating_sub(shown_from(before)) > WIDTH)
+}
+
+// Appends what stands under it: the carets of a span of this many bytes.
+fn push_marks(out: &mut Vec<u8>, line: &[u8], before: usize, size: usize) -> Result<(), AllocError>
+    ensures { OnOk result (out.new.items ≡ out.old.items ++ spec.marks line.now before size) }
+{
+    push_gap(out, before > FAR)?;
+    let part = part_of(line, before);
+    let (front, rest) = part.split_at((before - shown_from(before)).min(part.len()));
+    push_all_under(out, front)?;
+    push_carets(out, &rest[..size.min(rest.len())])
+}
+
+// Appends where a span ends that goes on after its first line, which ends at this byte.
+fn push_further(
+    alloc: Global,
+    out: &mut Vec<u8>,
+    bytes: &[u8],
+    line_ends: usize,
+    end: u32,
+) -> Result<(), AllocError>
+    ensures { OnOk result (out.new.items ≡ out.old.items ++ spec.further bytes.now line_ends end) }
+{
+    if (end as usize) > line_ends {
+        out.extend_from_slice(b" .. ")?;
+        push_place(alloc, out, bytes, end)?;
+    }
+    Ok(())
+}
+
+// Appends as many blanks as the number has digits.
+fn push_blanks(alloc: Global, out: &mut Vec<u8>, number: u64) -> Result<(), AllocError>
+    ensures { OnOk result (out.new.items ≡ out.old.items ++ spec.blanks number) }
+{
+    let digits = format!(in alloc; "{number}")?;
+    for _digit in 0..digits.len() {
+        out.push(b' ')?;
+    }
+    Ok(())
+}
+
+// Appends a line of the source with its number.
+fn push_source_line(
+    alloc: Global,
+    out: &mut Vec<u8>,
+    number: usize,
+    line: &[u8],
+    before: usize,
+) -> Result<(), AllocError>
+    ensures { OnOk result (out.new.items ≡ out.old.items ++ spec.source_line number line.now before) }
+{
+    push_number(alloc, out, number as u64)?;
+    out.extend_from_slice(b" | ")?;
+    push_shown_line(out, line, before)?;
+    out.extend_from_slice(b"\n")
+}
+
+/// Appends the line in which a span starts, and carets under the span: a line of the source's and a line of carets, each with a
+/// line end.
+pub fn push_window(
+    alloc: Global,
+    out: &mut Vec<u8>,
+    bytes: &[u8],
+    span: Span,
+) -> Result<(), AllocError>
+    ensures { OnOk result (out.new.items ≡ out.old.items ++ spec.window bytes.now span) }
+{
+    let front = front_of(bytes, span.start);
+    let place = place_after(front);
+    let before = place.column - 1;
+    let line_start = front.len() - before;
+    let line = line_at(bytes, line_start);
+    push_source_line(alloc, out, place.line, line, before)?;
+    push_blanks(alloc, out, place.line as u64)?;
+    out.extend_from_slice(b" | ")?;
+    push_marks(
+        out,
+        line,
+        before,
+        (span.end as usize).saturating_sub(front.len()),
+    )?;
+    push_further(alloc, out, bytes, line_start + line.len(), span.end)?;
+    out.extend_from_slice(b"\n")
+}
