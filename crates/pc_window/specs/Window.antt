@@ -1,5 +1,5 @@
 -- The line of a source in which a span starts, and under it where the span is.
-use Rattle.std.specs.Prelude.{ℕ, ◌+◌, ◌-◌, Bool, true, false, not, ◌==◌, nat_lt, List, [], ◌∷◌, ◌++◌, length, take, drop, map, flat_map, replicate, Option, Some, None, slice_get, if◌then◌else◌, codes, decimal}
+use Rattle.std.specs.Prelude.{ℕ, ◌+◌, ◌-◌, Bool, true, false, not, ◌==◌, nat_lt, List, [], ◌∷◌, ◌++◌, length, take, drop, map, flat_map, Option, Some, None, slice_get, if◌then◌else◌, codes, decimal}
 use Rattle.std.specs.List.{prefix_len}
 use Rattle.pc_caps.specs.declared.span.Span.{Span}
 use Rattle.pc_lists.specs.Texts.{Text, line_end}
@@ -20,9 +20,12 @@ width = 160
 
 -- ---- the line
 
--- Where the line begins in which these bytes end.
+-- How many bytes of their last line these bytes have, and where it begins.
+abbrev pub before_of : Text → ℕ
+before_of front = column_behind front - 1
+
 abbrev pub line_start : Text → ℕ
-line_start front = length front - (column_behind front - 1)
+line_start front = length front - before_of front
 
 abbrev pub to_line_end : Text → Text
 to_line_end rest = take (prefix_len is_in_line rest) rest
@@ -88,9 +91,12 @@ further bytes line_ends at = if nat_lt line_ends at then codes " .. " ++ place b
 
 -- ---- the two lines
 
--- As many blanks as the number has digits.
+-- A blank for each digit of a number.
+abbrev pub blank_for : ℕ → ℕ
+blank_for digit = 32
+
 abbrev pub blanks : ℕ → Text
-blanks number = replicate (length (decimal number)) 32
+blanks number = map blank_for (decimal number)
 
 abbrev pub bar : Text
 bar = codes " | "
@@ -98,15 +104,15 @@ bar = codes " | "
 abbrev pub source_line : (number : ℕ) → Text → (before : ℕ) → Text
 source_line number line before = decimal number ++ (bar ++ (shown_line line before ++ line_end))
 
-abbrev pub marks_line : (number : ℕ) → (words : Text) → Text
-marks_line number words = blanks number ++ (bar ++ (words ++ line_end))
+-- Under the line of a span, which begins after these bytes.
+abbrev pub under_line : Text → Span → (front : Text) → Text → Text
+under_line bytes span front line =
+    blanks (line_behind front)
+    ++ (bar ++ (marks line (before_of front) (span.end - length front) ++ (further bytes (line_start front + length line) span.end ++ line_end)))
 
--- The window of a span whose line begins at this byte; these bytes stand before the span.
 abbrev pub window_in : Text → Span → (front : Text) → Text → Text
-window_in bytes span front line =
-    source_line (line_behind front) line (column_behind front - 1)
-    ++ marks_line (line_behind front)
-    (marks line (column_behind front - 1) (span.end - length front) ++ further bytes (line_start front + length line) span.end)
+window_in bytes span front line = source_line (line_behind front) line (before_of front) ++ under_line bytes span front line
 
+-- The line in which the span starts, and carets under the span.
 abbrev pub window : Text → Span → Text
 window bytes span = window_in bytes span (take span.start bytes) (line_at bytes (line_start (take span.start bytes)))

@@ -6,19 +6,19 @@
 //! and is cut where it is long, and no character is split by that.
 #![tactic(auto)]
 
+mod bytes;
 mod heads;
 mod marks;
 mod numbers;
 mod pieces;
 mod places;
 mod quoting;
-mod shown;
 mod window;
 
+pub use bytes::shown;
 pub use heads::push_head;
 pub use numbers::push_number;
 pub use pieces::piece_of;
 pub use places::push_place;
 pub use quoting::{push_piece, push_quoted};
-pub use shown::shown;
 pub use window::push_window;

@@ -2,7 +2,7 @@
 ghost use Rattle.std.specs.Prelude.{◌≡◌, ◌++◌, flat_map, OnOk};
 ghost use Rattle.pc_window.specs.Window as spec;
 
-use crate::shown::goes_on;
+use crate::bytes::goes_on;
 use std::alloc::AllocError;
 
 // Appends what stands under a byte before the span.

@@ -1,5 +1,5 @@
 //! Pieces of a source.
-ghost use Rattle.std.specs.Prelude.{◌≡◌, take};
+ghost use Rattle.std.specs.Prelude.{◌≡◌, drop, take};
 ghost use Rattle.pc_window.specs.Places as spec;
 
 use pc_caps::Span;
@@ -8,13 +8,26 @@ use pc_caps::Span;
 pub(crate) fn front_of(bytes: &[u8], offset: u32) -> &[u8]
     ensures { result.now ≡ take offset bytes.now }
 {
-    &bytes[..(offset as usize).min(bytes.len())]
+    first_of(bytes, offset as usize)
+}
+
+/// The first bytes, as many as this.
+pub(crate) fn first_of(bytes: &[u8], count: usize) -> &[u8]
+    ensures { result.now ≡ take count bytes.now }
+{
+    &bytes[..count.min(bytes.len())]
+}
+
+/// The bytes after these first ones.
+pub(crate) fn after(bytes: &[u8], count: usize) -> &[u8]
+    ensures { result.now ≡ drop count bytes.now }
+{
+    &bytes[count.min(bytes.len())..]
 }
 
 /// The bytes of a span.
 pub fn piece_of(bytes: &[u8], span: Span) -> &[u8]
     ensures { result.now ≡ spec.piece_of bytes.now span }
 {
-    let front = front_of(bytes, span.end);
-    &front[(span.start as usize).min(front.len())..]
+    after(front_of(bytes, span.end), span.start as usize)
 }

@@ -2,7 +2,7 @@
 ghost use Rattle.std.specs.Prelude.{◌≡◌, ◌++◌, ◌≤◌, IfOk, OnOk};
 ghost use Rattle.pc_window.specs.Quoting as spec;
 
-use crate::shown::{goes_on, shown};
+use crate::bytes::{goes_on, shown};
 use std::alloc::{AllocError, Global};
 
 // How many bytes of a piece are written whole, and how many of a longer one are kept at most.

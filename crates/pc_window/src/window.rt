@@ -3,11 +3,11 @@ ghost use Rattle.std.specs.Prelude.{◌≡◌, ◌++◌, ◌-◌, ◌≤◌, len
 ghost use Rattle.pc_window.specs.Shown.{shown as shown_is};
 ghost use Rattle.pc_window.specs.Window as spec;
 
+use crate::bytes::shown;
 use crate::marks::{push_all_under, push_carets};
 use crate::numbers::push_number;
-use crate::pieces::front_of;
+use crate::pieces::{after, first_of, front_of};
 use crate::places::{place_after, push_place};
-use crate::shown::shown;
 use pc_caps::Span;
 use std::alloc::{AllocError, Global};
 
@@ -70,8 +70,7 @@ fn shown_from(before: usize) -> usize
 fn part_of(line: &[u8], before: usize) -> &[u8]
     ensures { result.now ≡ spec.part_of line.now before }
 {
-    let rest = &line[shown_from(before).min(line.len())..];
-    &rest[..WIDTH.min(rest.len())]
+    first_of(after(line, shown_from(before)), WIDTH)
 }
 
 // Appends bytes as they are shown.
@@ -119,9 +118,9 @@ fn push_marks(out: &mut Vec<u8>, line: &[u8], before: usize, size: usize) -> Res
 {
     push_gap(out, before > FAR)?;
     let part = part_of(line, before);
-    let (front, rest) = part.split_at((before - shown_from(before)).min(part.len()));
-    push_all_under(out, front)?;
-    push_carets(out, &rest[..size.min(rest.len())])
+    let first = before - shown_from(before);
+    push_all_under(out, first_of(part, first))?;
+    push_carets(out, first_of(after(part, first), size))
 }
 
 // Appends where a span ends that goes on after its first line, which ends at this byte.
@@ -141,15 +140,29 @@ fn push_further(
     Ok(())
 }
 
-// Appends as many blanks as the number has digits.
+// What stands under a digit of a line's number.
+fn blank_for(_digit: u8) -> u8
+    ensures { result ≡ spec.blank_for _digit }
+{
+    b' '
+}
+
+// Appends a blank for each of these digits.
+fn push_blank_each(out: &mut Vec<u8>, digits: &[u8]) -> Result<(), AllocError>
+    ensures { OnOk result (out.new.items ≡ out.old.items ++ map spec.blank_for digits.now) }
+{
+    'digits: for digit in digits {
+        out.push(blank_for(*digit))?;
+    }
+    Ok(())
+}
+
+// Appends a blank for each digit of a number.
 fn push_blanks(alloc: Global, out: &mut Vec<u8>, number: u64) -> Result<(), AllocError>
     ensures { OnOk result (out.new.items ≡ out.old.items ++ spec.blanks number) }
 {
     let digits = format!(in alloc; "{number}")?;
-    for _digit in 0..digits.len() {
-        out.push(b' ')?;
-    }
-    Ok(())
+    push_blank_each(out, digits.as_bytes())
 }
 
 // Appends a line of the source with its number.
@@ -168,6 +181,35 @@ fn push_source_line(
     out.extend_from_slice(b"\n")
 }
 
+// Where the line begins in which these bytes end.
+#[tactic(auto, using(crate::proofs::Columns::column_within))]
+fn line_start(front: &[u8]) -> usize
+    ensures value { result ≡ spec.line_start front.now }
+    ensures within { result ≤ length front.now }
+{
+    front.len() - (place_after(front).column - 1)
+}
+
+// Appends what stands under the line of a span, which begins after these bytes.
+fn push_under_line(
+    alloc: Global,
+    out: &mut Vec<u8>,
+    bytes: &[u8],
+    span: Span,
+    front: &[u8],
+    line: &[u8],
+) -> Result<(), AllocError>
+    ensures { OnOk result (out.new.items ≡ out.old.items ++ spec.under_line bytes.now span front.now line.now) }
+{
+    let place = place_after(front);
+    let size = (span.end as usize).saturating_sub(front.len());
+    push_blanks(alloc, out, place.line as u64)?;
+    out.extend_from_slice(b" | ")?;
+    push_marks(out, line, place.column - 1, size)?;
+    push_further(alloc, out, bytes, line_start(front) + line.len(), span.end)?;
+    out.extend_from_slice(b"\n")
+}
+
 /// Appends the line in which a span starts, and carets under the span: a line of the source's and a line of carets, each with a
 /// line end.
 pub fn push_window(
@@ -179,19 +221,8 @@ pub fn push_window(
     ensures { OnOk result (out.new.items ≡ out.old.items ++ spec.window bytes.now span) }
 {
     let front = front_of(bytes, span.start);
+    let line = line_at(bytes, line_start(front));
     let place = place_after(front);
-    let before = place.column - 1;
-    let line_start = front.len() - before;
-    let line = line_at(bytes, line_start);
-    push_source_line(alloc, out, place.line, line, before)?;
-    push_blanks(alloc, out, place.line as u64)?;
-    out.extend_from_slice(b" | ")?;
-    push_marks(
-        out,
-        line,
-        before,
-        (span.end as usize).saturating_sub(front.len()),
-    )?;
-    push_further(alloc, out, bytes, line_start + line.len(), span.end)?;
-    out.extend_from_slice(b"\n")
+    push_source_line(alloc, out, place.line, line, place.column - 1)?;
+    push_under_line(alloc, out, bytes, span, front, line)
 }

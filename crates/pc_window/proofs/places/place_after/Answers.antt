@@ -1,4 +1,4 @@
-use Rattle.pc_window.proofs.Places.{at_start, at_next}
+use Rattle.pc_window.proofs.Counted.{at_start, at_next}
 use Rattle.pc_window.proofs.places.place_after.Goals as goal
 
 pub loop-byte-init : goal.loop-byte-init

@@ -1,4 +1,4 @@
-use Rattle.pc_window.proofs.Places.{At}
+use Rattle.pc_window.proofs.Counted.{At}
 use Rattle.pc_window.proofs.places.place_after.Given as goal
 
 abbrev pub invariant-loop-byte : goal.invariant-loop-byte

@@ -1,0 +1,12 @@
+-- A column is within its front.
+use Rattle.std.proofs.Common.{◌≡◌, ◌≤◌, ◌-◌, ◌+◌, ℕ, List, length, reverse, arith}
+use Rattle.std.specs.List.{prefix_len}
+use Rattle.std.proofs.lemmas.List.{length-reverse}
+use Rattle.std.proofs.lemmas.List.Sums.{prefix_len-le-length}
+use Rattle.pc_refusals.specs.Place.{is_in_line, column_behind}
+
+pub column_within : (front : List ℕ) → column_behind front - 1 ≤ length front
+column_within front =
+    let within = prefix_len-le-length is_in_line (reverse front) in
+    let same = length-reverse front in
+    omega (arith, within, same)
