@@ -5,9 +5,9 @@ use Rattle.pc_lists.specs.Texts.{Text}
 use Rattle.pc_refusals.specs.Place.{line_behind, column_behind}
 
 -- The line and the column of the byte at an offset, `L:C`.
-abbrev pub place : Text → ℕ → Text
+unfoldable pub place : Text → ℕ → Text
 place bytes at = decimal (line_behind (take at bytes)) ++ 58 ∷ decimal (column_behind (take at bytes))
 
 -- The bytes of a span.
-abbrev pub piece_of : Text → Span → Text
+unfoldable pub piece_of : Text → Span → Text
 piece_of bytes span = drop span.start (take span.end bytes)

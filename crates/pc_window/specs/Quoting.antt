@@ -49,9 +49,9 @@ cut line = if nat_lt whole (length line) then take (cut_of line) line ++ codes "
 
 -- ---- as it stands in a line of words
 
-abbrev pub piece : Text → Text
+unfoldable pub piece : Text → Text
 piece bytes = cut (one_line bytes)
 
 -- Between backquotes.
-abbrev pub quoted : Text → Text
+unfoldable pub quoted : Text → Text
 quoted bytes = 96 ∷ (piece bytes ++ 96 ∷ [])

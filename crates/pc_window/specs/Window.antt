@@ -114,5 +114,5 @@ abbrev pub window_in : Text → Span → (front : Text) → Text → Text
 window_in bytes span front line = source_line (line_behind front) line (before_of front) ++ under_line bytes span front line
 
 -- The line in which the span starts, and carets under the span.
-abbrev pub window : Text → Span → Text
+unfoldable pub window : Text → Span → Text
 window bytes span = window_in bytes span (take span.start bytes) (line_at bytes (line_start (take span.start bytes)))

@@ -26,6 +26,7 @@ fn push_offset_line(
 }
 
 /// Appends the line by which the source of this name is refused, `NAME:LINE:COLUMN: WHAT`, and the window of the span.
+#[tactic(auto, unfolding(crate::specs::Head::head))]
 pub fn push_head(
     alloc: Global,
     out: &mut Vec<u8>,

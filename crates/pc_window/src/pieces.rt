@@ -26,6 +26,7 @@ pub(crate) fn after(bytes: &[u8], count: usize) -> &[u8]
 }
 
 /// The bytes of a span.
+#[tactic(auto, unfolding(crate::specs::Places::piece_of))]
 pub fn piece_of(bytes: &[u8], span: Span) -> &[u8]
     ensures { result.now ≡ spec.piece_of bytes.now span }
 {

@@ -48,6 +48,7 @@ fn next_place(place: Place, byte: u8) -> Place
 }
 
 /// Appends the place of the byte at this offset, `L:C`.
+#[tactic(auto, unfolding(crate::specs::Places::place))]
 pub fn push_place(
     alloc: Global,
     out: &mut Vec<u8>,

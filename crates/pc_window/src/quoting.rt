@@ -79,6 +79,7 @@ fn push_cut(out: &mut Vec<u8>, line: &[u8]) -> Result<(), AllocError>
 }
 
 /// Appends a piece in one line, with each run of blanks, tabs and line ends as one blank. One of more than 40 bytes is cut.
+#[tactic(auto, unfolding(crate::specs::Quoting::piece))]
 pub fn push_piece(alloc: Global, out: &mut Vec<u8>, piece: &[u8]) -> Result<(), AllocError>
     ensures { OnOk result (out.new.items ≡ out.old.items ++ spec.piece piece.now) }
 {
@@ -87,6 +88,7 @@ pub fn push_piece(alloc: Global, out: &mut Vec<u8>, piece: &[u8]) -> Result<(), 
 }
 
 /// Appends a piece between backquotes.
+#[tactic(auto, unfolding(crate::specs::Quoting::quoted))]
 pub fn push_quoted(alloc: Global, out: &mut Vec<u8>, piece: &[u8]) -> Result<(), AllocError>
     ensures { OnOk result (out.new.items ≡ out.old.items ++ spec.quoted piece.now) }
 {

@@ -212,6 +212,7 @@ fn push_under_line(
 
 /// Appends the line in which a span starts, and carets under the span: a line of the source's and a line of carets, each with a
 /// line end.
+#[tactic(auto, unfolding(crate::specs::Window::window))]
 pub fn push_window(
     alloc: Global,
     out: &mut Vec<u8>,
