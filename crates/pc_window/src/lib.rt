@@ -6,6 +6,7 @@
 //! and is cut where it is long, and no character is split by that.
 #![tactic(auto)]
 
+mod appending;
 mod bytes;
 mod heads;
 mod marks;
@@ -15,6 +16,7 @@ mod places;
 mod quoting;
 mod window;
 
+pub use appending::push_bytes;
 pub use bytes::shown;
 pub use heads::push_head;
 pub use numbers::push_number;

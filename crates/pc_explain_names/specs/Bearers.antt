@@ -1,0 +1,69 @@
+-- What has a name already.
+use Rattle.std.specs.Prelude.{ℕ, List, [], ◌∷◌, map, Option, Some, None, codes, if◌then◌else◌}
+use Rattle.std.specs.List.{find}
+use Rattle.std.specs.Str.{bytes_eq}
+use Rattle.pc_caps.specs.declared.span.Span.{Span}
+use Rattle.pc_lists.specs.Texts.{Text}
+use Rattle.pc_tree.specs.Tree as t
+use Rattle.pc_tree.specs.declared.kinds.EntityKind.{EntityKind}
+use Rattle.pc_tree.specs.declared.kinds.EntityKind.TheVariants as kind
+use Rattle.pc_explain_names.specs.declared.bearers.Bearer.{Bearer}
+use Rattle.pc_explain_names.specs.declared.bearers.Bearer.TheVariants as bearer
+use Rattle.pc_explain_names.specs.Homes.{params_of, marks_at}
+use Rattle.pc_explain_names.specs.Lists.{field_span, method_span, is_other}
+use Rattle.pc_explain_names.specs.Marks.{locals}
+
+abbrev pub kind_word : EntityKind → Text
+kind_word kind.Class = codes "class"
+kind_word kind.Actor = codes "actor"
+kind_word kind.Primitive = codes "primitive"
+kind_word kind.Trait = codes "trait"
+kind_word kind.Interface = codes "interface"
+
+abbrev pub word : Bearer → Text
+word bearer.Parameter = codes "parameter"
+word bearer.Local = codes "local"
+word bearer.Field = codes "field"
+word bearer.Method = codes "method"
+word (bearer.Entity k) = kind_word k
+
+-- ---- the first that has the name
+
+-- Of places, those of things of one kind.
+abbrev pub as_bearer : Bearer → Option Span → Option (Bearer × Span)
+as_bearer b None = None
+as_bearer b (Some s) = Some (b, s)
+
+abbrev pub or_else : Option (Bearer × Span) → Option (Bearer × Span) → Option (Bearer × Span)
+or_else None other = other
+or_else (Some found) other = Some found
+
+abbrev pub entity_bearer : Text → Text → ℕ → List t.Entity → Option (Bearer × Span)
+entity_bearer bytes name at [] = None
+entity_bearer bytes name at (e ∷ es) = if is_other bytes name at e.name.span then Some (bearer.Entity e.kind, e.name.span) else entity_bearer bytes name at es
+
+unfoldable pub param_bearer : Text → Option t.Method → Text → ℕ → Option (Bearer × Span)
+param_bearer bytes m name at = as_bearer bearer.Parameter (find (is_other bytes name at) (params_of m))
+
+unfoldable pub local_bearer : Text → t.Entity → Option t.Method → Text → ℕ → Option (Bearer × Span)
+local_bearer bytes e m name at = as_bearer bearer.Local (find (is_other bytes name at) (locals (marks_at at e m)))
+
+unfoldable pub field_bearer : Text → List t.Field → Text → ℕ → Option (Bearer × Span)
+field_bearer bytes fs name at = as_bearer bearer.Field (find (is_other bytes name at) (map field_span fs))
+
+unfoldable pub method_bearer : Text → List t.Method → Text → ℕ → Option (Bearer × Span)
+method_bearer bytes ms name at = as_bearer bearer.Method (find (is_other bytes name at) (map method_span ms))
+
+unfoldable pub outer_bearer : Text → t.File → t.Entity → Text → ℕ → Option (Bearer × Span)
+outer_bearer bytes file e name at =
+    or_else (field_bearer bytes e.fields name at) (or_else (method_bearer bytes e.methods name at) (entity_bearer bytes name at file.entities))
+
+-- The first thing with the name, elsewhere than at this byte: a parameter, a local, a field, a method or an entity.
+unfoldable pub bearer_of : Text → t.File → t.Entity → Option t.Method → Text → ℕ → Option (Bearer × Span)
+bearer_of bytes file e m name at = or_else (param_bearer bytes m name at) (or_else (local_bearer bytes e m name at) (outer_bearer bytes file e name at))
+
+-- ---- entities by their names
+
+abbrev pub kind_named : Text → List t.Entity → Option EntityKind
+kind_named name [] = None
+kind_named name (e ∷ es) = if bytes_eq e.name.text name then Some e.kind else kind_named name es

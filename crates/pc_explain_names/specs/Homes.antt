@@ -1,0 +1,56 @@
+-- Where in a file a byte stands.
+use Rattle.std.specs.Prelude.{ℕ, zero, suc, Bool, nat_le, List, [], ◌∷◌, ◌++◌, map, Option, Some, None, slice_get, count_by}
+use Rattle.pc_caps.specs.declared.span.Span.{Span}
+use Rattle.pc_tree.specs.Tree as t
+use Rattle.pc_explain_names.specs.declared.marks.Mark.{Mark}
+use Rattle.pc_explain_names.specs.Lists.{entity_span, method_span, param_span}
+use Rattle.pc_explain_names.specs.Marks.{expr, seq, locals}
+
+abbrev pub begins_by : ℕ → Span → Bool
+begins_by at span = nat_le span.start at
+
+-- The last of the first ones, of which there are this many.
+abbrev pub last_of : {A : Type 0} → ℕ → List A → Option A
+last_of zero xs = None
+last_of (suc n) xs = slice_get xs n
+
+-- The entity in whose text a byte stands: the last whose name begins at or before it.
+unfoldable pub entity_at : t.File → ℕ → Option t.Entity
+entity_at file at = last_of (count_by (begins_by at) (map entity_span file.entities)) file.entities
+
+-- The same of an entity's methods. Before the first there are the fields.
+unfoldable pub method_at : t.Entity → ℕ → Option t.Method
+method_at e at = last_of (count_by (begins_by at) (map method_span e.methods)) e.methods
+
+-- ---- what is met there
+
+abbrev pub value_marks : ℕ → Option t.Expr → List Mark
+value_marks at None = []
+value_marks at (Some e) = expr at e
+
+abbrev pub field_marks : ℕ → t.Field → List Mark
+field_marks at f = value_marks at f.value
+
+abbrev pub body_marks : ℕ → Option t.Seq → List Mark
+body_marks at None = []
+body_marks at (Some b) = seq at b
+
+abbrev pub all_field_marks : ℕ → List t.Field → List Mark
+all_field_marks at [] = []
+all_field_marks at (f ∷ fs) = field_marks at f ++ all_field_marks at fs
+
+-- In the method's body, or in the fields' initial values.
+unfoldable pub marks_at : ℕ → t.Entity → Option t.Method → List Mark
+marks_at at e None = all_field_marks at e.fields
+marks_at at e (Some m) = body_marks at m.body
+
+abbrev pub params_of : Option t.Method → List Span
+params_of None = []
+params_of (Some m) = map param_span m.params
+
+-- The parameters and locals that are visible where these marks are met.
+unfoldable pub visible_by : Option t.Method → List Mark → List Span
+visible_by m marks = params_of m ++ locals marks
+
+abbrev pub visible_at : ℕ → t.Entity → Option t.Method → List Span
+visible_at at e m = visible_by m (marks_at at e m)

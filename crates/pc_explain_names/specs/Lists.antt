@@ -1,0 +1,66 @@
+-- Names by the places where they stand, and lists of them in words.
+use Rattle.std.specs.Prelude.{ℕ, ◌-◌, Bool, true, false, ◌&&◌, not, nat_eq, nat_lt, List, [], ◌∷◌, ◌++◌, length, take, codes, decimal, if◌then◌else◌}
+use Rattle.std.specs.Str.{bytes_eq}
+use Rattle.pc_caps.specs.declared.span.Span.{Span}
+use Rattle.pc_lists.specs.Texts.{Text}
+use Rattle.pc_tree.specs.Tree as t
+use Rattle.pc_tree.specs.declared.file.ParamDef.{ParamDef}
+use Rattle.pc_tree.specs.declared.names.Name.{Name}
+use Rattle.pc_window.specs.Places.{piece_of}
+use Rattle.pc_window.specs.Quoting.{quoted}
+
+-- ---- where names stand
+
+abbrev pub entity_span : t.Entity → Span
+entity_span e = e.name.span
+
+abbrev pub field_span : t.Field → Span
+field_span f = f.name.span
+
+abbrev pub method_span : t.Method → Span
+method_span m = m.name.span
+
+abbrev pub param_span : ParamDef → Span
+param_span p = p.name.span
+
+abbrev pub name_span : Name → Span
+name_span n = n.span
+
+-- ---- names that are looked for
+
+-- The name at the place is this one.
+abbrev pub is_named : Text → Text → Span → Bool
+is_named bytes name span = bytes_eq (piece_of bytes span) name
+
+-- It is this one, and stands elsewhere than at this byte.
+abbrev pub is_other : Text → Text → ℕ → Span → Bool
+is_other bytes name at span = is_named bytes name span && not (nat_eq span.start at)
+
+-- ---- in words
+
+-- How many names of a list are written.
+abbrev pub most : ℕ
+most = 8
+
+abbrev pub between : (first : Bool) → Text
+between first = if first then [] else codes ", "
+
+abbrev pub one_listed : Text → (first : Bool) → Span → Text
+one_listed bytes first s = between first ++ quoted (piece_of bytes s)
+
+-- Names between backquotes, with a comma between two.
+abbrev pub listed : Text → (first : Bool) → List Span → Text
+listed bytes first [] = []
+listed bytes first (s ∷ ss) = one_listed bytes first s ++ listed bytes false ss
+
+-- How many are not written.
+abbrev pub rest : ℕ → Text
+rest count = if nat_lt most count then codes " and " ++ (decimal (count - most) ++ codes " more") else []
+
+abbrev pub none_at_all : Text
+none_at_all = codes "none"
+
+-- The first eight names, and how many more there are; or `none`.
+unfoldable pub names : Text → List Span → Text
+names bytes [] = none_at_all
+names bytes (s ∷ ss) = listed bytes true (take most (s ∷ ss)) ++ rest (length (s ∷ ss))

@@ -1,0 +1,164 @@
+-- The lines on a fault of a file's names.
+use Rattle.std.specs.Prelude.{ℕ, Bool, true, false, List, [], ◌∷◌, ◌++◌, map, Option, Some, None, nat_eq, codes, if◌then◌else◌}
+use Rattle.std.specs.List.{list_any}
+use Rattle.pc_caps.specs.declared.span.Span.{Span}
+use Rattle.pc_lists.specs.Texts.{Text, line_end}
+use Rattle.pc_tree.specs.Tree as t
+use Rattle.pc_tree.specs.declared.kinds.EntityKind.{EntityKind}
+use Rattle.pc_tree.specs.declared.kinds.EntityKind.TheVariants as kind
+use Rattle.pc_window.specs.Places.{place, piece_of}
+use Rattle.pc_window.specs.Quoting.{piece, quoted}
+use Rattle.pc_explain_names.specs.declared.bearers.Bearer.{Bearer}
+use Rattle.pc_explain_names.specs.declared.marks.Mark.{Mark}
+use Rattle.pc_explain_names.specs.declared.marks.Mark.TheVariants as mark
+use Rattle.pc_explain_names.specs.Bearers.{bearer_of, kind_named, kind_word, word}
+use Rattle.pc_explain_names.specs.Homes.{marks_at, visible_at}
+use Rattle.pc_explain_names.specs.Lists.{field_span, is_named, method_span, name_span, names}
+use Rattle.pc_explain_names.specs.Marks.{use_in}
+
+-- ---- the name
+
+abbrev pub method_part : Option t.Method → Text
+method_part None = []
+method_part (Some m) = 46 ∷ piece m.name.text
+
+-- ` in E.m`
+unfoldable pub home : t.Entity → Option t.Method → Text
+home e m = codes " in " ++ (piece e.name.text ++ method_part m)
+
+unfoldable pub node_line : Text → t.Entity → Option t.Method → Text
+node_line name e m = codes "node: the name " ++ (quoted name ++ (home e m ++ line_end))
+
+-- ---- a name that nothing has
+
+unfoldable pub fields_part : Text → t.Entity → Text
+fields_part bytes e = codes "), a field of " ++ (piece e.name.text ++ (codes " (" ++ names bytes (map field_span e.fields)))
+
+unfoldable pub method_names : Text → List Span → Text
+method_names bytes spans = codes "), or directly before arguments one of its methods (" ++ (names bytes spans ++ (codes ")" ++ line_end))
+
+unfoldable pub methods_part : Text → t.Entity → Text
+methods_part bytes e = method_names bytes (map method_span e.methods)
+
+unfoldable pub members : Text → t.Entity → Text
+members bytes e = fields_part bytes e ++ methods_part bytes e
+
+unfoldable pub bare_line : Text → t.Entity → List Span → Text
+bare_line bytes e visible = codes "rule name: a bare name is a visible local or parameter (here " ++ (names bytes visible ++ members bytes e)
+
+unfoldable pub call_line : Text → Text
+call_line name = codes "hint: write `" ++ (piece name ++ (codes "(..)`" ++ line_end))
+
+abbrev pub call_hint : Bool → Text → Text
+call_hint named name = if named then call_line name else []
+
+unfoldable pub has_method : Text → Text → t.Entity → Bool
+has_method bytes name e = list_any (is_named bytes name) (map method_span e.methods)
+
+unfoldable pub has_field : Text → Text → t.Entity → Bool
+has_field bytes name e = list_any (is_named bytes name) (map field_span e.fields)
+
+unfoldable pub bare_lines : Text → Text → t.Entity → List Span → Text
+bare_lines bytes name e visible = bare_line bytes e visible ++ call_hint (has_method bytes name e) name
+
+unfoldable pub consumed_line : Text → List Span → Text
+consumed_line bytes visible = codes "rule name: a visible local or parameter is consumed; here are " ++ (names bytes visible ++ line_end)
+
+unfoldable pub old_value_line : Text → Text
+old_value_line name = codes "hint: its old value is what `" ++ (piece name ++ (codes " = ..` gives" ++ line_end))
+
+abbrev pub old_value_hint : Bool → Text → Text
+old_value_hint named name = if named then old_value_line name else []
+
+unfoldable pub consumed_lines : Text → Text → t.Entity → List Span → Text
+consumed_lines bytes name e visible = consumed_line bytes visible ++ old_value_hint (has_field bytes name e) name
+
+unfoldable pub constructor_line : Text → Text → Text
+constructor_line entity name =
+    codes "rule name: after the name of a class or an actor comes one of its constructors with its arguments, and "
+    ++ (piece entity ++ (codes " has no constructor " ++ (quoted name ++ line_end)))
+
+abbrev pub article : EntityKind → Text
+article kind.Class = codes "a "
+article kind.Actor = codes "an "
+article kind.Primitive = codes "a "
+article kind.Trait = codes "a "
+article kind.Interface = codes "an "
+
+unfoldable pub is_a : Text → EntityKind → Text
+is_a name k = piece name ++ (codes " is " ++ (article k ++ kind_word k))
+
+-- A type name in an expression, or after `is`.
+unfoldable pub type_line : (provided : Bool) → Text → Option EntityKind → Text
+type_line provided name None = codes "rule name: no entity is called " ++ (piece name ++ line_end)
+type_line true name (Some k) = codes "rule name: after `is` comes a trait or an interface, and " ++ (is_a name k ++ line_end)
+type_line false name (Some k) =
+    codes "rule name: " ++ (is_a name k ++ (codes ", and only None, a primitive of the file, and a class or actor with a constructor `create` stand in an expression" ++ line_end))
+
+-- The name stands in the entity's `is` list.
+abbrev pub begins_at : ℕ → Span → Bool
+begins_at at span = nat_eq span.start at
+
+unfoldable pub is_provided : t.Entity → ℕ → Bool
+is_provided e at = list_any (begins_at at) (map name_span e.provides)
+
+unfoldable pub outside_line : Text → t.File → t.Entity → ℕ → Text
+outside_line name file e at = type_line (is_provided e at) name (kind_named name file.entities)
+
+-- By how the name is used.
+unfoldable pub use_lines : Text → t.File → Span → t.Entity → List Span → Option Mark → Text
+use_lines bytes file span e visible (Some mark.Bare) = bare_lines bytes (piece_of bytes span) e visible
+use_lines bytes file span e visible (Some mark.Consumed) = consumed_lines bytes (piece_of bytes span) e visible
+use_lines bytes file span e visible (Some (mark.Constructor head)) = constructor_line (piece_of bytes head) (piece_of bytes span)
+use_lines bytes file span e visible (Some mark.Type) = type_line false (piece_of bytes span) (kind_named (piece_of bytes span) file.entities)
+use_lines bytes file span e visible (Some (mark.Local s)) = []
+use_lines bytes file span e visible None = outside_line (piece_of bytes span) file e span.start
+
+unfoldable pub unknown_lines : Text → t.File → Span → t.Entity → Option t.Method → Text
+unknown_lines bytes file span e m =
+    node_line (piece_of bytes span) e m ++ use_lines bytes file span e (visible_at span.start e m) (use_in (marks_at span.start e m))
+
+-- ---- a name that stands already
+
+unfoldable pub built_in_line : Text → Text
+built_in_line name = codes "rule name: " ++ (piece name ++ (codes " is built in" ++ line_end))
+
+unfoldable pub stands_at : Text → ℕ → Text
+stands_at bytes at = codes " at " ++ (place bytes at ++ (codes ", which is visible here" ++ line_end))
+
+unfoldable pub named_line : Text → Text → Bearer → ℕ → Text
+named_line bytes name b at = codes "rule name: " ++ (quoted name ++ (codes " is the name of the " ++ (word b ++ stands_at bytes at)))
+
+unfoldable pub bearer_line : Text → Text → Option (Bearer × Span) → Text
+bearer_line bytes name None = built_in_line name
+bearer_line bytes name (Some b) = named_line bytes name b.0 b.1.start
+
+abbrev pub other_name_hint : Text
+other_name_hint = codes "hint: give one of the two another name" ++ line_end
+
+unfoldable pub double_lines : Text → t.File → Span → t.Entity → Option t.Method → Text
+double_lines bytes file span e m =
+    node_line (piece_of bytes span) e m ++ (bearer_line bytes (piece_of bytes span) (bearer_of bytes file e m (piece_of bytes span) span.start) ++ other_name_hint)
+
+-- ---- traits in a cycle, and Main
+
+unfoldable pub trait_line : Text → Text
+trait_line name = codes "node: the trait " ++ (piece name ++ line_end)
+
+unfoldable pub chain_lines : Text → Text
+chain_lines name =
+    codes "rule is: a chain of `is` leads from " ++ (piece name ++ (codes " back to " ++ (piece name
+    ++ (line_end ++ (codes "hint: take one `is` of the chain away" ++ line_end)))))
+
+unfoldable pub cycle_lines : Text → Text
+cycle_lines name = trait_line name ++ chain_lines name
+
+unfoldable pub main_lines : Text
+main_lines =
+    codes "node: the name `Main`" ++ (line_end ++ (codes "rule main: `Main` is an actor with a constructor `create` of exactly one parameter, of Env val"
+    ++ (line_end ++ (codes "hint: write `actor Main` with `new create(env: Env) => ..`" ++ line_end))))
+
+abbrev pub no_main_lines : Text
+no_main_lines =
+    codes "rule main: a program has one actor `Main` with `new create(env: Env)`, and this file has no entity of that name"
+    ++ (line_end ++ (codes "hint: add `actor Main` with `new create(env: Env) => None`" ++ line_end))

@@ -1,0 +1,32 @@
+-- The explanation of a fault of a file's names.
+use Rattle.std.specs.Prelude.{[], ◌++◌, Option, Some, None, codes}
+use Rattle.pc_caps.specs.declared.span.Span.{Span}
+use Rattle.pc_lists.specs.Texts.{Text}
+use Rattle.pc_names.specs.declared.fault.NameFault.{NameFault}
+use Rattle.pc_names.specs.declared.fault.NameFault.TheVariants as fault
+use Rattle.pc_refusals.specs.Lines.{no_main_line}
+use Rattle.pc_tree.specs.Tree as t
+use Rattle.pc_window.specs.Head.{head}
+use Rattle.pc_window.specs.Places.{piece_of}
+use Rattle.pc_explain_names.specs.Homes.{entity_at, method_at}
+use Rattle.pc_explain_names.specs.NameLines.{cycle_lines, double_lines, main_lines, no_main_lines, unknown_lines}
+
+-- In the entity in whose text the name stands, and in its method.
+abbrev pub unknown_in : Text → t.File → Span → Option t.Entity → Text
+unknown_in bytes file span None = []
+unknown_in bytes file span (Some e) = unknown_lines bytes file span e (method_at e span.start)
+
+abbrev pub double_in : Text → t.File → Span → Option t.Entity → Text
+double_in bytes file span None = []
+double_in bytes file span (Some e) = double_lines bytes file span e (method_at e span.start)
+
+-- The explanation of a fault of the names of the file of this name with these bytes. Of a limit that is passed, and of no
+-- memory, there is none.
+abbrev pub names_text : Text → Text → t.File → NameFault → Text
+names_text name bytes file (fault.Double s) = head name bytes s (codes "name twice") ++ double_in bytes file s (entity_at file s.start)
+names_text name bytes file (fault.Unknown s) = head name bytes s (codes "name unknown") ++ unknown_in bytes file s (entity_at file s.start)
+names_text name bytes file fault.NoMain = no_main_line name ++ no_main_lines
+names_text name bytes file (fault.BadMain s) = head name bytes s (codes "Main is of another form") ++ main_lines
+names_text name bytes file (fault.Cycle s) = head name bytes s (codes "trait in a cycle") ++ cycle_lines (piece_of bytes s)
+names_text name bytes file (fault.TooMany w s) = []
+names_text name bytes file fault.Memory = []

@@ -1,0 +1,181 @@
+//! The explanation of a fault of a file's names.
+ghost use Rattle.std.specs.Prelude.{◌≡◌, ◌++◌, IfOk, OnOk, Some};
+ghost use Rattle.pc_explain_names.specs.Homes.{entity_at as entity_is};
+ghost use Rattle.pc_explain_names.specs.NameLines as lines;
+ghost use Rattle.pc_explain_names.specs.Names as spec;
+ghost use Rattle.pc_refusals.specs.Lines.{no_main_line};
+ghost use Rattle.pc_tree.specs.View.{entity_view, file_view};
+
+use crate::double::push_double_lines;
+use crate::homes::{entity_at, method_at};
+use crate::unknown::push_unknown_lines;
+use pc_caps::{List, Span};
+use pc_names::NameFault;
+use pc_tree::{Entity, File};
+use pc_window::{piece_of, push_bytes, push_head, push_piece};
+use std::alloc::{AllocError, Global};
+
+// Appends the line on a trait.
+#[tactic(auto, unfolding(crate::specs::NameLines::trait_line))]
+fn push_trait_line(alloc: Global, out: &mut Vec<u8>, name: &[u8]) -> Result<(), AllocError>
+    ensures { OnOk result (out.new.items ≡ out.old.items ++ lines.trait_line name.now) }
+{
+    push_bytes(out, b"node: the trait ")?;
+    push_piece(alloc, out, name)?;
+    push_bytes(out, b"\n")
+}
+
+// Appends that a chain leads from a trait back to it.
+#[tactic(auto, unfolding(crate::specs::NameLines::chain_lines))]
+fn push_chain_lines(alloc: Global, out: &mut Vec<u8>, name: &[u8]) -> Result<(), AllocError>
+    ensures { OnOk result (out.new.items ≡ out.old.items ++ lines.chain_lines name.now) }
+{
+    push_bytes(out, b"rule is: a chain of `is` leads from ")?;
+    push_piece(alloc, out, name)?;
+    push_bytes(out, b" back to ")?;
+    push_piece(alloc, out, name)?;
+    push_bytes(out, b"\nhint: take one `is` of the chain away\n")
+}
+
+// Appends the lines on a trait in a cycle.
+#[tactic(auto, unfolding(crate::specs::NameLines::cycle_lines))]
+fn push_cycle_lines(alloc: Global, out: &mut Vec<u8>, name: &[u8]) -> Result<(), AllocError>
+    ensures { OnOk result (out.new.items ≡ out.old.items ++ lines.cycle_lines name.now) }
+{
+    push_trait_line(alloc, out, name)?;
+    push_chain_lines(alloc, out, name)
+}
+
+// Appends the lines on a `Main` of another form.
+#[tactic(auto, unfolding(crate::specs::NameLines::main_lines))]
+fn push_main_lines(out: &mut Vec<u8>) -> Result<(), AllocError>
+    ensures { OnOk result (out.new.items ≡ out.old.items ++ lines.main_lines) }
+{
+    push_bytes(
+        out,
+        b"node: the name `Main`\nrule main: `Main` is an actor with a constructor `create` of exactly one parameter, of Env val\nhint: write `actor Main` with `new create(env: Env) => ..`\n",
+    )
+}
+
+// Appends the explanation of a file of this name that has no `Main`.
+fn push_no_main(out: &mut Vec<u8>, name: &str) -> Result<(), AllocError>
+    ensures { OnOk result (out.new.items ≡ out.old.items ++ (no_main_line name.now ++ lines.no_main_lines)) }
+{
+    push_bytes(out, name.as_bytes())?;
+    push_bytes(out, b": no Main\n")?;
+    push_bytes(
+        out,
+        b"rule main: a program has one actor `Main` with `new create(env: Env)`, and this file has no entity of that name\nhint: add `actor Main` with `new create(env: Env) => None`\n",
+    )
+}
+
+// Appends the lines on a name that nothing has, if it stands in an entity.
+fn push_unknown_in(
+    alloc: Global,
+    out: &mut Vec<u8>,
+    bytes: &[u8],
+    file: &File,
+    span: Span,
+) -> Result<(), AllocError>
+    ensures { OnOk result (out.new.items ≡ out.old.items ++ spec.unknown_in bytes.now (file_view file.now) span (entity_is (file_view file.now) span.start)) }
+{
+    match entity_at(alloc, file, span.start)? {
+        Some(entity) => push_unknown_of(alloc, out, bytes, file, span, entity),
+        None => Ok(()),
+    }
+}
+
+// Appends the lines on a name that nothing has, in an entity.
+fn push_unknown_of(
+    alloc: Global,
+    out: &mut Vec<u8>,
+    bytes: &[u8],
+    file: &File,
+    span: Span,
+    entity: &Entity,
+) -> Result<(), AllocError>
+    ensures { OnOk result (out.new.items ≡ out.old.items ++ spec.unknown_in bytes.now (file_view file.now) span (Some (entity_view entity.now))) }
+{
+    let method = method_at(alloc, entity, span.start)?;
+    push_unknown_lines(alloc, out, bytes, file, span, entity, method)
+}
+
+// Appends the lines on a name that stands already, if it stands in an entity.
+fn push_double_in(
+    alloc: Global,
+    out: &mut Vec<u8>,
+    bytes: &[u8],
+    file: &File,
+    span: Span,
+) -> Result<(), AllocError>
+    ensures { OnOk result (out.new.items ≡ out.old.items ++ spec.double_in bytes.now (file_view file.now) span (entity_is (file_view file.now) span.start)) }
+{
+    match entity_at(alloc, file, span.start)? {
+        Some(entity) => push_double_of(alloc, out, bytes, file, span, entity),
+        None => Ok(()),
+    }
+}
+
+// Appends the lines on a name that stands already, in an entity.
+fn push_double_of(
+    alloc: Global,
+    out: &mut Vec<u8>,
+    bytes: &[u8],
+    file: &File,
+    span: Span,
+    entity: &Entity,
+) -> Result<(), AllocError>
+    ensures { OnOk result (out.new.items ≡ out.old.items ++ spec.double_in bytes.now (file_view file.now) span (Some (entity_view entity.now))) }
+{
+    let method = method_at(alloc, entity, span.start)?;
+    push_double_lines(alloc, out, bytes, file, span, entity, method)
+}
+
+// Appends the explanation of a fault.
+fn push_names_text(
+    alloc: Global,
+    out: &mut Vec<u8>,
+    name: &str,
+    bytes: &[u8],
+    file: &File,
+    fault: NameFault,
+) -> Result<(), AllocError>
+    ensures { OnOk result (out.new.items ≡ out.old.items ++ spec.names_text name.now bytes.now (file_view file.now) fault) }
+{
+    match fault {
+        NameFault::Double(span) => {
+            push_head(alloc, out, name, bytes, span, "name twice")?;
+            push_double_in(alloc, out, bytes, file, span)
+        }
+        NameFault::Unknown(span) => {
+            push_head(alloc, out, name, bytes, span, "name unknown")?;
+            push_unknown_in(alloc, out, bytes, file, span)
+        }
+        NameFault::NoMain => push_no_main(out, name),
+        NameFault::BadMain(span) => {
+            push_head(alloc, out, name, bytes, span, "Main is of another form")?;
+            push_main_lines(out)
+        }
+        NameFault::Cycle(span) => {
+            push_head(alloc, out, name, bytes, span, "trait in a cycle")?;
+            push_cycle_lines(alloc, out, piece_of(bytes, span))
+        }
+        NameFault::TooMany(_, _) | NameFault::Memory => Ok(()),
+    }
+}
+
+/// The explanation of a source of this name with these bytes, whose tree has this fault of its names. Of a limit that is
+/// passed, and of no memory, there is none, and the text is empty.
+pub fn explain_names(
+    alloc: Global,
+    name: &str,
+    bytes: &[u8],
+    file: &File,
+    fault: NameFault,
+) -> Result<List<u8>, AllocError>
+    ensures { IfOk result (λ text. text ≡ spec.names_text name.now bytes.now (file_view file.now) fault) }
+{
+    let mut text = Vec::new(alloc);
+    push_names_text(alloc, &mut text, name, bytes, file, fault)?;
+    Ok(List::from_vec(text))
+}

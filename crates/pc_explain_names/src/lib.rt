@@ -1,0 +1,19 @@
+//! Why the names of a file are refused, in words.
+//!
+//! Proved: `explain_names` writes exactly the explanation of a fault, or memory ran out: the refusal's line, the source's line
+//! with carets, the entity and the method in which the name stands, and the rule: for a name that nothing has, the locals,
+//! parameters, fields and methods that could stand there; for one that stands already, the first thing that has it.
+#![tactic(auto)]
+
+mod bearers;
+mod double;
+mod explaining;
+mod homes;
+mod lists;
+mod marks;
+mod spans;
+mod unknown;
+
+pub use bearers::{Bearer, kind_word};
+pub use explaining::explain_names;
+pub use marks::Mark;

@@ -1,0 +1,465 @@
+//! The lines on a name that nothing has.
+ghost use Rattle.std.specs.Prelude.{◌≡◌, ◌++◌, false, true, IfOk, OnOk, Some};
+ghost use Rattle.std.specs.List.{list_any};
+ghost use Rattle.std.specs.Option.{option_map};
+ghost use Rattle.pc_explain_names.specs.NameLines as spec;
+ghost use Rattle.pc_tree.specs.View.{entity_view, file_view, method_view};
+
+use crate::bearers::{kind_named, kind_word};
+use crate::homes::{marks_at, visible_at};
+use crate::lists::{one_is_named, push_names};
+use crate::marks::{Mark, use_in};
+use crate::spans::{field_spans, method_spans, name_spans};
+use pc_caps::Span;
+use pc_tree::{Entity, EntityKind, File, MethodDef};
+use pc_window::{piece_of, push_bytes, push_piece, push_quoted};
+use std::alloc::{AllocError, Global};
+
+// Appends a dot and the method's name, if there is a method.
+fn push_method_part(
+    alloc: Global,
+    out: &mut Vec<u8>,
+    method: Option<&MethodDef>,
+) -> Result<(), AllocError>
+    ensures { OnOk result (out.new.items ≡ out.old.items ++ spec.method_part (option_map (λ m. method_view m.now) method.entry)) }
+{
+    match method {
+        Some(method) => {
+            push_bytes(out, b".")?;
+            push_piece(alloc, out, method.name.text.as_slice())
+        }
+        None => Ok(()),
+    }
+}
+
+// Appends ` in E.m`.
+#[tactic(auto, unfolding(crate::specs::NameLines::home))]
+fn push_home(
+    alloc: Global,
+    out: &mut Vec<u8>,
+    entity: &Entity,
+    method: Option<&MethodDef>,
+) -> Result<(), AllocError>
+    ensures { OnOk result (out.new.items ≡ out.old.items ++ spec.home (entity_view entity.now) (option_map (λ m. method_view m.now) method.entry)) }
+{
+    push_bytes(out, b" in ")?;
+    push_piece(alloc, out, entity.name.text.as_slice())?;
+    push_method_part(alloc, out, method)
+}
+
+/// Appends the line on the name.
+#[tactic(auto, unfolding(crate::specs::NameLines::node_line))]
+pub(crate) fn push_node_line(
+    alloc: Global,
+    out: &mut Vec<u8>,
+    name: &[u8],
+    entity: &Entity,
+    method: Option<&MethodDef>,
+) -> Result<(), AllocError>
+    ensures { OnOk result (out.new.items ≡ out.old.items ++ spec.node_line name.now (entity_view entity.now) (option_map (λ m. method_view m.now) method.entry)) }
+{
+    push_bytes(out, b"node: the name ")?;
+    push_quoted(alloc, out, name)?;
+    push_home(alloc, out, entity, method)?;
+    push_bytes(out, b"\n")
+}
+
+// Appends the fields that a bare name may be.
+#[tactic(auto, unfolding(crate::specs::NameLines::fields_part))]
+fn push_fields_part(
+    alloc: Global,
+    out: &mut Vec<u8>,
+    bytes: &[u8],
+    entity: &Entity,
+) -> Result<(), AllocError>
+    ensures { OnOk result (out.new.items ≡ out.old.items ++ spec.fields_part bytes.now (entity_view entity.now)) }
+{
+    let fields = field_spans(alloc, entity.fields.as_slice())?;
+    push_bytes(out, b"), a field of ")?;
+    push_piece(alloc, out, entity.name.text.as_slice())?;
+    push_bytes(out, b" (")?;
+    push_names(alloc, out, bytes, &fields)
+}
+
+// Appends the names of the methods that a bare name may be.
+#[tactic(auto, unfolding(crate::specs::NameLines::method_names))]
+fn push_method_names(
+    alloc: Global,
+    out: &mut Vec<u8>,
+    bytes: &[u8],
+    spans: &[Span],
+) -> Result<(), AllocError>
+    ensures { OnOk result (out.new.items ≡ out.old.items ++ spec.method_names bytes.now spans.now) }
+{
+    push_bytes(out, b"), or directly before arguments one of its methods (")?;
+    push_names(alloc, out, bytes, spans)?;
+    push_bytes(out, b")\n")
+}
+
+// Appends the methods that a bare name may be.
+#[tactic(auto, unfolding(crate::specs::NameLines::methods_part))]
+fn push_methods_part(
+    alloc: Global,
+    out: &mut Vec<u8>,
+    bytes: &[u8],
+    entity: &Entity,
+) -> Result<(), AllocError>
+    ensures { OnOk result (out.new.items ≡ out.old.items ++ spec.methods_part bytes.now (entity_view entity.now)) }
+{
+    let methods = method_spans(alloc, entity.methods.as_slice())?;
+    push_method_names(alloc, out, bytes, &methods)
+}
+
+// Appends the fields and the methods that a bare name may be.
+#[tactic(auto, unfolding(crate::specs::NameLines::members))]
+fn push_members(
+    alloc: Global,
+    out: &mut Vec<u8>,
+    bytes: &[u8],
+    entity: &Entity,
+) -> Result<(), AllocError>
+    ensures { OnOk result (out.new.items ≡ out.old.items ++ spec.members bytes.now (entity_view entity.now)) }
+{
+    push_fields_part(alloc, out, bytes, entity)?;
+    push_methods_part(alloc, out, bytes, entity)
+}
+
+// Appends what a bare name may be.
+#[tactic(auto, unfolding(crate::specs::NameLines::bare_line))]
+fn push_bare_line(
+    alloc: Global,
+    out: &mut Vec<u8>,
+    bytes: &[u8],
+    entity: &Entity,
+    visible: &[Span],
+) -> Result<(), AllocError>
+    ensures { OnOk result (out.new.items ≡ out.old.items ++ spec.bare_line bytes.now (entity_view entity.now) visible.now) }
+{
+    push_bytes(
+        out,
+        b"rule name: a bare name is a visible local or parameter (here ",
+    )?;
+    push_names(alloc, out, bytes, visible)?;
+    push_members(alloc, out, bytes, entity)
+}
+
+// Whether the entity has a method of this name.
+#[tactic(auto, unfolding(crate::specs::NameLines::has_method))]
+fn has_method(alloc: Global, bytes: &[u8], name: &[u8], entity: &Entity) -> Result<bool, AllocError>
+    ensures { IfOk result (λ has. has ≡ spec.has_method bytes.now name.now (entity_view entity.now)) }
+{
+    let spans = method_spans(alloc, entity.methods.as_slice())?;
+    Ok(one_is_named(bytes, name, &spans))
+}
+
+// Whether the entity has a field of this name.
+#[tactic(auto, unfolding(crate::specs::NameLines::has_field))]
+fn has_field(alloc: Global, bytes: &[u8], name: &[u8], entity: &Entity) -> Result<bool, AllocError>
+    ensures { IfOk result (λ has. has ≡ spec.has_field bytes.now name.now (entity_view entity.now)) }
+{
+    let spans = field_spans(alloc, entity.fields.as_slice())?;
+    Ok(one_is_named(bytes, name, &spans))
+}
+
+// Appends that the name is a method's.
+#[tactic(auto, unfolding(crate::specs::NameLines::call_line))]
+fn push_call_line(alloc: Global, out: &mut Vec<u8>, name: &[u8]) -> Result<(), AllocError>
+    ensures { OnOk result (out.new.items ≡ out.old.items ++ spec.call_line name.now) }
+{
+    push_bytes(out, b"hint: write `")?;
+    push_piece(alloc, out, name)?;
+    push_bytes(out, b"(..)`\n")
+}
+
+// Appends that the name is a method's, if it is.
+fn push_call_hint(
+    alloc: Global,
+    out: &mut Vec<u8>,
+    named: bool,
+    name: &[u8],
+) -> Result<(), AllocError>
+    ensures { OnOk result (out.new.items ≡ out.old.items ++ spec.call_hint named name.now) }
+{
+    if named {
+        push_call_line(alloc, out, name)
+    } else {
+        Ok(())
+    }
+}
+
+// Appends that the name is a field's.
+#[tactic(auto, unfolding(crate::specs::NameLines::old_value_line))]
+fn push_old_value_line(alloc: Global, out: &mut Vec<u8>, name: &[u8]) -> Result<(), AllocError>
+    ensures { OnOk result (out.new.items ≡ out.old.items ++ spec.old_value_line name.now) }
+{
+    push_bytes(out, b"hint: its old value is what `")?;
+    push_piece(alloc, out, name)?;
+    push_bytes(out, b" = ..` gives\n")
+}
+
+// Appends that the name is a field's, if it is.
+fn push_old_value_hint(
+    alloc: Global,
+    out: &mut Vec<u8>,
+    named: bool,
+    name: &[u8],
+) -> Result<(), AllocError>
+    ensures { OnOk result (out.new.items ≡ out.old.items ++ spec.old_value_hint named name.now) }
+{
+    if named {
+        push_old_value_line(alloc, out, name)
+    } else {
+        Ok(())
+    }
+}
+
+// Appends the lines on a bare name.
+#[tactic(auto, unfolding(crate::specs::NameLines::bare_lines))]
+fn push_bare_lines(
+    alloc: Global,
+    out: &mut Vec<u8>,
+    bytes: &[u8],
+    name: &[u8],
+    entity: &Entity,
+    visible: &[Span],
+) -> Result<(), AllocError>
+    ensures { OnOk result (out.new.items ≡ out.old.items ++ spec.bare_lines bytes.now name.now (entity_view entity.now) visible.now) }
+{
+    let named = has_method(alloc, bytes, name, entity)?;
+    push_bare_line(alloc, out, bytes, entity, visible)?;
+    push_call_hint(alloc, out, named, name)
+}
+
+// Appends what may be consumed.
+#[tactic(auto, unfolding(crate::specs::NameLines::consumed_line))]
+fn push_consumed_line(
+    alloc: Global,
+    out: &mut Vec<u8>,
+    bytes: &[u8],
+    visible: &[Span],
+) -> Result<(), AllocError>
+    ensures { OnOk result (out.new.items ≡ out.old.items ++ spec.consumed_line bytes.now visible.now) }
+{
+    push_bytes(
+        out,
+        b"rule name: a visible local or parameter is consumed; here are ",
+    )?;
+    push_names(alloc, out, bytes, visible)?;
+    push_bytes(out, b"\n")
+}
+
+// Appends the lines on a name after `consume`.
+#[tactic(auto, unfolding(crate::specs::NameLines::consumed_lines))]
+fn push_consumed_lines(
+    alloc: Global,
+    out: &mut Vec<u8>,
+    bytes: &[u8],
+    name: &[u8],
+    entity: &Entity,
+    visible: &[Span],
+) -> Result<(), AllocError>
+    ensures { OnOk result (out.new.items ≡ out.old.items ++ spec.consumed_lines bytes.now name.now (entity_view entity.now) visible.now) }
+{
+    let named = has_field(alloc, bytes, name, entity)?;
+    push_consumed_line(alloc, out, bytes, visible)?;
+    push_old_value_hint(alloc, out, named, name)
+}
+
+// Appends the line on a name after that of a type and a dot.
+#[tactic(auto, unfolding(crate::specs::NameLines::constructor_line))]
+fn push_constructor_line(
+    alloc: Global,
+    out: &mut Vec<u8>,
+    entity: &[u8],
+    name: &[u8],
+) -> Result<(), AllocError>
+    ensures { OnOk result (out.new.items ≡ out.old.items ++ spec.constructor_line entity.now name.now) }
+{
+    push_bytes(
+        out,
+        b"rule name: after the name of a class or an actor comes one of its constructors with its arguments, and ",
+    )?;
+    push_piece(alloc, out, entity)?;
+    push_bytes(out, b" has no constructor ")?;
+    push_quoted(alloc, out, name)?;
+    push_bytes(out, b"\n")
+}
+
+fn article(kind: EntityKind) -> &'static [u8]
+    ensures { result.now ≡ spec.article kind }
+{
+    match kind {
+        EntityKind::Class | EntityKind::Primitive | EntityKind::Trait => b"a ",
+        EntityKind::Actor | EntityKind::Interface => b"an ",
+    }
+}
+
+// Appends that the name is of an entity of this kind.
+#[tactic(auto, unfolding(crate::specs::NameLines::is_a))]
+fn push_is_a(
+    alloc: Global,
+    out: &mut Vec<u8>,
+    name: &[u8],
+    kind: EntityKind,
+) -> Result<(), AllocError>
+    ensures { OnOk result (out.new.items ≡ out.old.items ++ spec.is_a name.now kind) }
+{
+    push_piece(alloc, out, name)?;
+    push_bytes(out, b" is ")?;
+    push_bytes(out, article(kind))?;
+    push_bytes(out, kind_word(kind))
+}
+
+// Appends the line on a type name after `is` that is the name of another entity.
+#[tactic(auto, unfolding(crate::specs::NameLines::type_line))]
+fn push_provided_line(
+    alloc: Global,
+    out: &mut Vec<u8>,
+    name: &[u8],
+    kind: EntityKind,
+) -> Result<(), AllocError>
+    ensures { OnOk result (out.new.items ≡ out.old.items ++ spec.type_line true name.now (Some kind)) }
+{
+    push_bytes(
+        out,
+        b"rule name: after `is` comes a trait or an interface, and ",
+    )?;
+    push_is_a(alloc, out, name, kind)?;
+    push_bytes(out, b"\n")
+}
+
+// Appends the line on a type name in an expression that is the name of another entity.
+#[tactic(auto, unfolding(crate::specs::NameLines::type_line))]
+fn push_expression_line(
+    alloc: Global,
+    out: &mut Vec<u8>,
+    name: &[u8],
+    kind: EntityKind,
+) -> Result<(), AllocError>
+    ensures { OnOk result (out.new.items ≡ out.old.items ++ spec.type_line false name.now (Some kind)) }
+{
+    push_bytes(out, b"rule name: ")?;
+    push_is_a(alloc, out, name, kind)?;
+    push_bytes(
+        out,
+        b", and only None, a primitive of the file, and a class or actor with a constructor `create` stand in an expression\n",
+    )
+}
+
+// Appends the line on a type name, in an expression or after `is`.
+#[tactic(auto, unfolding(crate::specs::NameLines::type_line))]
+fn push_type_line(
+    alloc: Global,
+    out: &mut Vec<u8>,
+    provided: bool,
+    name: &[u8],
+    kind: Option<EntityKind>,
+) -> Result<(), AllocError>
+    ensures { OnOk result (out.new.items ≡ out.old.items ++ spec.type_line provided name.now kind) }
+{
+    match kind {
+        None => {
+            push_bytes(out, b"rule name: no entity is called ")?;
+            push_piece(alloc, out, name)?;
+            push_bytes(out, b"\n")
+        }
+        Some(kind) => {
+            if provided {
+                push_provided_line(alloc, out, name, kind)
+            } else {
+                push_expression_line(alloc, out, name, kind)
+            }
+        }
+    }
+}
+
+// Whether one of these places begins at the byte.
+fn one_begins_at(spans: &[Span], at: u32) -> bool
+    ensures { result ≡ list_any (spec.begins_at at) spans.now }
+{
+    spans.iter().any(|span| span.start == at)
+}
+
+// Whether the name at this byte stands in the entity's `is` list.
+#[tactic(auto, unfolding(crate::specs::NameLines::is_provided))]
+fn is_provided(alloc: Global, entity: &Entity, at: u32) -> Result<bool, AllocError>
+    ensures { IfOk result (λ is. is ≡ spec.is_provided (entity_view entity.now) at) }
+{
+    let spans = name_spans(alloc, entity.provides.as_slice())?;
+    Ok(one_begins_at(&spans, at))
+}
+
+// Appends the lines on a type name that stands in no method, or in an `is` list.
+#[tactic(auto, unfolding(crate::specs::NameLines::outside_line))]
+fn push_outside_lines(
+    alloc: Global,
+    out: &mut Vec<u8>,
+    name: &[u8],
+    file: &File,
+    entity: &Entity,
+    at: u32,
+) -> Result<(), AllocError>
+    ensures { OnOk result (out.new.items ≡ out.old.items ++ spec.outside_line name.now (file_view file.now) (entity_view entity.now) at) }
+{
+    let provided = is_provided(alloc, entity, at)?;
+    let kind = kind_named(name, file.entities.as_slice());
+    push_type_line(alloc, out, provided, name, kind)
+}
+
+// Appends the lines on a name by how it is used.
+#[tactic(auto, unfolding(crate::specs::NameLines::use_lines))]
+fn push_use_lines(
+    alloc: Global,
+    out: &mut Vec<u8>,
+    bytes: &[u8],
+    file: &File,
+    span: Span,
+    entity: &Entity,
+    visible: &[Span],
+    used: Option<Mark>,
+) -> Result<(), AllocError>
+    ensures { OnOk result (out.new.items ≡ out.old.items ++ spec.use_lines bytes.now (file_view file.now) span (entity_view entity.now) visible.now used) }
+{
+    let name = piece_of(bytes, span);
+    match used {
+        Some(Mark::Bare) => push_bare_lines(alloc, out, bytes, name, entity, visible),
+        Some(Mark::Consumed) => push_consumed_lines(alloc, out, bytes, name, entity, visible),
+        Some(Mark::Constructor(head)) => {
+            push_constructor_line(alloc, out, piece_of(bytes, head), name)
+        }
+        Some(Mark::Type) => {
+            let kind = kind_named(name, file.entities.as_slice());
+            push_type_line(alloc, out, false, name, kind)
+        }
+        Some(Mark::Local(_)) => Ok(()),
+        None => push_outside_lines(alloc, out, name, file, entity, span.start),
+    }
+}
+
+/// Appends the lines on a name that nothing has, in an entity and its method.
+#[tactic(auto, unfolding(crate::specs::NameLines::unknown_lines))]
+pub(crate) fn push_unknown_lines(
+    alloc: Global,
+    out: &mut Vec<u8>,
+    bytes: &[u8],
+    file: &File,
+    span: Span,
+    entity: &Entity,
+    method: Option<&MethodDef>,
+) -> Result<(), AllocError>
+    ensures { OnOk result (out.new.items ≡ out.old.items ++ spec.unknown_lines bytes.now (file_view file.now) span (entity_view entity.now) (option_map (λ m. method_view m.now) method.entry)) }
+{
+    let marks = marks_at(alloc, span.start, entity, method)?;
+    let visible = visible_at(alloc, method, &marks)?;
+    push_node_line(alloc, out, piece_of(bytes, span), entity, method)?;
+    push_use_lines(
+        alloc,
+        out,
+        bytes,
+        file,
+        span,
+        entity,
+        &visible,
+        use_in(&marks),
+    )
+}
