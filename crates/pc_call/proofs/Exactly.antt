@@ -6,17 +6,17 @@ use Rattle.std.specs.Char.{digit_value}
 use Rattle.std.specs.Str.Parse.{IsNumeral}
 use Rattle.std.proofs.lemmas.Bool.{eqb-true}
 use Rattle.std.proofs.lemmas.Fmt.{decimal_is_IsNumeral, length-decimal-le}
-use Rattle.pc_args.specs.Asked.{Asked, check, command_of, judge, run, sends, swap, trace, upgrade}
+use Rattle.pc_args.specs.Asked.{Asked, check, command_of, judge, swap, upgrade}
 use Rattle.pc_args.specs.Forms.{is_plain}
 use Rattle.pc_buffers.specs.declared.place.Place.{Place}
 use Rattle.pc_io.specs.Entries.{held_or_empty}
 use Rattle.pc_lists.specs.Texts.{Text}
 use Rattle.pc_refusals.specs.Verdict.{Verdict}
 use Rattle.pc_top.specs.Asked.{OfFile, OfSource}
-use Rattle.pc_top.specs.Commands.{infers, source_of}
+use Rattle.pc_top.specs.Commands.{HasNumber, infers, source_of}
 use Rattle.pc_top.specs.Commands.Swap.{IsPlace}
 use Rattle.pc_top.specs.CoreOf.{IsDerivable, IsUnderivable}
-use Rattle.pc_top.specs.Exact.{HasNumber, IsDerivationOf, JudgedAreExact, ReadsBoth, ReadsSource, StatusesAreExact}
+use Rattle.pc_top.specs.Exact.{IsDerivationOf, JudgedAreExact, ReadsBoth, ReadsSource, StatusesAreExact}
 use Rattle.pc_call.specs.Answers.{Answers, Buffer, no_memory, verdict}
 use Rattle.pc_call.specs.Inner.Shelves.{IsVerdictOn, OfSourceOn, shelf}
 use Rattle.pc_call.specs.Points.{Pointing}
@@ -87,18 +87,6 @@ module _ (exact : JudgedAreExact) (words : List Text) (source : Text) (derivatio
 
 -- ---- the number among the words
 
-pub check_number : HasNumber (check (codes "source"))
-check_number s t p e = let bad : check (codes "source") ≡ swap s t p = e in cc
-
-pub sends_number : HasNumber (sends (codes "source"))
-sends_number s t p e = let bad : sends (codes "source") ≡ swap s t p = e in cc
-
-pub run_number : HasNumber (run (codes "source") (codes "schedule"))
-run_number s t p e = let bad : run (codes "source") (codes "schedule") ≡ swap s t p = e in cc
-
-pub trace_number : HasNumber (trace (codes "source") (codes "schedule"))
-trace_number s t p e = let bad : trace (codes "source") (codes "schedule") ≡ swap s t p = e in cc
-
 is_place : (n : ℕ) → 1 ≤ n → n ≤ 9999999 → IsPlace (decimal n) n
 is_place n one most =
     let few : n < 10 ^ 7 = omega (arith, most) in
@@ -107,10 +95,7 @@ is_place n one most =
     ((length-decimal-le 7 n (omega arith) few fits, numeral.0, sym numeral.1), one, most)
 
 pub swap_number : (n : ℕ) (text : Text) → text ≡ decimal n → 1 ≤ n → n ≤ 9999999 → HasNumber (swap (codes "source") (codes "schedule") text)
-swap_number n text is one most s t p e =
-    let asked : swap (codes "source") (codes "schedule") text ≡ swap s t p = e in
-    let same : text ≡ p = cc in
-    (n, subst (λ (q : Text). IsPlace q n) (sym is ∙ same) (is_place n one most))
+swap_number n text is one most = (n, subst (λ (q : Text). IsPlace q n) (sym is) (is_place n one most))
 
 -- ---- a number is plain
 

@@ -5,14 +5,14 @@ use Rattle.pc_top.specs.CoreOf.{HasIsolatedCore, HasSafeCore, IsDerivable}
 use Rattle.pc_call.specs.declared.beside.Beside.TheVariants.{Schedule}
 use Rattle.pc_call.proofs.Asked.{answers_as}
 use Rattle.pc_call.proofs.Commands.{ran, run_asks}
-use Rattle.pc_call.proofs.Exactly.{of_source, run_number, underivable}
+use Rattle.pc_call.proofs.Exactly.{of_source, underivable}
 use Rattle.pc_call.proofs.runs.run.Goals as goal
 
 pub returns-clause-answers : goal.returns-clause-answers
 returns-clause-answers c = answers_as _ _ _ _ _ _ _ (ran c.written_forms_are_taken.ensures c.args.source.now c.args.schedule) c.ask.ensures.answers
 
 pub returns-clause-exact : goal.returns-clause-exact
-returns-clause-exact c other = underivable c.statuses_are_exact.ensures (run (codes "source") (codes "schedule")) _ c.args.source.now (Schedule c.args.schedule) (run_asks c.written_forms_are_taken.ensures c.args.source.now) refl run_number refl _ c.ask.result _ _ _ c.ask.ensures.answers other
+returns-clause-exact c other = underivable c.statuses_are_exact.ensures (run (codes "source") (codes "schedule")) _ c.args.source.now (Schedule c.args.schedule) (run_asks c.written_forms_are_taken.ensures c.args.source.now) refl tt refl _ c.ask.result _ _ _ c.ask.ensures.answers other
 
 pub returns-clause-accepted : goal.returns-clause-accepted
 returns-clause-accepted c accepting = of_source IsDerivable (run (codes "source") (codes "schedule")) _ c.args.source.now (Schedule c.args.schedule) (run_asks c.written_forms_are_taken.ensures c.args.source.now) refl (c.ask.ensures.accepted accepting)

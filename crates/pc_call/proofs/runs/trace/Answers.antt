@@ -5,14 +5,14 @@ use Rattle.pc_top.specs.CoreOf.{HasIsolatedCore, HasSafeCore, IsDerivable}
 use Rattle.pc_call.specs.declared.beside.Beside.TheVariants.{Schedule}
 use Rattle.pc_call.proofs.Asked.{answers_as}
 use Rattle.pc_call.proofs.Commands.{trace_asks, traced}
-use Rattle.pc_call.proofs.Exactly.{of_source, trace_number, underivable}
+use Rattle.pc_call.proofs.Exactly.{of_source, underivable}
 use Rattle.pc_call.proofs.runs.trace.Goals as goal
 
 pub returns-clause-answers : goal.returns-clause-answers
 returns-clause-answers c = answers_as _ _ _ _ _ _ _ (traced c.written_forms_are_taken.ensures c.args.source.now c.args.schedule) c.ask.ensures.answers
 
 pub returns-clause-exact : goal.returns-clause-exact
-returns-clause-exact c other = underivable c.statuses_are_exact.ensures (trace (codes "source") (codes "schedule")) _ c.args.source.now (Schedule c.args.schedule) (trace_asks c.written_forms_are_taken.ensures c.args.source.now) refl trace_number refl _ c.ask.result _ _ _ c.ask.ensures.answers other
+returns-clause-exact c other = underivable c.statuses_are_exact.ensures (trace (codes "source") (codes "schedule")) _ c.args.source.now (Schedule c.args.schedule) (trace_asks c.written_forms_are_taken.ensures c.args.source.now) refl tt refl _ c.ask.result _ _ _ c.ask.ensures.answers other
 
 pub returns-clause-accepted : goal.returns-clause-accepted
 returns-clause-accepted c accepting = of_source IsDerivable (trace (codes "source") (codes "schedule")) _ c.args.source.now (Schedule c.args.schedule) (trace_asks c.written_forms_are_taken.ensures c.args.source.now) refl (c.ask.ensures.accepted accepting)

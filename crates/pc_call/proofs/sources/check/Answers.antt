@@ -5,7 +5,7 @@ use Rattle.pc_top.specs.CoreOf.{HasIsolatedCore, HasSafeCore}
 use Rattle.pc_call.specs.declared.beside.Beside.TheVariants.{Nothing}
 use Rattle.pc_call.proofs.Asked.{answers_as}
 use Rattle.pc_call.proofs.Commands.{check_asks, checked}
-use Rattle.pc_call.proofs.Exactly.{check_number, derivable, of_source, underivable}
+use Rattle.pc_call.proofs.Exactly.{derivable, of_source, underivable}
 use Rattle.pc_call.proofs.sources.check.Goals as goal
 
 pub returns-clause-answers : goal.returns-clause-answers
@@ -13,8 +13,8 @@ returns-clause-answers c = answers_as _ _ _ _ _ _ _ (checked c.written_forms_are
 
 pub returns-clause-exact : goal.returns-clause-exact
 returns-clause-exact c other = (
-  derivable c.statuses_are_exact.ensures _ c.args.source.now Nothing (check_asks c.written_forms_are_taken.ensures c.args.source.now) check_number _ c.ask.result _ _ _ c.ask.ensures.answers other,
-  underivable c.statuses_are_exact.ensures (check (codes "source")) _ c.args.source.now Nothing (check_asks c.written_forms_are_taken.ensures c.args.source.now) refl check_number refl _ c.ask.result _ _ _ c.ask.ensures.answers other,
+  derivable c.statuses_are_exact.ensures _ c.args.source.now Nothing (check_asks c.written_forms_are_taken.ensures c.args.source.now) tt _ c.ask.result _ _ _ c.ask.ensures.answers other,
+  underivable c.statuses_are_exact.ensures (check (codes "source")) _ c.args.source.now Nothing (check_asks c.written_forms_are_taken.ensures c.args.source.now) refl tt refl _ c.ask.result _ _ _ c.ask.ensures.answers other,
 )
 
 pub returns-clause-safe : goal.returns-clause-safe

@@ -5,14 +5,14 @@ use Rattle.pc_top.specs.CoreOf.{HasIsolatedCore, HasSafeCore, IsDerivable}
 use Rattle.pc_call.specs.declared.beside.Beside.TheVariants.{Nothing}
 use Rattle.pc_call.proofs.Asked.{answers_as}
 use Rattle.pc_call.proofs.Commands.{sends_asks, sent}
-use Rattle.pc_call.proofs.Exactly.{of_source, sends_number, underivable}
+use Rattle.pc_call.proofs.Exactly.{of_source, underivable}
 use Rattle.pc_call.proofs.sources.sends.Goals as goal
 
 pub returns-clause-answers : goal.returns-clause-answers
 returns-clause-answers c = answers_as _ _ _ _ _ _ _ (sent c.written_forms_are_taken.ensures c.args.source.now) c.ask.ensures.answers
 
 pub returns-clause-exact : goal.returns-clause-exact
-returns-clause-exact c other = underivable c.statuses_are_exact.ensures (sends (codes "source")) _ c.args.source.now Nothing (sends_asks c.written_forms_are_taken.ensures c.args.source.now) refl sends_number refl _ c.ask.result _ _ _ c.ask.ensures.answers other
+returns-clause-exact c other = underivable c.statuses_are_exact.ensures (sends (codes "source")) _ c.args.source.now Nothing (sends_asks c.written_forms_are_taken.ensures c.args.source.now) refl tt refl _ c.ask.result _ _ _ c.ask.ensures.answers other
 
 pub returns-clause-accepted : goal.returns-clause-accepted
 returns-clause-accepted c accepting = of_source IsDerivable (sends (codes "source")) _ c.args.source.now Nothing (sends_asks c.written_forms_are_taken.ensures c.args.source.now) refl (c.ask.ensures.accepted accepting)
