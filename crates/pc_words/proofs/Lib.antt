@@ -1,0 +1,2 @@
+pub mod Pushes
+mod Standing

@@ -1,0 +1,94 @@
+-- Methods as they are declared.
+use Rattle.std.specs.Prelude.{ℕ, Bool, true, false, ◌&&◌, not, nat_eq, List, [], ◌∷◌, ◌++◌, Option, Some, None, slice_get, codes, if◌then◌else◌}
+use Rattle.std.specs.List.{find}
+use Rattle.pc_caps.specs.declared.capability.Cap.{Cap}
+use Rattle.pc_caps.specs.declared.capability.Form.{Form}
+use Rattle.pc_caps.specs.declared.span.Span.{Span}
+use Rattle.pc_core.specs.CoreData.{CoreData}
+use Rattle.pc_core.specs.declared.declarations.EntityDef.{EntityDef}
+use Rattle.pc_core.specs.declared.declarations.Method.{Method}
+use Rattle.pc_core.specs.declared.declarations.MethodKind.{MethodKind}
+use Rattle.pc_core.specs.declared.declarations.MethodKind.TheVariants as kind
+use Rattle.pc_core.specs.declared.declarations.ParamInfo.{ParamInfo}
+use Rattle.pc_lists.specs.Texts.{Text}
+use Rattle.pc_tree.specs.Kinds.{is_abstract}
+use Rattle.pc_window.specs.Places.{piece_of}
+use Rattle.pc_window.specs.Quoting.{piece}
+use Rattle.pc_words.specs.Caps.{cap_word, new_word}
+use Rattle.pc_words.specs.Forms.{entity, name_text, place_words, type_words}
+use Rattle.pc_words.specs.Scene.{SceneData}
+
+-- `E.m`
+unfoldable pub method_name : CoreData → Method → Text
+method_name core x = entity core x.entity ++ (codes "." ++ piece (name_text core x.name))
+
+-- ---- before the name
+
+abbrev pub words_of : MethodKind → Cap → Form → Text
+words_of kind.Fun k f = codes "fun " ++ (cap_word k ++ codes " ")
+words_of kind.Be k f = codes "be "
+words_of kind.New k f = codes "new " ++ (new_word f ++ codes " ")
+words_of kind.Spawn k f = codes "new "
+
+abbrev pub words : Method → Text
+words x = words_of x.kind x.receiver x.result.1
+
+-- ---- after the name
+
+abbrev pub between : (first : Bool) → Text
+between first = if first then [] else codes ", "
+
+abbrev pub param : SceneData → ParamInfo → Text
+param s p = piece (piece_of s.bytes p.span) ++ (codes ": " ++ place_words s.core (p.entity, p.cap))
+
+abbrev pub one_param : SceneData → (first : Bool) → ParamInfo → Text
+one_param s first p = between first ++ param s p
+
+abbrev pub params_from : SceneData → (first : Bool) → List ParamInfo → Text
+params_from s first [] = []
+params_from s first (p ∷ ps) = one_param s first p ++ params_from s false ps
+
+abbrev pub params : SceneData → List ParamInfo → Text
+params s ps = codes "(" ++ (params_from s true ps ++ codes ")")
+
+-- Only of a function the result is written.
+abbrev pub result_of : CoreData → MethodKind → ℕ × Form → Text
+result_of core kind.Fun ty = codes ": " ++ type_words core ty
+result_of core kind.Be ty = []
+result_of core kind.New ty = []
+result_of core kind.Spawn ty = []
+
+unfoldable pub signature : SceneData → Method → Text
+signature s x = params s x.params ++ result_of s.core x.kind x.result
+
+-- A method as it is declared, with all its capabilities, also those that the source leaves out.
+unfoldable pub method : SceneData → Method → Text
+method s x = words x ++ (method_name s.core x ++ signature s x)
+
+-- ---- where it stands
+
+abbrev pub same_span : Span → Span → Bool
+same_span a b = nat_eq a.start b.start && nat_eq a.end b.end
+
+abbrev pub abstract_in : Option EntityDef → Bool
+abstract_in None = false
+abstract_in (Some e) = is_abstract e.kind
+
+-- Method y, of a trait or an interface, is the one that method x was taken over from: it stands in the same text.
+abbrev pub gives_text : CoreData → Method → Method → Bool
+gives_text core x y = same_span y.span x.span && (not (nat_eq y.entity x.entity) && abstract_in (slice_get core.entities y.entity))
+
+abbrev pub taken_words : CoreData → Option Method → Text
+taken_words core None = []
+taken_words core (Some y) = codes ", which is taken over from " ++ entity core y.entity
+
+unfoldable pub taken : CoreData → Method → Text
+taken core x = taken_words core (find (gives_text core x) core.methods)
+
+abbrev pub home_of : CoreData → Option Method → Text
+home_of core None = []
+home_of core (Some x) = codes " in " ++ (method_name core x ++ taken core x)
+
+-- ` in E.m`, and what it was taken over from.
+unfoldable pub home : CoreData → ℕ → Text
+home core m = home_of core (slice_get core.methods m)
