@@ -1,0 +1,31 @@
+-- The fields and methods that a node names.
+use Rattle.std.specs.Prelude.{ℕ, Option, Some, None, slice_get}
+use Rattle.pc_caps.specs.declared.capability.Cap.{Cap}
+use Rattle.pc_core.specs.Lookup.{method_named}
+use Rattle.pc_core.specs.declared.declarations.FieldInfo.{FieldInfo}
+use Rattle.pc_core.specs.declared.declarations.Method.{Method}
+use Rattle.pc_core.specs.declared.nodes.Node.{Node}
+use Rattle.pc_lists.specs.Options.{◌>>=◌}
+use Rattle.pc_rules.specs.Fields.{field_of}
+use Rattle.pc_rules.specs.Parts.{last_child}
+use Rattle.pc_words.specs.Scene.{SceneData, type_of}
+
+-- The field of this name of the entity that node c is of.
+unfoldable pub field_at : SceneData → Option ℕ → (name : ℕ) → Option FieldInfo
+field_at s None name = None
+field_at s (Some c) name = do
+  ty ← type_of s c
+  f ← field_of s.core ty.0 name
+  Some f.1
+
+abbrev pub place_of : Option FieldInfo → Option (ℕ × Cap)
+place_of None = None
+place_of (Some f) = Some (f.entity, f.cap)
+
+-- The method of this name of the entity that a call's receiver is of.
+unfoldable pub callee : SceneData → Node → (name : ℕ) → Option Method
+callee s x name = do
+  c ← last_child x.children
+  ty ← type_of s c
+  m ← method_named s.core ty.0 name
+  slice_get s.core.methods m

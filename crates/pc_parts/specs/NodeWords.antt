@@ -1,0 +1,164 @@
+-- The line on a node.
+use Rattle.std.specs.Prelude.{ℕ, Bool, true, false, ◌&&◌, nat_le, [], ◌++◌, Option, Some, None, slice_get, if◌then◌else◌, codes}
+use Rattle.pc_caps.specs.declared.capability.Cap.{Cap}
+use Rattle.pc_core.specs.CoreData.{CoreData}
+use Rattle.pc_core.specs.declared.declarations.Method.{Method}
+use Rattle.pc_core.specs.declared.nodes.Node.{Node}
+use Rattle.pc_core.specs.declared.nodes.NodeKind.{NodeKind}
+use Rattle.pc_core.specs.declared.nodes.NodeKind.TheVariants as node
+use Rattle.pc_core.specs.declared.nodes.Slot.{Slot}
+use Rattle.pc_lists.specs.Texts.{Text, line_end}
+use Rattle.pc_tree.specs.declared.kinds.Op.{Op}
+use Rattle.pc_tree.specs.declared.kinds.Op.TheVariants as op
+use Rattle.pc_window.specs.Places.{piece_of}
+use Rattle.pc_window.specs.Quoting.{piece, quoted}
+use Rattle.pc_words.specs.Caps.{cap_word}
+use Rattle.pc_words.specs.Forms.{name_text, place_words}
+use Rattle.pc_words.specs.Methods as methods
+use Rattle.pc_words.specs.Scene.{SceneData, child, is_param, is_unwritten_this, slot_in, slot_name, slot_type}
+use Rattle.pc_parts.specs.Members.{callee, field_at, place_of}
+
+abbrev pub op_word : Op → Text
+op_word op.Add = codes "+"
+op_word op.Sub = codes "-"
+op_word op.Mul = codes "*"
+op_word op.Div = codes "/"
+op_word op.Rem = codes "%"
+op_word op.Eq = codes "=="
+op_word op.Ne = codes "!="
+op_word op.Lt = codes "<"
+op_word op.Le = codes "<="
+op_word op.Gt = codes ">"
+op_word op.Ge = codes ">="
+op_word op.And = codes "and"
+op_word op.Or = codes "or"
+op_word op.Xor = codes "xor"
+op_word op.Is = codes "is"
+op_word op.Isnt = codes "isnt"
+
+-- ---- types after a name
+
+-- `, C iso,`
+abbrev pub place_part : CoreData → Option (ℕ × Cap) → Text
+place_part core None = []
+place_part core (Some p) = codes ", " ++ (place_words core p ++ codes ",")
+
+abbrev pub of_part : CoreData → Option (ℕ × Cap) → Text
+of_part core None = []
+of_part core (Some p) = codes ", of " ++ (place_words core p ++ codes ",")
+
+-- A definition without a written type has that of its value.
+abbrev pub written_part : CoreData → Option (ℕ × Cap) → Text
+written_part core None = codes ", whose type follows from its value,"
+written_part core (Some p) = codes ", " ++ (place_words core p ++ codes ",")
+
+-- Words, a name between backquotes, and its type.
+unfoldable pub typed : CoreData → Text → Text → Option (ℕ × Cap) → Text
+typed core words name ty = words ++ (quoted name ++ place_part core ty)
+
+-- ---- kinds of nodes
+
+abbrev pub local_head : Bool → Text
+local_head param = if param then codes "the parameter " else codes "the local "
+
+unfoldable pub local_words : SceneData → Node → ℕ → Text
+local_words s x k = typed s.core (local_head (is_param s x.method k)) (slot_name s x.method k) (slot_type s x.method k)
+
+unfoldable pub consume_words : SceneData → Node → ℕ → Text
+consume_words s x k = codes "`consume " ++ (piece (slot_name s x.method k) ++ (codes "`" ++ of_part s.core (slot_type s x.method k)))
+
+abbrev pub ends_by : Node → Option Method → Bool
+ends_by x None = false
+ends_by x (Some m) = nat_le x.span.end m.span.start
+
+abbrev pub is_own_origin : SceneData → Option ℕ → Bool
+is_own_origin s None = false
+is_own_origin s (Some c) = is_unwritten_this s c
+
+-- The write is that of an initial value: it stands before the method's name, in the text of a field.
+unfoldable pub is_initial : SceneData → Node → Bool
+is_initial s x = is_own_origin s (child x 1) && ends_by x (slice_get s.core.methods x.method)
+
+abbrev pub write_head : Bool → Text
+write_head initial = if initial then codes "the initial value of the field " else codes "the write of the field "
+
+unfoldable pub write_words : SceneData → Node → ℕ → Text
+write_words s x name = typed s.core (write_head (is_initial s x)) (name_text s.core name) (place_of (field_at s (child x 1) name))
+
+abbrev pub written_of : Option Slot → Option (ℕ × Cap)
+written_of None = None
+written_of (Some y) = y.written
+
+unfoldable pub define_words : SceneData → Node → ℕ → Text
+define_words s x k = codes "the definition of " ++ (quoted (slot_name s x.method k) ++ written_part s.core (written_of (slot_in s x.method k)))
+
+unfoldable pub assign_words : SceneData → Node → ℕ → Text
+assign_words s x k = typed s.core (codes "the assignment to ") (slot_name s x.method k) (slot_type s x.method k)
+
+abbrev pub callee_words : SceneData → Option Method → Text → Text
+callee_words s None name = quoted name
+callee_words s (Some m) name = methods.method s m
+
+-- A call of a method, or of its name alone.
+unfoldable pub call_words : SceneData → Option Method → Text → Text
+call_words s o name = codes "a call of " ++ callee_words s o name
+
+abbrev pub same_words : Bool → Text
+same_words same = if same then codes "`is`" else codes "`isnt`"
+
+unfoldable pub recover_words : Option Cap → Text
+recover_words None = codes "the `recover`"
+recover_words (Some k) = codes "the `recover " ++ (cap_word k ++ codes "`")
+
+-- The source's own text.
+unfoldable pub text_words : SceneData → Node → Text
+text_words s x = quoted (piece_of s.bytes x.span)
+
+unfoldable pub words : SceneData → Node → NodeKind → Text
+words s x (node.Local k) = local_words s x k
+words s x (node.Consume k) = consume_words s x k
+words s x (node.Field name) = typed s.core (codes "the read of the field ") (name_text s.core name) None
+words s x (node.SetField name) = write_words s x name
+words s x (node.Define k) = define_words s x k
+words s x (node.Assign k) = assign_words s x k
+words s x (node.New m) = call_words s (slice_get s.core.methods m) []
+words s x (node.Spawn m) = call_words s (slice_get s.core.methods m) []
+words s x (node.Call name) = call_words s (callee s x name) (name_text s.core name)
+words s x (node.Binary o) = quoted (op_word o)
+words s x node.Not = codes "`not`"
+words s x node.And = codes "`and`"
+words s x node.Or = codes "`or`"
+words s x (node.Same same) = same_words same
+words s x node.If = codes "the `if`"
+words s x node.While = codes "the `while`"
+words s x (node.Recover k) = recover_words k
+words s x (node.Number n) = text_words s x
+words s x (node.Truth b) = text_words s x
+words s x (node.Text b) = text_words s x
+words s x (node.Prim e) = text_words s x
+words s x node.This = text_words s x
+words s x node.Seq = text_words s x
+words s x node.Body = text_words s x
+
+-- ---- the line
+
+abbrev pub body_words : SceneData → Method → Text
+body_words s m = codes "the body of " ++ (methods.method s m ++ methods.taken s.core m)
+
+abbrev pub is_body : NodeKind → Bool
+is_body node.Body = true
+is_body k = false
+
+abbrev pub plain_words : SceneData → Node → Text
+plain_words s x = words s x x.kind ++ methods.home s.core x.method
+
+abbrev pub body_or : SceneData → Node → Option Method → Text
+body_or s x None = plain_words s x
+body_or s x (Some m) = body_words s m
+
+-- What the node is, and in which method.
+unfoldable pub whole : SceneData → Node → Text
+whole s x = if is_body x.kind then body_or s x (slice_get s.core.methods x.method) else plain_words s x
+
+unfoldable pub node_line : SceneData → Node → Text
+node_line s x = codes "node: " ++ (whole s x ++ line_end)

@@ -1,0 +1,14 @@
+//! A refused node and its parts in words.
+//!
+//! Proved: the line on a node says what it is and in which method, and there is a line for each child whose type the node's
+//! rules look at, in the order of evaluation, with the type of the child's note; each is exactly the bytes of its definition, or
+//! memory ran out.
+#![tactic(auto)]
+
+mod members;
+mod nodes;
+mod parts;
+
+pub use members::{callee, field_at, place_of};
+pub use nodes::push_node_line;
+pub use parts::{Role, child_role, last_value, push_part_lines, push_role, shown_node};
