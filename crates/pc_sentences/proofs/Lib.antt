@@ -1,0 +1,3 @@
+mod Least
+pub mod Pushed
+mod Reasons

@@ -1,0 +1,6 @@
+use Rattle.pc_words.proofs.Pushes.{ok_three}
+use Rattle.pc_sentences.proofs.sentences.push_builtin_count.Goals as goal
+
+pub returns : goal.returns
+returns c =
+    ok_three _ _ _ _ _ _ _ _ c.in_ok-push_bytes.ensures c.in_ok-push_number.ensures c.push_bytes-2.ensures

@@ -1,0 +1,14 @@
+use Rattle.std.proofs.Common.{◌≡◌, ◌++◌, ℕ, Option, OnOk, ap, subst, ◌∙◌}
+use Rattle.pc_core.specs.declared.nodes.Node.{Node}
+use Rattle.pc_words.proofs.Pushes.{ok_three}
+use Rattle.pc_words.specs.Scene.{child}
+use Rattle.pc_sentences.specs.Sentences.{reason_of, untyped}
+use Rattle.pc_sentences.proofs.sentences.push_untyped.Goals as goal
+
+pub returns : goal.returns
+unfolding untyped
+returns c =
+    let from = c.child.ensures ∙ ap (λ (x : Node). child x c.args.index) c.node.ensures in
+    ok_three _ _ _ _ _ _ _ _ c.in_ok-push_part.ensures c.in_ok-push_bytes.ensures
+    (subst (λ (node : Option ℕ). OnOk c.push_reason_of.result (c.push_reason_of.new.out.items ≡ c.push_bytes.new.out.items ++ reason_of c.args.stop.now node))
+    from c.push_reason_of.ensures)

@@ -1,0 +1,104 @@
+-- Where a child goes, and the forms of children in words.
+use Rattle.std.specs.Prelude.{ℕ, Bool, true, false, ◌&&◌, not, [], ◌++◌, Option, Some, None, slice_get, if◌then◌else◌, codes}
+use Rattle.pc_caps.specs.Tables.{sendable_form}
+use Rattle.pc_caps.specs.declared.capability.Cap.{Cap}
+use Rattle.pc_caps.specs.declared.capability.Form.{Form}
+use Rattle.pc_caps.specs.declared.capability.Form.TheVariants as form
+use Rattle.pc_core.specs.declared.declarations.Method.{Method}
+use Rattle.pc_core.specs.declared.declarations.ParamInfo.{ParamInfo}
+use Rattle.pc_core.specs.declared.nodes.NodeKind.{NodeKind}
+use Rattle.pc_core.specs.declared.nodes.NodeKind.TheVariants as node
+use Rattle.pc_lists.specs.Texts.{Text}
+use Rattle.pc_parts.specs.Parts.{child_role, role_words}
+use Rattle.pc_rules.specs.Calls.{is_behaviour}
+use Rattle.pc_window.specs.Places.{piece_of}
+use Rattle.pc_window.specs.Quoting.{quoted}
+use Rattle.pc_words.specs.Caps.{cap_word, fitting, form_word, form_words, takes}
+use Rattle.pc_words.specs.Forms.{name_text, with_article}
+use Rattle.pc_words.specs.Scene.{SceneData}
+use Rattle.pc_sentences.specs.Stop.{StopData, child_form, method_of, named, own_slot}
+
+-- The words for the child of this index.
+unfoldable pub part : StopData → ℕ → Text
+part st i = role_words (child_role st.at i)
+
+-- ---- the place that a child goes to
+
+abbrev pub param_text : SceneData → Option ParamInfo → Text
+param_text s None = []
+param_text s (Some p) = piece_of s.bytes p.span
+
+abbrev pub param_by : SceneData → Option Method → ℕ → Text
+param_by s None i = []
+param_by s (Some m) i = param_text s (slice_get m.params i)
+
+abbrev pub param_words : StopData → ℕ → Text
+param_words st i = codes "the parameter " ++ quoted (param_by st.scene (method_of st) i)
+
+abbrev pub field_goal : Text → Text
+field_goal name = codes "the field " ++ quoted name
+
+abbrev pub goal_by : StopData → ℕ → NodeKind → Text
+goal_by st i (node.SetField name) = field_goal (name_text st.scene.core name)
+goal_by st i (node.Define k) = quoted (own_slot st k)
+goal_by st i (node.Assign k) = quoted (own_slot st k)
+goal_by st i (node.New m) = param_words st i
+goal_by st i (node.Spawn m) = param_words st i
+goal_by st i (node.Call name) = param_words st i
+goal_by st i node.Body = codes "the result"
+goal_by st i k = []
+
+-- A field, a local, a parameter or the result.
+unfoldable pub goal : StopData → ℕ → Text
+goal st i = goal_by st i st.at.kind
+
+-- ---- forms
+
+abbrev pub is_alias : Form → Bool
+is_alias form.Iso = true
+is_alias form.Trn = true
+is_alias form.IsoE = false
+is_alias form.TrnE = false
+is_alias form.Ref = false
+is_alias form.Val = false
+is_alias form.Box = false
+is_alias form.Tag = false
+
+abbrev pub is_sent : Option Method → Bool
+is_sent None = false
+is_sent (Some m) = is_behaviour m.kind
+
+abbrev pub sends_by : StopData → NodeKind → Bool
+sends_by st (node.Spawn m) = true
+sends_by st (node.Call name) = is_sent (method_of st)
+sends_by st k = false
+
+-- The node sends its arguments.
+abbrev pub sends : StopData → Bool
+sends st = sends_by st st.at.kind
+
+abbrev pub form_note : (sent : Bool) → Form → Text
+form_note sent f = if is_alias f then codes ", an alias," else (if sent && not (sendable_form f) then codes ", which is not sendable," else [])
+
+-- A form that was found, and what it is.
+unfoldable pub found : StopData → Form → Text
+found st f = form_word f ++ form_note (sends st) f
+
+-- `R has the form F`
+unfoldable pub has_form : StopData → ℕ → Text
+has_form st i = part st i ++ (codes " has the form " ++ form_word (child_form st i))
+
+-- ---- a form that does not fit
+
+unfoldable pub place_takes : StopData → ℕ → Cap → Text
+place_takes st i k = codes " and " ++ (goal st i ++ (codes ", " ++ (with_article (cap_word k) ++ (codes ", " ++ takes k))))
+
+unfoldable pub part_unfit : StopData → ℕ → Cap → Text
+part_unfit st i k = part st i ++ (codes " has the form " ++ (found st (child_form st i) ++ place_takes st i k))
+
+unfoldable pub method_takes : Text → Cap → Text
+method_takes name k = codes ": " ++ (quoted name ++ (codes " takes its receiver as " ++ form_words (fitting k)))
+
+unfoldable pub receiver_unfit : StopData → ℕ → Cap → Text
+receiver_unfit st i k =
+    codes "the receiver has the form " ++ (form_word (child_form st i) ++ (codes ", which does not fit " ++ (cap_word k ++ method_takes (named st) k)))

@@ -1,0 +1,5 @@
+pub mod Goals
+pub mod Sentences
+pub mod Slots
+pub mod Stop
+pub mod Untyped

@@ -1,0 +1,102 @@
+-- A node of which no rule says anything, and what is read off it.
+use Rattle.std.specs.Prelude.{ℕ, ◌-◌, [], length, Option, Some, None, slice_get}
+use Rattle.pc_caps.specs.declared.capability.Form.{Form}
+use Rattle.pc_caps.specs.declared.capability.Form.TheVariants as form
+use Rattle.pc_core.specs.CoreData.{CoreData}
+use Rattle.pc_core.specs.declared.declarations.EntityDef.{EntityDef}
+use Rattle.pc_core.specs.declared.declarations.FieldInfo.{FieldInfo}
+use Rattle.pc_core.specs.declared.declarations.Method.{Method}
+use Rattle.pc_core.specs.declared.nodes.Node.{Node}
+use Rattle.pc_core.specs.declared.nodes.NodeKind.{NodeKind}
+use Rattle.pc_core.specs.declared.nodes.NodeKind.TheVariants as node
+use Rattle.pc_lists.specs.Options.{◌>>=◌}
+use Rattle.pc_lists.specs.Texts.{Text}
+use Rattle.pc_masks.specs.declared.mask.Mask.{Mask}
+use Rattle.pc_parts.specs.Members.{callee}
+use Rattle.pc_words.specs.Forms.{entity_name, name_text}
+use Rattle.pc_words.specs.Scene.{SceneData, child, slot_name, type_of}
+
+-- The node, its number, and the masks before it.
+pub record StopData : Type 0 where
+  pub scene : SceneData
+  pub number : ℕ
+  pub at : Node
+  pub live : Mask
+  pub set : Mask
+
+-- ---- its children
+
+unfoldable pub child_type : StopData → ℕ → Option (ℕ × Form)
+child_type st i = do
+  c ← child st.at i
+  type_of st.scene c
+
+abbrev pub form_of : Option (ℕ × Form) → Form
+form_of None = form.Tag
+form_of (Some ty) = ty.1
+
+-- The form of the child. Of one without a type none is asked for.
+unfoldable pub child_form : StopData → ℕ → Form
+child_form st i = form_of (child_type st i)
+
+abbrev pub entity_of : CoreData → Option (ℕ × Form) → Text
+entity_of core None = []
+entity_of core (Some ty) = entity_name core ty.0
+
+-- The name of the entity of the child.
+unfoldable pub child_entity : StopData → ℕ → Text
+child_entity st i = entity_of st.scene.core (child_type st i)
+
+abbrev pub receiver_index : StopData → ℕ
+receiver_index st = length st.at.children - 1
+
+-- ---- what it names
+
+-- The method whose parameters the arguments go to.
+abbrev pub method_by : StopData → NodeKind → Option Method
+method_by st (node.New m) = slice_get st.scene.core.methods m
+method_by st (node.Spawn m) = slice_get st.scene.core.methods m
+method_by st (node.Call name) = callee st.scene st.at name
+method_by st k = None
+
+unfoldable pub method_of : StopData → Option Method
+method_of st = method_by st st.at.kind
+
+abbrev pub name_by : NodeKind → ℕ
+name_by (node.Field name) = name
+name_by (node.SetField name) = name
+name_by (node.Call name) = name
+name_by k = 0
+
+-- The name of a slot of the node's method.
+unfoldable pub own_slot : StopData → ℕ → Text
+own_slot st k = slot_name st.scene st.at.method k
+
+-- The text of the name of the field or the method that the node names.
+unfoldable pub named : StopData → Text
+named st = name_text st.scene.core (name_by st.at.kind)
+
+-- ---- the own entity
+
+abbrev pub entity_by : CoreData → Option Method → Text
+entity_by core None = []
+entity_by core (Some x) = entity_name core x.entity
+
+unfoldable pub own_entity : StopData → Text
+own_entity st = entity_by st.scene.core (slice_get st.scene.core.methods st.at.method)
+
+abbrev pub field_text : CoreData → Option FieldInfo → Text
+field_text core None = []
+field_text core (Some f) = name_text core f.name
+
+abbrev pub field_in : CoreData → Option EntityDef → ℕ → Text
+field_in core None i = []
+field_in core (Some e) i = field_text core (slice_get e.fields i)
+
+abbrev pub field_by : CoreData → Option Method → ℕ → Text
+field_by core None i = []
+field_by core (Some x) i = field_in core (slice_get core.entities x.entity) i
+
+-- The name of the own field of this index.
+unfoldable pub own_field : StopData → ℕ → Text
+own_field st i = field_by st.scene.core (slice_get st.scene.core.methods st.at.method) i
