@@ -42,7 +42,7 @@ extern "C" {
 enum rcap_status {
     RCAP_DONE = 0,
     RCAP_NO_DERIVATION = 1,       /* the source has no derivation */
-    RCAP_NO_COMMAND = 2,          /* the place given to rcap_swap is none */
+    RCAP_NO_COMMAND = 2,          /* the place or the count that is given is none */
     RCAP_BAD_SYNTAX = 3,          /* the source has no tokens, or its tokens no tree */
     RCAP_BAD_NAMES = 4,           /* the names of the source */
     RCAP_NO_DERIVATION_TEXT = 5,  /* the derivation's text is not of its form */
@@ -130,6 +130,40 @@ unsigned char rcap_sends(const unsigned char *source, size_t source_length,
                          unsigned char *out, size_t out_capacity,
                          unsigned char *err, size_t err_capacity,
                          struct rcap_answer *answer);
+
+/* Checks the source, and writes the schedule that a seed chooses for it, as one line. */
+unsigned char rcap_schedule(const unsigned char *source, size_t source_length,
+                            uint64_t seed,
+                            unsigned char *out, size_t out_capacity,
+                            unsigned char *err, size_t err_capacity,
+                            struct rcap_answer *answer);
+
+/* Checks the source, and writes what it prints over the schedule that a seed chooses, and the run's numbers. */
+unsigned char rcap_play(const unsigned char *source, size_t source_length,
+                        uint64_t seed,
+                        unsigned char *out, size_t out_capacity,
+                        unsigned char *err, size_t err_capacity,
+                        struct rcap_answer *answer);
+
+/* Checks the source, and writes each different outcome of the plays of the seeds below a count once. A count is from 1 to 10,000. */
+unsigned char rcap_outcomes(const unsigned char *source, size_t source_length,
+                            uint32_t count,
+                            unsigned char *out, size_t out_capacity,
+                            unsigned char *err, size_t err_capacity,
+                            struct rcap_answer *answer);
+
+/* Writes the entities, fields, methods, slots and nodes of the source's core, with their places in it. */
+unsigned char rcap_places(const unsigned char *source, size_t source_length,
+                          unsigned char *out, size_t out_capacity,
+                          unsigned char *err, size_t err_capacity,
+                          struct rcap_answer *answer);
+
+/* Checks the source, and writes each event of its run over the schedule, with its clock. */
+unsigned char rcap_events(const unsigned char *source, size_t source_length,
+                          const unsigned char *schedule, size_t schedule_length,
+                          unsigned char *out, size_t out_capacity,
+                          unsigned char *err, size_t err_capacity,
+                          struct rcap_answer *answer);
 
 #ifdef __cplusplus
 }

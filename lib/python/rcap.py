@@ -101,6 +101,26 @@ class Library:
         """Exchanges the turns of the schedule at a place and at the next, or says why they stay."""
         return self._ask("rcap_swap", source, schedule, numbers=(ctypes.c_uint32(place),))
 
+    def places(self, source):
+        """Writes the entities, fields, methods, slots and nodes of the source's core, with their places in it."""
+        return self._ask("rcap_places", source)
+
+    def events(self, source, schedule):
+        """Checks the source, and writes each event of its run over the schedule, with its clock."""
+        return self._ask("rcap_events", source, schedule)
+
+    def schedule(self, source, seed):
+        """Checks the source, and writes the schedule that a seed chooses for it."""
+        return self._ask("rcap_schedule", source, numbers=(ctypes.c_uint64(seed),))
+
+    def play(self, source, seed):
+        """Checks the source, and writes what it prints over the schedule that a seed chooses."""
+        return self._ask("rcap_play", source, numbers=(ctypes.c_uint64(seed),))
+
+    def outcomes(self, source, count):
+        """Checks the source, and writes each different outcome of the plays of the seeds below a count once."""
+        return self._ask("rcap_outcomes", source, numbers=(ctypes.c_uint32(count),))
+
     def _ask(self, name, *texts, numbers=()):
         """Makes a call, and again if a text was longer than its buffer."""
         call = getattr(self._calls, name)

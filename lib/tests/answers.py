@@ -58,7 +58,7 @@ class Answers(unittest.TestCase):
         library = rcap.Library(built.library / "librcap.so")
 
         def ask_shared(case):
-            given = [it for it in (case.source, case.beside, case.place) if it is not None]
+            given = [it for it in (case.source, case.beside, case.number) if it is not None]
             answer = getattr(library, case.command)(*given)
             place = answer.place
             numbers = (0, 0, 0, 0) if place is None else (place.text, place.line, place.column, place.offset)
@@ -69,5 +69,5 @@ class Answers(unittest.TestCase):
     def test_shared_object_exports_the_header(self):
         said = built.must(["nm", "--dynamic", "--defined-only", built.library / "librcap.so"]).stdout.decode()
         names = {line.split()[-1] for line in said.splitlines()}
-        declared = {f"rcap_{command}" for command in (*cases.OF_SOURCE, *cases.OF_DERIVATION, *cases.OF_SCHEDULE, "swap")}
+        declared = {f"rcap_{command}" for command in (*cases.OF_SOURCE, *cases.OF_DERIVATION, *cases.OF_SCHEDULE, *cases.OF_SEED, "swap", "outcomes")}
         self.assertEqual(names, declared)

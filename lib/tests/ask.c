@@ -1,6 +1,6 @@
 /* Asks the library, and prints what it answers: a line with the status, both lengths and the place, and then both texts.
  *
- *   ask COMMAND SOURCE [BESIDE [PLACE]]
+ *   ask COMMAND SOURCE [BESIDE] [NUMBER]
  *
  * The call is made with no room, with just enough, with more than enough and with half of it. All answers have to be the same, and
  * each buffer has to be as it was after the part of the text that was laid into it. */

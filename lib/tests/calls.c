@@ -1,5 +1,6 @@
 #include "calls.h"
 
+#include <ctype.h>
 #include <stdio.h>
 #include <stdlib.h>
 #include <string.h>
@@ -28,26 +29,33 @@ static unsigned char *read_file(const char *name, size_t *length) {
 struct texts read_texts(int count, char **words) {
     struct texts texts = {NULL, 0, NULL, 0, 0};
     if (count < 2)
-        fail("COMMAND SOURCE [BESIDE [PLACE]]");
+        fail("COMMAND SOURCE [BESIDE] [NUMBER]");
     texts.source = read_file(words[1], &texts.source_length);
-    if (count > 2)
-        texts.beside = read_file(words[2], &texts.beside_length);
-    if (count > 3)
-        texts.place = (uint32_t)strtoul(words[3], NULL, 10);
+    for (int i = 2; i < count; i++) {
+        if (isdigit((unsigned char)words[i][0]))
+            texts.number = strtoull(words[i], NULL, 10);
+        else
+            texts.beside = read_file(words[i], &texts.beside_length);
+    }
     return texts;
 }
 
 typedef unsigned char of_source(const unsigned char *, size_t, unsigned char *, size_t, unsigned char *, size_t, struct rcap_answer *);
 typedef unsigned char of_both(const unsigned char *, size_t, const unsigned char *, size_t, unsigned char *, size_t, unsigned char *,
                               size_t, struct rcap_answer *);
+typedef unsigned char of_seed(const unsigned char *, size_t, uint64_t, unsigned char *, size_t, unsigned char *, size_t,
+                              struct rcap_answer *);
 
 static const struct {
     const char *name;
     of_source *alone;
     of_both *together;
+    of_seed *seeded;
 } COMMANDS[] = {
-    {"check", rcap_check, NULL}, {"show", rcap_show, NULL},       {"sends", rcap_sends, NULL}, {"judge", NULL, rcap_judge},
-    {"run", NULL, rcap_run},     {"upgrade", NULL, rcap_upgrade}, {"trace", NULL, rcap_trace},
+    {"check", rcap_check, NULL, NULL},   {"show", rcap_show, NULL, NULL},       {"sends", rcap_sends, NULL, NULL},
+    {"judge", NULL, rcap_judge, NULL},   {"upgrade", NULL, rcap_upgrade, NULL}, {"run", NULL, rcap_run, NULL},
+    {"trace", NULL, rcap_trace, NULL},   {"schedule", NULL, NULL, rcap_schedule}, {"play", NULL, NULL, rcap_play},
+    {"places", rcap_places, NULL, NULL}, {"events", NULL, rcap_events, NULL},
 };
 
 unsigned char call(const char *command, const struct texts *t, const struct buffers *b, struct rcap_answer *answer) {
@@ -56,13 +64,19 @@ unsigned char call(const char *command, const struct texts *t, const struct buff
             continue;
         if (COMMANDS[i].alone != NULL)
             return COMMANDS[i].alone(t->source, t->source_length, b->out, b->out_capacity, b->err, b->err_capacity, answer);
+        if (COMMANDS[i].seeded != NULL)
+            return COMMANDS[i].seeded(t->source, t->source_length, t->number, b->out, b->out_capacity, b->err, b->err_capacity,
+                                      answer);
         return COMMANDS[i].together(t->source, t->source_length, t->beside, t->beside_length, b->out, b->out_capacity, b->err,
                                     b->err_capacity, answer);
     }
-    if (strcmp(command, "swap") != 0)
+    if (strcmp(command, "swap") == 0)
+        return rcap_swap(t->source, t->source_length, t->beside, t->beside_length, (uint32_t)t->number, b->out, b->out_capacity,
+                         b->err, b->err_capacity, answer);
+    if (strcmp(command, "outcomes") != 0)
         fail("no such command");
-    return rcap_swap(t->source, t->source_length, t->beside, t->beside_length, t->place, b->out, b->out_capacity, b->err,
-                     b->err_capacity, answer);
+    return rcap_outcomes(t->source, t->source_length, (uint32_t)t->number, b->out, b->out_capacity, b->err, b->err_capacity,
+                         answer);
 }
 
 int has_only(const unsigned char *bytes, size_t length, unsigned char byte) {

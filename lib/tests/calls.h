@@ -4,13 +4,13 @@
 
 #include "rcap.h"
 
-/* What a command is given: the source, the text beside it, if any, and a place, if any. */
+/* What a command is given: the source, the text beside it, if any, and a number, if any. */
 struct texts {
     unsigned char *source;
     size_t source_length;
     unsigned char *beside;
     size_t beside_length;
-    uint32_t place;
+    uint64_t number;
 };
 
 /* Two buffers. */
@@ -21,7 +21,7 @@ struct buffers {
     size_t err_capacity;
 };
 
-/* Reads the texts that the words name: COMMAND SOURCE [BESIDE [PLACE]]. Ends the process if it cannot. */
+/* Reads the texts and the number that the words name, of which a number has digits alone: COMMAND SOURCE [BESIDE] [NUMBER]. Ends the process if it cannot. */
 struct texts read_texts(int count, char **words);
 
 /* Makes the call of the command of this name. Ends the process if there is none. */

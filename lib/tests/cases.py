@@ -12,11 +12,14 @@ import built
 # The names that the library has for its texts.
 SOURCE, DERIVATION, SCHEDULE = "source", "derivation", "schedule"
 
-OF_SOURCE = ("check", "show", "sends")
+OF_SOURCE = ("check", "show", "sends", "places")
 OF_DERIVATION = ("judge", "upgrade")
-OF_SCHEDULE = ("run", "trace")
+OF_SCHEDULE = ("run", "trace", "events")
+OF_SEED = ("schedule", "play")
 
 PLACES = (0, 1, 2, 88, 9_999_999, 10_000_000, 4_294_967_295)
+SEEDS = (0, 7, 18_446_744_073_709_551_615)
+COUNTS = (0, 1, 3, 10_001, 4_294_967_295)
 
 # Sources beside those of the examples: none, line ends, every byte, a fault at the end of many lines, of one long line and of the
 # longest text, and a text that is too long.
@@ -37,19 +40,19 @@ LINE = re.compile(rb"(source|schedule):(\d+):(\d+): ")
 
 @dataclasses.dataclass(frozen=True)
 class Case:
-    """A command, its source, the text beside it, if there is one, and a place, if it has one."""
+    """A command, its source, the text beside it, if there is one, and a number, if it has one."""
 
     command: str
     source: bytes
     beside: bytes | None = None
-    place: int | None = None
+    number: int | None = None
 
     def beside_name(self):
         return DERIVATION if self.command in OF_DERIVATION else SCHEDULE
 
     def title(self):
         beside = "" if self.beside is None else f", {self.beside[:20]!r} of {len(self.beside)}"
-        return f"{self.command} {self.source[:30]!r} of {len(self.source)}{beside}, place {self.place}"
+        return f"{self.command} {self.source[:30]!r} of {len(self.source)}{beside}, number {self.number}"
 
 
 @dataclasses.dataclass(frozen=True)
@@ -81,7 +84,7 @@ def write(case, folder):
     if case.beside is not None:
         (folder / case.beside_name()).write_bytes(case.beside)
         words.append(case.beside_name())
-    return words if case.place is None else [*words, str(case.place)]
+    return words if case.number is None else [*words, str(case.number)]
 
 
 @functools.cache
@@ -120,6 +123,8 @@ def all_cases():
         found += [Case(command, source, it) for command in OF_DERIVATION for it in derivations(source)]
         found += [Case(command, source, it) for command in OF_SCHEDULE for it in schedules]
         found += [Case("swap", source, it, place) for it in schedules[:3] for place in PLACES]
+        found += [Case(command, source, None, seed) for command in OF_SEED for seed in SEEDS]
+        found += [Case("outcomes", source, None, count) for count in COUNTS]
     return tuple(dict.fromkeys(found))
 
 
@@ -141,5 +146,10 @@ def small_cases():
         Case("run", bank, schedule),
         Case("run", bank, b"7 1*0 x"),
         Case("trace", readers, turns),
+        Case("events", readers, turns),
+        Case("places", bank),
         Case("swap", readers, turns, 88),
+        Case("schedule", readers, None, 7),
+        Case("play", readers, None, 7),
+        Case("outcomes", readers, None, 3),
     )

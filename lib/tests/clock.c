@@ -1,6 +1,6 @@
 /* Prints what a call takes, in microseconds: the least and the median of many.
  *
- *   clock COMMAND SOURCE [BESIDE [PLACE]] */
+ *   clock COMMAND SOURCE [BESIDE] [NUMBER] */
 #define _POSIX_C_SOURCE 199309L
 #include "calls.h"
 

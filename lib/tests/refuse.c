@@ -1,7 +1,7 @@
 /* Refuses one request for memory of a call, each in turn, and the same with all requests after it. Prints the status of the call, the
  * number of requests, and at how many of them the call had its own answer all the same.
  *
- *   refuse COMMAND SOURCE [BESIDE [PLACE]]
+ *   refuse COMMAND SOURCE [BESIDE] [NUMBER]
  *
  * It is linked with -Wl,--wrap=malloc,--wrap=realloc,--wrap=free. A refused call has to answer 11 with no text and no place, and to leave
  * its buffers as they were. If one request alone is refused, another may serve in its place: then all has to be as without a refusal.

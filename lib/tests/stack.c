@@ -1,7 +1,7 @@
 /* Prints how many bytes of stack a call takes: it runs on a thread whose stack was painted, and what is no longer painted is what a
  * thread that does nothing leaves painted as well.
  *
- *   stack COMMAND SOURCE [BESIDE [PLACE]] */
+ *   stack COMMAND SOURCE [BESIDE] [NUMBER] */
 #define _GNU_SOURCE
 #include "calls.h"
 

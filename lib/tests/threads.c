@@ -1,7 +1,7 @@
 /* Makes one call from four threads at once, many times, each with buffers of its own and all with the same texts. All answers have to be
  * that of the first call.
  *
- *   threads COMMAND SOURCE [BESIDE [PLACE]] */
+ *   threads COMMAND SOURCE [BESIDE] [NUMBER] */
 #include "calls.h"
 
 #include <pthread.h>

@@ -10,7 +10,7 @@ ghost use Rattle.pc_top.specs.CoreOf.{HasIsolatedCore, HasSafeCore, IsDerivable,
 ghost use Rattle.pc_top.specs.Exact.{IsDerivationOf};
 ghost use Rattle.pc_call.specs.Answers.{Answers, buffer};
 ghost use Rattle.pc_call.specs.Points.{PointsIntoBoth, PointsIntoSource};
-ghost use Rattle.pc_call.specs.Verdicts.{IsChecked, IsJudged, IsRunOf, IsSendsOf, IsShown, IsSwapped, IsTraced, IsUpgraded, MayBePlace};
+ghost use Rattle.pc_call.specs.Verdicts.{IsChecked, IsEventsOf, IsJudged, IsOutcomesOf, IsPlacesOf, IsPlayed, IsRunOf, IsScheduleOf, IsSendsOf, IsShown, IsSwapped, IsTraced, IsUpgraded, MayBeCount, MayBePlace};
 
 use pc_call::Answer;
 use std::alloc::Global;
@@ -159,4 +159,95 @@ pub extern "C" fn rcap_sends(
     ensures isolated { IsAccepting result → HasIsolatedCore source.now }
 {
     pc_call::sends(alloc, source, out, err, answer)
+}
+
+/// Checks the source, and writes the schedule that a seed chooses for it.
+#[unsafe(no_mangle)]
+pub extern "C" fn rcap_schedule(
+    alloc: Global,
+    source: &[u8],
+    seed: u64,
+    out: &mut [u8],
+    err: &mut [u8],
+    answer: &mut Answer,
+) -> u8
+    ensures answers { Answers (IsScheduleOf source.now seed) (PointsIntoSource source.now) result (buffer out.old out.new answer.new.out_length) (buffer err.old err.new answer.new.err_length) answer.new.place }
+    ensures exact { result ≢ 11 → (result ≡ 1) ↔ IsUnderivable source.now }
+    ensures accepted { IsAccepting result → IsDerivable source.now }
+    ensures safe { IsAccepting result → HasSafeCore source.now }
+    ensures isolated { IsAccepting result → HasIsolatedCore source.now }
+{
+    pc_call::schedule(alloc, source, seed, out, err, answer)
+}
+
+/// Checks the source, and writes what it prints over the schedule that a seed chooses, and the numbers of that run.
+#[unsafe(no_mangle)]
+pub extern "C" fn rcap_play(
+    alloc: Global,
+    source: &[u8],
+    seed: u64,
+    out: &mut [u8],
+    err: &mut [u8],
+    answer: &mut Answer,
+) -> u8
+    ensures answers { Answers (IsPlayed source.now seed) (PointsIntoSource source.now) result (buffer out.old out.new answer.new.out_length) (buffer err.old err.new answer.new.err_length) answer.new.place }
+    ensures exact { result ≢ 11 → (result ≡ 1) ↔ IsUnderivable source.now }
+    ensures accepted { IsAccepting result → IsDerivable source.now }
+    ensures safe { IsAccepting result → HasSafeCore source.now }
+    ensures isolated { IsAccepting result → HasIsolatedCore source.now }
+{
+    pc_call::play(alloc, source, seed, out, err, answer)
+}
+
+/// Checks the source, and writes each different outcome of the plays of the seeds below a count once. A count that is not from 1 to
+/// 10,000 is refused with 2.
+#[unsafe(no_mangle)]
+pub extern "C" fn rcap_outcomes(
+    alloc: Global,
+    source: &[u8],
+    count: u32,
+    out: &mut [u8],
+    err: &mut [u8],
+    answer: &mut Answer,
+) -> u8
+    ensures answers { Answers (IsOutcomesOf source.now count) (PointsIntoSource source.now) result (buffer out.old out.new answer.new.out_length) (buffer err.old err.new answer.new.err_length) answer.new.place }
+    ensures exact { MayBeCount count → result ≢ 11 → (result ≡ 1) ↔ IsUnderivable source.now }
+    ensures accepted { IsAccepting result → IsDerivable source.now }
+    ensures safe { IsAccepting result → HasSafeCore source.now }
+    ensures isolated { IsAccepting result → HasIsolatedCore source.now }
+{
+    pc_call::outcomes(alloc, source, count, out, err, answer)
+}
+
+/// Writes the entities, fields, methods, slots and nodes of the source's core, with their places in it.
+#[unsafe(no_mangle)]
+pub extern "C" fn rcap_places(
+    alloc: Global,
+    source: &[u8],
+    out: &mut [u8],
+    err: &mut [u8],
+    answer: &mut Answer,
+) -> u8
+    ensures { Answers (IsPlacesOf source.now) (PointsIntoSource source.now) result (buffer out.old out.new answer.new.out_length) (buffer err.old err.new answer.new.err_length) answer.new.place }
+{
+    pc_call::places(alloc, source, out, err, answer)
+}
+
+/// Checks the source, and writes each event of its run over the schedule, with its clock.
+#[unsafe(no_mangle)]
+pub extern "C" fn rcap_events(
+    alloc: Global,
+    source: &[u8],
+    schedule: &[u8],
+    out: &mut [u8],
+    err: &mut [u8],
+    answer: &mut Answer,
+) -> u8
+    ensures answers { Answers (IsEventsOf source.now schedule.now) (PointsIntoBoth source.now schedule.now) result (buffer out.old out.new answer.new.out_length) (buffer err.old err.new answer.new.err_length) answer.new.place }
+    ensures exact { result ≢ 11 → (result ≡ 1) ↔ IsUnderivable source.now }
+    ensures accepted { IsAccepting result → IsDerivable source.now }
+    ensures safe { IsAccepting result → HasSafeCore source.now }
+    ensures isolated { IsAccepting result → HasIsolatedCore source.now }
+{
+    pc_call::events(alloc, source, schedule, out, err, answer)
 }

@@ -2,8 +2,9 @@
 use Rattle.std.proofs.Common.{◌≡◌, ◌<◌, ℕ, List, [], Option, Some, refl, subst, true}
 use Rattle.std.specs.Prelude.{◌^◌, codes, decimal, unwrap_or}
 use Rattle.std.specs.Borrow.{Bor}
-use Rattle.pc_args.specs.Asked.{Asked, check, command_of, judge, run, sends, show, swap, trace, upgrade}
-use Rattle.pc_args.specs.Forms.{WrittenFormsAreTaken, check_words, is_plain, judge_words, run_words, sends_words, show_words, swap_words, trace_words, upgrade_words}
+use Rattle.pc_args.specs.Asked.{Asked, check, command_of, events, judge, outcomes, places, play, run, schedule_of, sends, show, swap, trace, upgrade}
+use Rattle.pc_args.specs.Forms.{WrittenFormsAreTaken, check_words, events_words, is_plain, judge_words, outcomes_words, places_words, play_words, run_words, schedule_words, sends_words, show_words, swap_words, trace_words, upgrade_words}
+use Rattle.pc_args.specs.Numbers.{IsSeed}
 use Rattle.pc_deriv.specs.Text.{deriv_text}
 use Rattle.pc_deriv.specs.declared.version.Version.TheVariants as version
 use Rattle.pc_io.specs.Entries.{held}
@@ -11,23 +12,28 @@ use Rattle.pc_io.specs.declared.entries.Entry.{Entry}
 use Rattle.pc_lists.specs.Texts.{Text}
 use Rattle.pc_refusals.specs.Accepting.{AcceptedStage}
 use Rattle.pc_refusals.specs.Named.{Files, Named, named}
-use Rattle.pc_refusals.specs.Source.{FileStage}
+use Rattle.pc_refusals.specs.Source.{FileStage, SourceStage}
 use Rattle.pc_refusals.specs.Verdict.{EndsWith, Verdict}
 use Rattle.pc_top.specs.Commands.{IsVerdictOf}
 use Rattle.pc_top.specs.Commands.Check.{Derived, IsCheck}
+use Rattle.pc_top.specs.Commands.Events.{IsEvents, Telling}
 use Rattle.pc_top.specs.Commands.Judge.{IsJudge, accepted_text}
+use Rattle.pc_top.specs.Commands.Outcomes.{IsCount, IsOutcomes, Tabled}
+use Rattle.pc_top.specs.Commands.Places.{IsPlaces, Placed}
+use Rattle.pc_top.specs.Commands.Play.{IsPlay, Played}
 use Rattle.pc_top.specs.Commands.Run.{IsRun, Ran}
+use Rattle.pc_top.specs.Commands.Schedule.{IsSchedule, Scheduled}
 use Rattle.pc_top.specs.Commands.Sends.{IsSends, Sent}
 use Rattle.pc_top.specs.Commands.Show.{IsShow, Shown}
 use Rattle.pc_top.specs.Commands.Swap.{IsSwap}
 use Rattle.pc_top.specs.Commands.Trace.{IsTrace, Tracing}
 use Rattle.pc_top.specs.Commands.Upgrade.{IsUpgrade}
 use Rattle.pc_call.specs.Inner.Shelves.{HoldsBeside, IsVerdictOn, shelf}
-use Rattle.pc_call.specs.Verdicts.{IsChecked, IsJudged, IsRunOf, IsSendsOf, IsShown, IsSwapped, IsTraced, IsUpgraded, schedule_file, source_file}
+use Rattle.pc_call.specs.Verdicts.{IsChecked, IsEventsOf, IsJudged, IsOutcomesOf, IsPlacesOf, IsPlayed, IsRunOf, IsScheduleOf, IsSendsOf, IsShown, IsSwapped, IsTraced, IsUpgraded, schedule_file, source_file}
 use Rattle.pc_call.specs.declared.beside.Beside.{Beside}
 use Rattle.pc_call.specs.declared.beside.Beside.TheVariants.{Nothing, Derivation, Schedule}
 use Rattle.pc_call.proofs.Exactly.{plain}
-use Rattle.pc_call.proofs.Readings.{derivation_as, file_of, parts_as, scheduled_as, source_as, swap_as}
+use Rattle.pc_call.proofs.Readings.{derivation_as, file_of, number_as, parts_as, scheduled_as, source_as, swap_as}
 
 -- the file of a name, which may be missing
 abbrev seen : Text → Option Text → ℕ → Named
@@ -67,6 +73,9 @@ module _ (forms : WrittenFormsAreTaken) (source : Text) where
   pub sends_asks : command_of (sends_words (codes "source")) ≡ Some (sends (codes "source"))
   sends_asks = (forms.sendings (codes "source") refl).1
 
+  pub places_asks : command_of (places_words (codes "source")) ≡ Some (places (codes "source"))
+  places_asks = (forms.placings (codes "source") refl).1
+
   pub checked : (v : Verdict) → IsVerdictOn source Nothing (check_words (codes "source")) v → IsChecked source v
   checked v h =
       let t = alone IsCheck (check (codes "source")) (check_words (codes "source")) source check_asks (λ files w k. k) v h in
@@ -76,6 +85,11 @@ module _ (forms : WrittenFormsAreTaken) (source : Text) where
   shown v h =
       let t = alone IsShow (show (codes "source")) (show_words (codes "source")) source show_asks (λ files w k. k) v h in
       source_as (FileStage (codes "source")) Shown source t.0 v t.1
+
+  pub placed : (v : Verdict) → IsVerdictOn source Nothing (places_words (codes "source")) v → IsPlacesOf source v
+  placed v h =
+      let t = alone IsPlaces (places (codes "source")) (places_words (codes "source")) source places_asks (λ files w k. k) v h in
+      source_as (SourceStage (codes "source")) Placed source t.0 v t.1
 
   pub sent : (v : Verdict) → IsVerdictOn source Nothing (sends_words (codes "source")) v → IsSendsOf source v
   sent v h =
@@ -108,6 +122,9 @@ module _ (forms : WrittenFormsAreTaken) (source : Text) where
   pub trace_asks : command_of (trace_words (codes "source") (codes "schedule")) ≡ Some (trace (codes "source") (codes "schedule"))
   trace_asks = (forms.traces (codes "source") (codes "schedule") refl refl).1
 
+  pub events_asks : command_of (events_words (codes "source") (codes "schedule")) ≡ Some (events (codes "source") (codes "schedule"))
+  events_asks = (forms.tellings (codes "source") (codes "schedule") refl refl).1
+
   pub swap_asks : (place : Text) → is_plain place ≡ true → command_of (swap_words (codes "source") (codes "schedule") place) ≡ Some (swap (codes "source") (codes "schedule") place)
   swap_asks place plain = (forms.swaps (codes "source") (codes "schedule") place refl refl plain).1
 
@@ -121,8 +138,39 @@ module _ (forms : WrittenFormsAreTaken) (source : Text) where
       let t = together IsTrace (trace (codes "source") (codes "schedule")) (trace_words (codes "source") (codes "schedule")) source (codes "schedule") schedule.now (Schedule schedule) trace_asks (λ files w k. k) (λ entries e. e) v h in
       scheduled_as (λ name core list. EndsWith (Tracing name core list)) source schedule.now t.0 v t.1
 
+  pub happened : (schedule : Bor Text) (v : Verdict) → IsVerdictOn source (Schedule schedule) (events_words (codes "source") (codes "schedule")) v → IsEventsOf source schedule.now v
+  happened schedule v h =
+      let t = together IsEvents (events (codes "source") (codes "schedule")) (events_words (codes "source") (codes "schedule")) source (codes "schedule") schedule.now (Schedule schedule) events_asks (λ files w k. k) (λ entries e. e) v h in
+      scheduled_as (λ name core list. EndsWith (Telling name core list)) source schedule.now t.0 v t.1
+
   pub swapped : (schedule : Bor Text) (n : ℕ) (place : Text) → place ≡ decimal n → n < 2 ^ 64 → (v : Verdict) → IsVerdictOn source (Schedule schedule) (swap_words (codes "source") (codes "schedule") place) v
       → IsSwapped source schedule.now n v
   swapped schedule n place is fits v h =
       let t = together (λ a b. IsSwap a b place) (swap (codes "source") (codes "schedule") place) (swap_words (codes "source") (codes "schedule") place) source (codes "schedule") schedule.now (Schedule schedule) (swap_asks place (plain n place is fits)) (λ files w k. k) (λ entries e. e) v h in
       subst (λ (p : Text). IsSwap (source_file source) (schedule_file schedule.now) p v) is (swap_as source schedule.now place t.0 v t.1)
+
+  -- ---- a source and a number
+
+  pub schedule_asks : (seed : Text) → is_plain seed ≡ true → command_of (schedule_words (codes "source") seed) ≡ Some (schedule_of (codes "source") seed)
+  schedule_asks seed plain = (forms.schedules (codes "source") seed refl plain).1
+
+  pub play_asks : (seed : Text) → is_plain seed ≡ true → command_of (play_words (codes "source") seed) ≡ Some (play (codes "source") seed)
+  play_asks seed plain = (forms.plays (codes "source") seed refl plain).1
+
+  pub outcomes_asks : (count : Text) → is_plain count ≡ true → command_of (outcomes_words (codes "source") count) ≡ Some (outcomes (codes "source") count)
+  outcomes_asks count plain = (forms.tables (codes "source") count refl plain).1
+
+  pub scheduled : (n : ℕ) (seed : Text) → seed ≡ decimal n → n < 2 ^ 64 → (v : Verdict) → IsVerdictOn source Nothing (schedule_words (codes "source") seed) v → IsScheduleOf source n v
+  scheduled n seed is fits v h =
+      let t = alone (λ f. IsSchedule f seed) (schedule_of (codes "source") seed) (schedule_words (codes "source") seed) source (schedule_asks seed (plain n seed is fits)) (λ files w k. k) v h in
+      subst (λ (s : Text). IsSchedule (source_file source) s v) is (number_as (IsSeed seed) Scheduled source t.0 v t.1)
+
+  pub played : (n : ℕ) (seed : Text) → seed ≡ decimal n → n < 2 ^ 64 → (v : Verdict) → IsVerdictOn source Nothing (play_words (codes "source") seed) v → IsPlayed source n v
+  played n seed is fits v h =
+      let t = alone (λ f. IsPlay f seed) (play (codes "source") seed) (play_words (codes "source") seed) source (play_asks seed (plain n seed is fits)) (λ files w k. k) v h in
+      subst (λ (s : Text). IsPlay (source_file source) s v) is (number_as (IsSeed seed) (Played (codes "source")) source t.0 v t.1)
+
+  pub tabled : (n : ℕ) (count : Text) → count ≡ decimal n → n < 2 ^ 64 → (v : Verdict) → IsVerdictOn source Nothing (outcomes_words (codes "source") count) v → IsOutcomesOf source n v
+  tabled n count is fits v h =
+      let t = alone (λ f. IsOutcomes f count) (outcomes (codes "source") count) (outcomes_words (codes "source") count) source (outcomes_asks count (plain n count is fits)) (λ files w k. k) v h in
+      subst (λ (s : Text). IsOutcomes (source_file source) s v) is (number_as (IsCount count) (Tabled (codes "source")) source t.0 v t.1)

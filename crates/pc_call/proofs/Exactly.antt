@@ -6,14 +6,16 @@ use Rattle.std.specs.Char.{digit_value}
 use Rattle.std.specs.Str.Parse.{IsNumeral}
 use Rattle.std.proofs.lemmas.Bool.{eqb-true}
 use Rattle.std.proofs.lemmas.Fmt.{decimal_is_IsNumeral, length-decimal-le}
-use Rattle.pc_args.specs.Asked.{Asked, check, command_of, judge, swap, upgrade}
+use Rattle.pc_args.specs.Asked.{Asked, check, command_of, judge, upgrade}
 use Rattle.pc_args.specs.Forms.{is_plain}
+use Rattle.pc_args.specs.Numbers.{IsSeed}
 use Rattle.pc_buffers.specs.declared.place.Place.{Place}
 use Rattle.pc_io.specs.Entries.{held_or_empty}
 use Rattle.pc_lists.specs.Texts.{Text}
 use Rattle.pc_refusals.specs.Verdict.{Verdict}
 use Rattle.pc_top.specs.Asked.{OfFile, OfSource}
 use Rattle.pc_top.specs.Commands.{HasNumber, infers, source_of}
+use Rattle.pc_top.specs.Commands.Outcomes.{IsCount}
 use Rattle.pc_top.specs.Commands.Swap.{IsPlace}
 use Rattle.pc_top.specs.CoreOf.{IsDerivable, IsUnderivable}
 use Rattle.pc_top.specs.Exact.{IsDerivationOf, JudgedAreExact, ReadsBoth, ReadsSource, StatusesAreExact}
@@ -94,8 +96,21 @@ is_place n one most =
     let numeral = decimal_is_IsNumeral n fits in
     ((length-decimal-le 7 n (omega arith) few fits, numeral.0, sym numeral.1), one, most)
 
-pub swap_number : (n : ℕ) (text : Text) → text ≡ decimal n → 1 ≤ n → n ≤ 9999999 → HasNumber (swap (codes "source") (codes "schedule") text)
+pub swap_number : (n : ℕ) (text : Text) → text ≡ decimal n → 1 ≤ n → n ≤ 9999999 → (m : ℕ) × IsPlace text m
 swap_number n text is one most = (n, subst (λ (q : Text). IsPlace q n) (sym is) (is_place n one most))
+
+pub seed_number : (n : ℕ) (text : Text) → text ≡ decimal n → n < 2 ^ 64 → (m : ℕ) × IsSeed text m
+seed_number n text is fits =
+    let few : n < 10 ^ 20 = omega (arith, fits) in
+    let numeral = decimal_is_IsNumeral n fits in
+    (n, subst (λ (q : Text). IsSeed q n) (sym is) ((length-decimal-le 20 n (omega arith) few fits, numeral.0, sym numeral.1), fits))
+
+pub count_number : (n : ℕ) (text : Text) → text ≡ decimal n → 1 ≤ n → n ≤ 10000 → (m : ℕ) × IsCount text m
+count_number n text is one most =
+    let few : n < 10 ^ 5 = omega (arith, most) in
+    let fits : n < 2 ^ 64 = omega (arith, most) in
+    let numeral = decimal_is_IsNumeral n fits in
+    (n, subst (λ (q : Text). IsCount q n) (sym is) ((length-decimal-le 5 n (omega arith) few fits, numeral.0, sym numeral.1), one, most))
 
 -- ---- a number is plain
 

@@ -10,9 +10,11 @@ use Rattle.pc_refusals.specs.Named.{IsReadingOf, Named, Reading, longer, text_as
 use Rattle.pc_refusals.specs.Schedule.{ScheduleStage}
 use Rattle.pc_refusals.specs.Source.{SourceStage, source_limit}
 use Rattle.pc_refusals.specs.Verdict.{EndsWith, Verdict}
+use Rattle.pc_refusals.specs.declared.typing.Accepted.{Accepted}
 use Rattle.pc_sched.specs.Limits.{schedule_limit}
 use Rattle.pc_top.specs.Commands.Swap.{IsSwap, Swapping, no_number, placed}
-use Rattle.pc_top.specs.Shapes.{LastOfTurns, OfDerivation, OfScheduled, OfTurns}
+use Rattle.pc_top.specs.Shapes as shapes
+use Rattle.pc_top.specs.Shapes.{ByNumber, LastOfTurns, OfAccepted, OfDerivation, OfScheduled, OfTurns, spelled}
 use Rattle.pc_call.specs.Verdicts.{derivation_file, schedule_file, source_file}
 
 -- The file of this name with these bytes, of which the last reading took so many.
@@ -68,3 +70,9 @@ pub swap_as : (source schedule place : Text) (taken : ℕ) (v : Verdict)
     → IsSwap (file_of (codes "source") source taken) (file_of (codes "schedule") schedule taken) place v → IsSwap (source_file source) (schedule_file schedule) place v
 swap_as source schedule place taken v (placed n is at) = placed n is (scheduled_as (λ name core list. EndsWith (Swapping name core list n)) source schedule taken v at)
 swap_as source schedule place taken v (no_number none e) = no_number none e
+
+-- a source, and a number among the words
+pub number_as : (Is : ℕ → Type 0) (Last : ℕ → Accepted → Verdict → Type 0) (source : Text) (taken : ℕ) (v : Verdict)
+    → ByNumber Is (λ n. OfAccepted (Last n) (file_of (codes "source") source taken)) v → ByNumber Is (λ n. OfAccepted (Last n) (source_file source)) v
+number_as Is Last source taken v (spelled n is of) = spelled n is (source_as (AcceptedStage (codes "source")) (Last n) source taken v of)
+number_as Is Last source taken v (shapes.no_number none e) = shapes.no_number none e

@@ -4,8 +4,13 @@ use Rattle.pc_lists.specs.Texts.{Text}
 use Rattle.pc_refusals.specs.Named.{Named, text_as}
 use Rattle.pc_refusals.specs.Verdict.{Verdict}
 use Rattle.pc_top.specs.Commands.Check.{IsCheck}
+use Rattle.pc_top.specs.Commands.Events.{IsEvents}
 use Rattle.pc_top.specs.Commands.Judge.{IsJudge}
+use Rattle.pc_top.specs.Commands.Outcomes.{IsOutcomes}
+use Rattle.pc_top.specs.Commands.Places.{IsPlaces}
+use Rattle.pc_top.specs.Commands.Play.{IsPlay}
 use Rattle.pc_top.specs.Commands.Run.{IsRun}
+use Rattle.pc_top.specs.Commands.Schedule.{IsSchedule}
 use Rattle.pc_top.specs.Commands.Sends.{IsSends}
 use Rattle.pc_top.specs.Commands.Show.{IsShow}
 use Rattle.pc_top.specs.Commands.Swap.{IsSwap}
@@ -29,6 +34,9 @@ IsChecked source = IsCheck (source_file source)
 abbrev pub IsShown : Text → Verdict → Type 0
 IsShown source = IsShow (source_file source)
 
+abbrev pub IsPlacesOf : Text → Verdict → Type 0
+IsPlacesOf source = IsPlaces (source_file source)
+
 abbrev pub IsSendsOf : Text → Verdict → Type 0
 IsSendsOf source = IsSends (source_file source)
 
@@ -48,6 +56,9 @@ IsRunOf source schedule = IsRun (source_file source) (schedule_file schedule)
 abbrev pub IsTraced : (source schedule : Text) → Verdict → Type 0
 IsTraced source schedule = IsTrace (source_file source) (schedule_file schedule)
 
+abbrev pub IsEventsOf : (source schedule : Text) → Verdict → Type 0
+IsEventsOf source schedule = IsEvents (source_file source) (schedule_file schedule)
+
 -- What may be a place of a schedule: others are refused with 2.
 abbrev pub MayBePlace : ℕ → Type 0
 MayBePlace place = (1 ≤ place) × (place ≤ 9999999)
@@ -55,3 +66,18 @@ MayBePlace place = (1 ≤ place) × (place ≤ 9999999)
 -- The place is written as a word, in decimal.
 abbrev pub IsSwapped : (source schedule : Text) → ℕ → Verdict → Type 0
 IsSwapped source schedule place = IsSwap (source_file source) (schedule_file schedule) (decimal place)
+
+-- ---- of a source and a number, which is written as a word, in decimal
+
+abbrev pub IsScheduleOf : Text → (seed : ℕ) → Verdict → Type 0
+IsScheduleOf source seed = IsSchedule (source_file source) (decimal seed)
+
+abbrev pub IsPlayed : Text → (seed : ℕ) → Verdict → Type 0
+IsPlayed source seed = IsPlay (source_file source) (decimal seed)
+
+-- What may be a count of seeds: others are refused with 2.
+abbrev pub MayBeCount : ℕ → Type 0
+MayBeCount count = (1 ≤ count) × (count ≤ 10000)
+
+abbrev pub IsOutcomesOf : Text → (count : ℕ) → Verdict → Type 0
+IsOutcomesOf source count = IsOutcomes (source_file source) (decimal count)

@@ -12,11 +12,13 @@
 mod answer;
 mod asking;
 mod beside;
+mod choices;
 mod derivations;
 mod runs;
 mod sources;
 
 pub use answer::Answer;
+pub use choices::{outcomes, play, schedule};
 pub use derivations::{judge, upgrade};
-pub use runs::{run, swap, trace};
-pub use sources::{check, sends, show};
+pub use runs::{events, run, swap, trace};
+pub use sources::{check, places, sends, show};

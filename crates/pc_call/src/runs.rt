@@ -4,7 +4,7 @@ ghost use Rattle.pc_refusals.specs.Verdict.{IsAccepting};
 ghost use Rattle.pc_top.specs.CoreOf.{HasIsolatedCore, HasSafeCore, IsDerivable, IsUnderivable};
 ghost use Rattle.pc_call.specs.Answers.{Answers, buffer};
 ghost use Rattle.pc_call.specs.Points.{PointsIntoBoth};
-ghost use Rattle.pc_call.specs.Verdicts.{IsRunOf, IsSwapped, IsTraced, MayBePlace};
+ghost use Rattle.pc_call.specs.Verdicts.{IsEventsOf, IsRunOf, IsSwapped, IsTraced, MayBePlace};
 
 use crate::Answer;
 use crate::asking::ask;
@@ -62,6 +62,34 @@ pub fn trace(
     ask(
         alloc,
         &["trace", "source", "schedule"],
+        source,
+        Beside::Schedule(schedule),
+        out,
+        err,
+        answer,
+    )
+}
+
+/// Checks the source, and writes each event of its run over the schedule, with its clock.
+pub fn events(
+    alloc: Global,
+    source: &[u8],
+    schedule: &[u8],
+    out: &mut [u8],
+    err: &mut [u8],
+    answer: &mut Answer,
+) -> u8
+    ensures answers { Answers (IsEventsOf source.now schedule.now) (PointsIntoBoth source.now schedule.now) result (buffer out.old out.new answer.new.out_length) (buffer err.old err.new answer.new.err_length) answer.new.place }
+    ensures exact { result ≢ 11 → (result ≡ 1) ↔ IsUnderivable source.now }
+    ensures accepted { IsAccepting result → IsDerivable source.now }
+    ensures safe { IsAccepting result → HasSafeCore source.now }
+    ensures isolated { IsAccepting result → HasIsolatedCore source.now }
+{
+    written_forms_are_taken();
+    statuses_are_exact();
+    ask(
+        alloc,
+        &["events", "source", "schedule"],
         source,
         Beside::Schedule(schedule),
         out,

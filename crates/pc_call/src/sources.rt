@@ -4,7 +4,7 @@ ghost use Rattle.pc_refusals.specs.Verdict.{IsAccepting};
 ghost use Rattle.pc_top.specs.CoreOf.{HasIsolatedCore, HasSafeCore, IsDerivable, IsUnderivable};
 ghost use Rattle.pc_call.specs.Answers.{Answers, buffer};
 ghost use Rattle.pc_call.specs.Points.{PointsIntoSource};
-ghost use Rattle.pc_call.specs.Verdicts.{IsChecked, IsSendsOf, IsShown};
+ghost use Rattle.pc_call.specs.Verdicts.{IsChecked, IsPlacesOf, IsSendsOf, IsShown};
 
 use crate::Answer;
 use crate::asking::ask;
@@ -47,6 +47,28 @@ pub fn show(alloc: Global, source: &[u8], out: &mut [u8], err: &mut [u8], answer
     ask(
         alloc,
         &["show", "source"],
+        source,
+        Beside::Nothing,
+        out,
+        err,
+        answer,
+    )
+}
+
+/// Writes the entities, fields, methods, slots and nodes of the source's core, with their places in it.
+pub fn places(
+    alloc: Global,
+    source: &[u8],
+    out: &mut [u8],
+    err: &mut [u8],
+    answer: &mut Answer,
+) -> u8
+    ensures { Answers (IsPlacesOf source.now) (PointsIntoSource source.now) result (buffer out.old out.new answer.new.out_length) (buffer err.old err.new answer.new.err_length) answer.new.place }
+{
+    written_forms_are_taken();
+    ask(
+        alloc,
+        &["places", "source"],
         source,
         Beside::Nothing,
         out,

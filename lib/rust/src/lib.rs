@@ -11,7 +11,7 @@ pub enum Status {
     Done,
     /// The source has no derivation.
     NoDerivation,
-    /// The place given to `swap` is none.
+    /// The place or the count that is given is none.
     NoCommand,
     /// The source has no tokens, or its tokens no tree.
     BadSyntax,
@@ -146,6 +146,48 @@ pub fn swap(source: &[u8], schedule: &[u8], place: u32) -> Answer {
     })
 }
 
+/// Writes the entities, fields, methods, slots and nodes of the source's core, with their places in it.
+pub fn places(source: &[u8]) -> Answer {
+    ask_source(calls::rcap_places, source)
+}
+
+/// Checks the source, and writes each event of its run over the schedule, with its clock.
+pub fn events(source: &[u8], schedule: &[u8]) -> Answer {
+    ask_both(calls::rcap_events, source, schedule)
+}
+
+/// Checks the source, and writes the schedule that a seed chooses for it.
+pub fn schedule(source: &[u8], seed: u64) -> Answer {
+    ask_number(calls::rcap_schedule, source, seed)
+}
+
+/// Checks the source, and writes what it prints over the schedule that a seed chooses.
+pub fn play(source: &[u8], seed: u64) -> Answer {
+    ask_number(calls::rcap_play, source, seed)
+}
+
+/// Checks the source, and writes each different outcome of the plays of the seeds below a count once.
+pub fn outcomes(source: &[u8], count: u32) -> Answer {
+    ask_number(calls::rcap_outcomes, source, count)
+}
+
+/// Makes a call of a source and a number.
+fn ask_number<N: Copy>(call: calls::OfNumber<N>, source: &[u8], number: N) -> Answer {
+    // SAFETY: see `ask`.
+    ask(&|out, err, answer| unsafe {
+        call(
+            source.as_ptr(),
+            source.len(),
+            number,
+            out.as_mut_ptr(),
+            out.len(),
+            err.as_mut_ptr(),
+            err.len(),
+            answer,
+        )
+    })
+}
+
 /// Makes a call of a source.
 fn ask_source(call: calls::OfSource, source: &[u8]) -> Answer {
     // SAFETY: see `ask`.
@@ -242,6 +284,8 @@ mod calls {
 
     pub type OfSource = unsafe extern "C" fn(*const u8, usize, *mut u8, usize, *mut u8, usize, *mut Answer) -> u8;
 
+    pub type OfNumber<N> = unsafe extern "C" fn(*const u8, usize, N, *mut u8, usize, *mut u8, usize, *mut Answer) -> u8;
+
     pub type OfBoth =
         unsafe extern "C" fn(*const u8, usize, *const u8, usize, *mut u8, usize, *mut u8, usize, *mut Answer) -> u8;
 
@@ -324,6 +368,56 @@ mod calls {
             schedule: *const u8,
             schedule_length: usize,
             place: u32,
+            out: *mut u8,
+            out_capacity: usize,
+            err: *mut u8,
+            err_capacity: usize,
+            answer: *mut Answer,
+        ) -> u8;
+        pub fn rcap_schedule(
+            source: *const u8,
+            source_length: usize,
+            seed: u64,
+            out: *mut u8,
+            out_capacity: usize,
+            err: *mut u8,
+            err_capacity: usize,
+            answer: *mut Answer,
+        ) -> u8;
+        pub fn rcap_play(
+            source: *const u8,
+            source_length: usize,
+            seed: u64,
+            out: *mut u8,
+            out_capacity: usize,
+            err: *mut u8,
+            err_capacity: usize,
+            answer: *mut Answer,
+        ) -> u8;
+        pub fn rcap_outcomes(
+            source: *const u8,
+            source_length: usize,
+            count: u32,
+            out: *mut u8,
+            out_capacity: usize,
+            err: *mut u8,
+            err_capacity: usize,
+            answer: *mut Answer,
+        ) -> u8;
+        pub fn rcap_places(
+            source: *const u8,
+            source_length: usize,
+            out: *mut u8,
+            out_capacity: usize,
+            err: *mut u8,
+            err_capacity: usize,
+            answer: *mut Answer,
+        ) -> u8;
+        pub fn rcap_events(
+            source: *const u8,
+            source_length: usize,
+            schedule: *const u8,
+            schedule_length: usize,
             out: *mut u8,
             out_capacity: usize,
             err: *mut u8,
