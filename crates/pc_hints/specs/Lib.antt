@@ -1,0 +1,4 @@
+pub mod Choice
+pub mod Hints
+pub mod Laws
+pub mod Nodes

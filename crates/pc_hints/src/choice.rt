@@ -1,0 +1,440 @@
+//! What to do about each condition that does not hold.
+ghost use Rattle.std.specs.Prelude.{◌≡◌, slice_get};
+ghost use Rattle.pc_hints.specs.Choice as spec;
+ghost use Rattle.pc_hints.specs.Nodes.{child_node as node_is};
+ghost use Rattle.pc_sentences.specs.Sentences.{is_assign as is_assign_is};
+
+use crate::hint::Hint;
+use crate::nodes::{
+    child_node, is_assigned, is_box_this, is_new, is_tag_this, local_cap, old_form,
+};
+use pc_caps::{Cap, Form, below, fits, unalias};
+use pc_conditions::Condition;
+use pc_core::{Core, Node, NodeKind};
+use pc_parts::{Role, child_role};
+use pc_sentences::{Stop, lost_slot};
+use pc_tree::EntityKind;
+
+const STRING: u32 = 3;
+
+/// What the form of a part must be.
+#[derive(Clone, Copy)]
+pub enum Wanted {
+    /// It fits this capability.
+    Fits(Cap),
+    /// It is below this form.
+    Below(Form),
+}
+
+fn when(holds: bool, hint: Hint) -> Option<Hint>
+    ensures { result ≡ spec.when holds hint }
+{
+    if holds { Some(hint) } else { None }
+}
+
+// The first, or else the other.
+fn or_else(first: Option<Hint>, other: Option<Hint>) -> Option<Hint>
+    ensures { result ≡ spec.or_else first other }
+{
+    match first {
+        Some(hint) => Some(hint),
+        None => other,
+    }
+}
+
+// The first, or else this one.
+fn or_this(first: Option<Hint>, other: Hint) -> Hint
+    ensures { result ≡ spec.or_this first other }
+{
+    match first {
+        Some(hint) => hint,
+        None => other,
+    }
+}
+
+// Whether a form is as it must be.
+fn suits(wanted: Wanted, form: Form) -> bool
+    ensures { result ≡ spec.suits wanted form }
+{
+    match wanted {
+        Wanted::Fits(cap) => fits(form, cap),
+        Wanted::Below(upper) => below(form, upper),
+    }
+}
+
+// The hint to consume a part, or a receiver.
+fn consume_hint(receiver: bool, index: usize, own: Cap) -> Hint
+    ensures { result ≡ spec.consume_hint receiver index own }
+{
+    if receiver {
+        Hint::ConsumeReceiver(index, own)
+    } else {
+        Hint::Consume(index, own)
+    }
+}
+
+// A local of iso or trn is consumed, if what it gives suits.
+fn consume_if(wanted: Wanted, receiver: bool, index: usize, own: Option<Cap>) -> Option<Hint>
+    ensures { result ≡ spec.consume_if wanted receiver index own }
+{
+    match own {
+        Some(found) => when(
+            suits(wanted, unalias(found)),
+            consume_hint(receiver, index, found),
+        ),
+        None => None,
+    }
+}
+
+// The old value of a `var` field is taken, if it fits.
+fn old_if(index: usize, cap: Cap, old: Option<Form>) -> Option<Hint>
+    ensures { result ≡ spec.old_if index cap old }
+{
+    match old {
+        Some(found) => when(fits(found, cap), Hint::OldValue(index, found)),
+        None => None,
+    }
+}
+
+// `this` of box is declared ref, or else val, if that suits.
+fn declare_if(own_box: bool, wanted: Wanted) -> Option<Hint>
+    ensures { result ≡ spec.declare_if own_box wanted }
+{
+    or_else(
+        when(
+            own_box && suits(wanted, Form::Ref),
+            Hint::DeclareFunction(Cap::Ref),
+        ),
+        when(
+            own_box && suits(wanted, Form::Val),
+            Hint::DeclareFunction(Cap::Val),
+        ),
+    )
+}
+
+fn is_ref_form(form: Form) -> bool
+    ensures { result ≡ spec.is_ref_form form }
+{
+    matches!(form, Form::Ref)
+}
+
+fn is_mutable_form(form: Form) -> bool
+    ensures { result ≡ spec.is_mutable_form form }
+{
+    matches!(form, Form::Ref | Form::Trn)
+}
+
+fn is_recovered_cap(cap: Cap) -> bool
+    ensures { result ≡ spec.is_recovered_cap cap }
+{
+    matches!(cap, Cap::Iso | Cap::Val)
+}
+
+// What to do about an object.
+fn object_hint(index: usize, node: &Node, form: Form, cap: Cap) -> Hint
+    ensures { result ≡ spec.object_hint index node.now form cap }
+{
+    if is_new(&node.kind) && (is_ref_form(form) && fits(Form::IsoE, cap)) {
+        Hint::RecoverNew(index)
+    } else if is_mutable_form(form) && is_recovered_cap(cap) {
+        Hint::RecoverObject
+    } else {
+        Hint::GoesTo(form)
+    }
+}
+
+// What to do about a part that shows this node, and whose form does not fit.
+fn fitting_node(stop: &Stop, index: usize, cap: Cap, node: &Node, form: Form) -> Hint
+    ensures { result ≡ spec.fitting_node stop.now index cap node.now form }
+{
+    let wanted = Wanted::Fits(cap);
+    let consumed = consume_if(wanted, false, index, local_cap(stop, node));
+    let old = old_if(index, cap, old_form(stop, node));
+    let declared = declare_if(is_box_this(stop, node, form), wanted);
+    or_this(
+        consumed,
+        or_this(old, or_this(declared, object_hint(index, node, form, cap))),
+    )
+}
+
+// What to do about a part whose form does not fit.
+fn fitting(stop: &Stop, index: usize, cap: Cap) -> Option<Hint>
+    ensures { result ≡ spec.fitting stop.now index cap }
+{
+    match child_node(stop, index) {
+        Some(node) => Some(fitting_node(stop, index, cap, node, stop.child_form(index))),
+        None => None,
+    }
+}
+
+fn is_seen_form(form: Form) -> bool
+    ensures { result ≡ spec.is_seen_form form }
+{
+    matches!(form, Form::Box | Form::Val)
+}
+
+fn is_ref_cap(cap: Cap) -> bool
+    ensures { result ≡ spec.is_ref_cap cap }
+{
+    matches!(cap, Cap::Ref)
+}
+
+// What to do about a receiver that shows this node, and whose form does not fit.
+fn receiver_node(stop: &Stop, index: usize, cap: Cap, node: &Node, form: Form) -> Option<Hint>
+    ensures { result ≡ spec.receiver_node stop.now index cap node.now form }
+{
+    let wanted = Wanted::Fits(cap);
+    let consumed = consume_if(wanted, true, index, local_cap(stop, node));
+    let declared = declare_if(is_box_this(stop, node, form), wanted);
+    let seen = when(is_seen_form(form) && is_ref_cap(cap), Hint::DeclareBox);
+    or_else(consumed, or_else(declared, seen))
+}
+
+// What to do about a receiver whose form does not fit.
+fn receiver(stop: &Stop, index: usize, cap: Cap) -> Option<Hint>
+    ensures { result ≡ spec.receiver stop.now index cap }
+{
+    match child_node(stop, index) {
+        Some(node) => receiver_node(stop, index, cap, node, stop.child_form(index)),
+        None => None,
+    }
+}
+
+fn unfit(stop: &Stop, index: usize, cap: Cap) -> Option<Hint>
+    ensures { result ≡ spec.unfit stop.now index cap }
+{
+    match child_role(stop.node(), index) {
+        Role::Receiver => receiver(stop, index, cap),
+        Role::Value
+        | Role::Origin
+        | Role::Argument(_)
+        | Role::Left
+        | Role::Right
+        | Role::Operand
+        | Role::Condition
+        | Role::Body
+        | Role::Last
+        | Role::Unseen => fitting(stop, index, cap),
+    }
+}
+
+// What to do about a value that shows this node, and whose form is not below that of the result.
+fn below_node(stop: &Stop, index: usize, upper: Form, node: &Node, form: Form) -> Hint
+    ensures { result ≡ spec.below_node stop.now index upper node.now form }
+{
+    let wanted = Wanted::Below(upper);
+    let declared = declare_if(is_box_this(stop, node, form), wanted);
+    let consumed = consume_if(wanted, false, index, local_cap(stop, node));
+    let recovered = when(
+        is_ref_form(form) && below(Form::IsoE, upper),
+        Hint::RecoverObject,
+    );
+    or_this(
+        declared,
+        or_this(consumed, or_this(recovered, Hint::DeclareResult(index))),
+    )
+}
+
+fn not_below(stop: &Stop, index: usize, upper: Form) -> Option<Hint>
+    ensures { result ≡ spec.below stop.now index upper }
+{
+    match child_node(stop, index) {
+        Some(node) => Some(below_node(stop, index, upper, node, stop.child_form(index))),
+        None => None,
+    }
+}
+
+fn is_condition(role: Role) -> bool
+    ensures { result ≡ spec.is_condition role }
+{
+    matches!(role, Role::Condition)
+}
+
+// Whether the entity is that of numbers or of truth values.
+fn is_plain(ty: Option<(u32, Form)>) -> bool
+    ensures { result ≡ spec.is_plain ty }
+{
+    match ty {
+        Some(found) => found.0 == 1 || found.0 == 2,
+        None => false,
+    }
+}
+
+fn entity_hint(stop: &Stop, index: usize, other: u32) -> Option<Hint>
+    ensures { result ≡ spec.entity stop.now index other }
+{
+    let assigned = is_condition(child_role(stop.node(), index)) && is_assigned(stop, index);
+    or_else(
+        when(assigned, Hint::Compare),
+        when(
+            other == STRING && is_plain(stop.child_type(index)),
+            Hint::ToString,
+        ),
+    )
+}
+
+// Whether the entity of this number is a trait.
+fn is_trait(core: &Core, entity: u32) -> bool
+    ensures { result ≡ spec.is_trait (slice_get core.now.entities entity) }
+{
+    match core.entity_at(entity) {
+        Some(found) => matches!(found.kind, EntityKind::Trait),
+        None => false,
+    }
+}
+
+fn has_method(core: &Core, entity: Option<u32>, name: u32) -> bool
+    ensures { result ≡ spec.has_method core.now entity name }
+{
+    match entity {
+        Some(number) => core.method(number, name).is_some(),
+        None => false,
+    }
+}
+
+fn has_field(core: &Core, entity: Option<u32>, name: u32) -> bool
+    ensures { result ≡ spec.has_field core.now entity name }
+{
+    match entity {
+        Some(number) => core.field(number, name).is_some(),
+        None => false,
+    }
+}
+
+fn entity_in(ty: Option<(u32, Form)>) -> Option<u32>
+    ensures { result ≡ spec.entity_in ty }
+{
+    match ty {
+        Some(found) => Some(found.0),
+        None => None,
+    }
+}
+
+// The entity of the method of this number.
+fn entity_by(core: &Core, method: u32) -> Option<u32>
+    ensures { result ≡ spec.entity_by (slice_get core.now.methods method) }
+{
+    match core.method_at(method) {
+        Some(found) => Some(found.entity),
+        None => None,
+    }
+}
+
+fn tag_hint(stop: &Stop) -> Hint
+    ensures { result ≡ spec.tag_hint stop.now }
+{
+    if stop.node().depth > 0 {
+        Hint::TagInRecover
+    } else {
+        Hint::TagUntilSet
+    }
+}
+
+// Whether the child is `this` of box in a function of box.
+fn shows_box(stop: &Stop, index: usize) -> bool
+    ensures { result ≡ spec.shows_box stop.now index (node_is stop.now index) }
+{
+    match child_node(stop, index) {
+        Some(node) => is_box_this(stop, node, stop.child_form(index)),
+        None => false,
+    }
+}
+
+fn writable(stop: &Stop, index: usize) -> Option<Hint>
+    ensures { result ≡ spec.writable stop.now index }
+{
+    or_else(
+        when(shows_box(stop, index), Hint::DeclareFunction(Cap::Ref)),
+        when(is_tag_this(stop, index), tag_hint(stop)),
+    )
+}
+
+fn entered_cap(origin: Form) -> Cap
+    ensures { result ≡ spec.entered_cap origin }
+{
+    match origin {
+        Form::Trn | Form::TrnE => Cap::Trn,
+        Form::Iso | Form::IsoE | Form::Ref | Form::Val | Form::Box | Form::Tag => Cap::Iso,
+    }
+}
+
+fn is_assign(kind: &NodeKind) -> bool
+    ensures { result ≡ is_assign_is kind.now }
+{
+    matches!(kind, NodeKind::Assign(_))
+}
+
+fn reached(assigned: bool) -> Hint
+    ensures { result ≡ spec.reached assigned }
+{
+    if assigned {
+        Hint::GiveOut
+    } else {
+        Hint::MakeInside
+    }
+}
+
+fn variable(param: bool, slot: u32) -> Hint
+    ensures { result ≡ spec.variable param slot }
+{
+    if param {
+        Hint::CopyFirst
+    } else {
+        Hint::DeclareSlot(slot)
+    }
+}
+
+/// What to do about a condition that does not hold, if anything is said.
+pub fn chosen(stop: &Stop, condition: Condition) -> Option<Hint>
+    ensures { result ≡ spec.chosen stop.now condition }
+{
+    let core = stop.core();
+    let node = stop.node();
+    match condition {
+        Condition::Under(child, entity) => when(is_trait(core, entity), Hint::SayIs(child, entity)),
+        Condition::Fits(child, cap) => unfit(stop, child, cap),
+        Condition::Below(child, form) => not_below(stop, child, form),
+        Condition::IsA(child, entity) => entity_hint(stop, child, entity),
+        Condition::Comparable(_) => Some(Hint::CompareObjects),
+        Condition::Live(slot) => Some(Hint::UseBefore(slot)),
+        Condition::Reached(_) => Some(reached(is_assign(&node.kind))),
+        Condition::Variable(slot) => {
+            Some(variable(stop.scene().is_param(node.method, slot), slot))
+        }
+        Condition::HasField(child, name) => when(
+            has_method(core, entity_in(stop.child_type(child)), name),
+            Hint::CallMethod(name),
+        ),
+        Condition::HasOwnField(name) => when(
+            has_method(core, entity_by(core, node.method), name),
+            Hint::CallMethod(name),
+        ),
+        Condition::Seen(child, _) => when(is_tag_this(stop, child), tag_hint(stop)),
+        Condition::NotFixed(_) => Some(Hint::DeclareField),
+        Condition::Writable(child, _) => writable(stop, child),
+        Condition::Enters(_) => fitting(stop, 0, entered_cap(stop.child_form(1))),
+        Condition::Set(field) => Some(Hint::SetBefore(field)),
+        Condition::SetOnce(_, field) => Some(Hint::DeclareOwnField(field)),
+        Condition::HasMethod(name) => when(
+            has_field(
+                core,
+                entity_in(stop.child_type(stop.receiver_index())),
+                name,
+            ),
+            Hint::CallValue(name),
+        ),
+        Condition::Function(_) => Some(Hint::CallConstructor),
+        Condition::Sent(_, _) => Some(Hint::SendArgument),
+        Condition::KeepsLive => Some(Hint::ConsumeAfter(lost_slot(stop))),
+        Condition::KeepsSet => Some(Hint::SetBeforeLoop),
+        Condition::Lifted(_) => Some(Hint::RecoverValue),
+        Condition::Typed(_)
+        | Condition::Printable(_)
+        | Condition::Readable(_)
+        | Condition::Behaviour(_)
+        | Condition::Counted(_, _)
+        | Condition::Unfit(_, _)
+        | Condition::Isolated(_)
+        | Condition::Lent(_) => None,
+    }
+}

@@ -1,0 +1,16 @@
+//! What to do about a condition that does not hold.
+//!
+//! Proved: `chosen` gives the hint of its definition, and `push_hint` appends exactly its words, or memory ran out. What a hint
+//! promises fits what it is proposed for (`hints_fit`): it promises the condition, and not that the program is accepted then.
+#![tactic(auto)]
+
+mod choice;
+mod hint;
+mod hints;
+mod laws;
+mod nodes;
+
+pub use choice::{Wanted, chosen};
+pub use hint::Hint;
+pub use hints::push_hint;
+pub use laws::hints_fit;
