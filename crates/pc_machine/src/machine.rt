@@ -1,8 +1,7 @@
 //! The machine.
-ghost use Rattle.std.specs.Prelude.{◌≡◌, ◌<◌, length, slice_get, option_copied, IfOk, OnErr};
+ghost use Rattle.std.specs.Prelude.{◌≡◌, ◌<◌, length, IfOk, OnErr};
 ghost use Rattle.std.specs.FinMap.{len};
 ghost use Rattle.pc_heap.specs.Heaps.{object_limit};
-ghost use Rattle.pc_heap.specs.Objects.{class_at};
 ghost use Rattle.pc_semantics.specs.Ahead.{ahead_of as next_step};
 ghost use Rattle.pc_semantics.specs.Configurations as configurations;
 ghost use Rattle.pc_semantics.specs.Safety as safety;
@@ -17,8 +16,7 @@ use crate::state::State;
 use crate::step::advance;
 use pc_caps::List;
 use pc_core::Core;
-use pc_heap::Address;
-use pc_semantics::{Access, Actor, Ahead, Outcome};
+use pc_semantics::{Access, Ahead, Outcome};
 use std::alloc::{AllocError, Global};
 use std::marker::Model;
 
@@ -79,20 +77,6 @@ impl<'p> Machine<'p> {
         ensures { result ≡ next_step self.now.core self.now.configuration actor }
     {
         ahead_of(self.core, &self.state, actor)
-    }
-
-    /// The messages that wait for an actor, and what it is doing. `None` iff there is no such actor. It does not allocate.
-    pub fn actor(&self, actor: u32) -> Option<&Actor>
-        ensures { option_copied result ≡ slice_get self.now.configuration.actors actor }
-    {
-        self.state.actors.get(actor as usize)
-    }
-
-    /// The entity of the object at an address. `None` iff there is no object. It does not allocate.
-    pub fn class_of(&self, address: Address) -> Option<u32>
-        ensures { result ≡ class_at self.now.configuration.objects address }
-    {
-        self.state.heap.class_of(address)
     }
 
     /// The texts that were printed, in order. It takes no memory, like the calls below.
