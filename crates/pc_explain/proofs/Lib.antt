@@ -1,5 +1,0 @@
-mod Lengths
-mod Made
-mod OneText
-mod Reasons
-mod SameLists
