@@ -33,7 +33,7 @@ condition_or_none (suc i) = role.Unseen
 abbrev pub argument_or_receiver : (count index : ℕ) → Role
 argument_or_receiver n i = if nat_eq (i + 1) n then role.Receiver else role.Argument i
 
--- The role of the child of this index, of so many.
+-- The role of the child of this index, by the number of children.
 abbrev pub role_of : NodeKind → (count index : ℕ) → Role
 role_of (node.Field name) n i = role.Origin
 role_of (node.SetField name) n i = value_or_origin i
@@ -94,7 +94,7 @@ abbrev pub last_or : ℕ → Option ℕ → ℕ
 last_or n None = n
 last_or n (Some c) = c
 
--- The last item of a sequence, through so many sequences. Of what is no sequence it is the node itself.
+-- The last item of a sequence, through at most this number of sequences. Of what is no sequence it is the node itself.
 abbrev pub last_item : CoreData → (depth : ℕ) → ℕ → ℕ
 last_item core zero n = n
 last_item core (suc d) n = last_item core d (last_or n (last_of_seq (slice_get core.nodes n)))

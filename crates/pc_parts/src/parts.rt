@@ -64,7 +64,7 @@ fn argument_or_receiver(count: usize, index: usize) -> Role
     }
 }
 
-// The role of the child of this index, of so many.
+// The role of the child of this index, by the number of children.
 fn role_of(kind: &NodeKind, count: usize, index: usize) -> Role
     ensures { result ≡ spec.role_of kind.now count index }
 {

@@ -29,7 +29,7 @@ consumed_at st k = last_consume st.at.method k None (take st.number st.scene.cor
 
 -- ---- what a loop does not keep
 
--- The least number from this one on that passes, among so many, or 0.
+-- The first that passes of this count of numbers, from this one on, or 0.
 abbrev pub least : (ℕ → Bool) → (count from : ℕ) → ℕ
 least p zero k = 0
 least p (suc n) k = if p k then k else least p n (k + 1)

@@ -95,7 +95,7 @@ abbrev pub step_from : ℕ → Option Step → ℕ
 step_from n None = n
 step_from n (Some t) = step_to t
 
--- So many steps to the part by which node n has no type, and that part's own reason.
+-- The steps, at most this number, to the part by which node n has no type, and that part's own reason.
 abbrev pub reason_from : SceneData → (depth : ℕ) → ℕ → Text
 reason_from s zero n = own_reason s (slice_get s.core.nodes n)
 reason_from s (suc d) n = step_text (step_of s (slice_get s.core.nodes n)) ++ reason_from s d (step_from n (step_of s (slice_get s.core.nodes n)))

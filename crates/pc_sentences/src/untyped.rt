@@ -266,7 +266,7 @@ fn push_own_reason(
     }
 }
 
-// Appends so many steps to the part by which a node has no type, and that part's own reason.
+// Appends the steps, at most this number, to the part by which a node has no type, and that part's own reason.
 #[tactic(auto, using(crate::proofs::Reasons::stops, crate::proofs::Reasons::none_left))]
 fn push_reason_from(
     alloc: Global,

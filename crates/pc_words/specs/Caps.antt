@@ -56,7 +56,7 @@ taking f = filter (λ k. fits f k) caps
 
 -- ---- one after the other: `A`, `A or B`, `A, B or C`
 
--- What stands after one of them, if so many are left.
+-- What follows one of them, by the number of those that are left.
 abbrev pub after_one : (left : ℕ) → Text
 after_one zero = []
 after_one (suc zero) = codes " or "

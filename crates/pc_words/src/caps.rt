@@ -94,7 +94,7 @@ fn taking(form: Form) -> &'static [Cap]
     }
 }
 
-// What stands after one of them, if so many are left.
+// What follows one of them, by the number of those that are left.
 fn after_one(left: usize) -> &'static [u8]
     ensures { result.now ≡ spec.after_one left }
 {
