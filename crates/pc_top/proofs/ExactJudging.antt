@@ -32,8 +32,8 @@ module _ (shown : Ann → Text) (file derivation : Named) (bytes text : Text) (t
   done_says v e is =
       let d = derivation_derives shown file derivation v (inl e) is in
       let both : IfSome file.told (λ b. IfSome derivation.told (IsDerivationOf b)) =
-          of_source (λ b. IfSome derivation.told (IsDerivationOf b)) file d.reading d.source d.is_reading d.passes
-          (of_told (IsDerivationOf d.source.bytes) derivation.told d.bytes (d.source.core, (source_says d.passes).1, d.ann, d.is_text, d.valid) d.of_file) in
+      of_source (λ b. IfSome derivation.told (IsDerivationOf b)) file d.reading d.source d.is_reading d.passes
+      (of_told (IsDerivationOf d.source.bytes) derivation.told d.bytes (d.source.core, (source_says d.passes).1, d.ann, d.is_text, d.valid) d.of_file) in
       let one : IfSome derivation.told (IsDerivationOf bytes) = subst (λ (o : Option Text). IfSome o (λ b. IfSome derivation.told (IsDerivationOf b))) tells both in
       subst (λ (o : Option Text). IfSome o (IsDerivationOf bytes)) tells_text one
 
@@ -70,13 +70,15 @@ pub judged_exact : VerdictIsOne → JudgedAreExact
 judged_exact one = record {
   judged = λ files words source derivation bytes text v r.
       let file = named files source in
-      let parts = in_parts (named files derivation) in
-      (λ e. done_says (λ ann. accepted_text) file parts bytes text r.tells r.tells_text v e (own one files words (judge source derivation) source derivation bytes text v r refl),
-      λ d. ap (λ (x : Verdict). x.status) (the_one one files words (judge source derivation) source derivation bytes text v r refl (done accepted_text) (says_done (λ ann. accepted_text) file parts bytes text r.tells r.tells_text d)));
+      let parts = in_parts (named files derivation) in (
+        λ e. done_says (λ ann. accepted_text) file parts bytes text r.tells r.tells_text v e (own one files words (judge source derivation) source derivation bytes text v r refl),
+        λ d. ap (λ (x : Verdict). x.status) (the_one one files words (judge source derivation) source derivation bytes text v r refl (done accepted_text) (says_done (λ ann. accepted_text) file parts bytes text r.tells r.tells_text d)),
+      );
   upgraded = λ files words source derivation bytes text v r.
       let file = named files source in
       let other = named files derivation in
-      let shown = deriv_text version.Two in
-      (λ e. done_says shown file other bytes text r.tells r.tells_text v e (own one files words (upgrade source derivation) source derivation bytes text v r refl),
-      λ d. ap (λ (x : Verdict). x.status) (the_one one files words (upgrade source derivation) source derivation bytes text v r refl (done (shown d.2)) (says_done shown file other bytes text r.tells r.tells_text d)));
+      let shown = deriv_text version.Two in (
+        λ e. done_says shown file other bytes text r.tells r.tells_text v e (own one files words (upgrade source derivation) source derivation bytes text v r refl),
+        λ d. ap (λ (x : Verdict). x.status) (the_one one files words (upgrade source derivation) source derivation bytes text v r refl (done (shown d.2)) (says_done shown file other bytes text r.tells r.tells_text d)),
+      );
 }
