@@ -6,8 +6,8 @@ use Rattle.clap.specs.Walk.{answers_to, stop_after}
 use Rattle.clap.specs.Words.{Row, fault_of, subcommand_of, takes}
 use Rattle.clap.proofs.OnLiterals.{clap_on_literals}
 use Rattle.pc_lists.specs.Texts.{Text}
-use Rattle.pc_args.specs.Asked.{Asked, check, command_of, events, has_fault, is_refused, judge, make, named, outcomes, places, play, run, schedule_of, sends, show, swap, trace, upgrade}
-use Rattle.pc_args.specs.Forms.{AskFor, WrittenFormsAreTaken, check_words, events_words, is_plain, judge_words, make_words, outcomes_words, places_words, play_words, run_words, schedule_words, sends_words, show_words, swap_words, trace_words, upgrade_words}
+use Rattle.pc_args.specs.Asked.{Asked, check, command_of, events, explain, has_fault, is_refused, judge, make, named, outcomes, places, play, run, schedule_of, sends, show, swap, trace, upgrade}
+use Rattle.pc_args.specs.Forms.{AskFor, WrittenFormsAreTaken, check_words, events_words, explain_words, is_plain, judge_words, make_words, outcomes_words, places_words, play_words, run_words, schedule_words, sends_words, show_words, swap_words, trace_words, upgrade_words}
 use Rattle.pc_args.specs.Line.{rcap}
 use Rattle.std.proofs.lemmas.Bool.{not-true}
 
@@ -90,6 +90,14 @@ places_found : (c : ℕ) (rest : Text) → nat_eq c 45 ≡ false → option_and_
 unfolding clap_on_literals
 places_found c rest plain = simp plain refl
 
+explain_taken : (c : ℕ) (rest : Text) → nat_eq c 45 ≡ false → takes rcap (explain_words (c ∷ rest)) ≡ true
+unfolding clap_on_literals
+explain_taken c rest plain = simp plain refl
+
+explain_found : (c : ℕ) (rest : Text) → nat_eq c 45 ≡ false → option_and_then named (subcommand_of rcap (explain_words (c ∷ rest))) ≡ Some (explain (c ∷ rest))
+unfolding clap_on_literals
+explain_found c rest plain = simp plain refl
+
 sends_taken : (c : ℕ) (rest : Text) → nat_eq c 45 ≡ false → takes rcap (sends_words (c ∷ rest)) ≡ true
 unfolding clap_on_literals
 sends_taken c rest plain = simp plain refl
@@ -163,6 +171,11 @@ places_asks : (c : ℕ) (rest : Text) → nat_eq c 45 ≡ false → AskFor (plac
 places_asks c rest plain =
     let t = places_taken c rest plain in
     (t, read_from (places_words (c ∷ rest)) (places (c ∷ rest)) t (places_found c rest plain))
+
+explain_asks : (c : ℕ) (rest : Text) → nat_eq c 45 ≡ false → AskFor (explain_words (c ∷ rest)) (explain (c ∷ rest))
+explain_asks c rest plain =
+    let t = explain_taken c rest plain in
+    (t, read_from (explain_words (c ∷ rest)) (explain (c ∷ rest)) t (explain_found c rest plain))
 
 sends_asks : (c : ℕ) (rest : Text) → nat_eq c 45 ≡ false → AskFor (sends_words (c ∷ rest)) (sends (c ∷ rest))
 sends_asks c rest plain =
@@ -258,6 +271,12 @@ placings (c ∷ rest) e =
     let plain : nat_eq c 45 ≡ false = not-true (nat_eq c 45) e in
     places_asks c rest plain
 
+explanations : (source : Text) → is_plain source ≡ true → AskFor (explain_words source) (explain source)
+explanations [] e = let bad : false ≡ true = e in cc
+explanations (c ∷ rest) e =
+    let plain : nat_eq c 45 ≡ false = not-true (nat_eq c 45) e in
+    explain_asks c rest plain
+
 sendings : (source : Text) → is_plain source ≡ true → AskFor (sends_words source) (sends source)
 sendings [] e = let bad : false ≡ true = e in cc
 sendings (c ∷ rest) e =
@@ -297,7 +316,7 @@ tables (c ∷ rest) (d ∷ more) e f =
     outcomes_asks c d rest more plain also
 
 pub forms_taken : WrittenFormsAreTaken
-forms_taken = record { checks = checks; judges = judges; runs = runs; shows = shows; makes = makes; swaps = swaps; traces = traces; sendings = sendings; upgrades = upgrades; schedules = schedules; plays = plays; tables = tables; placings = placings; tellings = tellings }
+forms_taken = record { checks = checks; judges = judges; runs = runs; shows = shows; makes = makes; swaps = swaps; traces = traces; sendings = sendings; upgrades = upgrades; schedules = schedules; plays = plays; tables = tables; placings = placings; explanations = explanations; tellings = tellings }
 
 -- ---- each subcommand asks for something
 
@@ -366,8 +385,11 @@ places_known rows e = cc
 events_known : Asks (codes "events")
 events_known rows e = cc
 
+explain_known : Asks (codes "explain")
+explain_known rows e = cc
+
 -- Words that ask for nothing have no subcommand.
 pub nothing_asked : (words : List Text) → option_and_then named (subcommand_of rcap words) ≡ None → subcommand_of rcap words ≡ None
 nothing_asked words e =
     let stop = stop_after (built rcap).top.rules (names_of (built rcap)) (argument_words rcap words) in
-    enters (built rcap) stop (check_known, (judge_known, (run_known, (show_known, (make_known, (swap_known, (trace_known, (sends_known, (upgrade_known, (schedule_known, (play_known, (outcomes_known, (places_known, (events_known, tt)))))))))))))) e
+    enters (built rcap) stop (check_known, (judge_known, (run_known, (show_known, (make_known, (swap_known, (trace_known, (sends_known, (upgrade_known, (schedule_known, (play_known, (outcomes_known, (places_known, (events_known, (explain_known, tt))))))))))))))) e

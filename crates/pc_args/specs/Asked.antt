@@ -7,7 +7,7 @@ use Rattle.clap.specs.Words.{Row, fault_of, first_of, subcommand_of, takes}
 use Rattle.pc_lists.specs.Texts.{Text}
 use Rattle.pc_args.specs.Line.{rcap}
 use Rattle.pc_args.specs.declared.words.Command.{Command}
-use Rattle.pc_args.specs.declared.words.Command.TheVariants.{Check, Judge, Run, Show, Make, Swap, Trace, Sends, Upgrade, Schedule, Play, Outcomes, Places, Events}
+use Rattle.pc_args.specs.declared.words.Command.TheVariants.{Check, Judge, Run, Show, Make, Swap, Trace, Sends, Upgrade, Schedule, Play, Outcomes, Places, Events, Explain}
 
 -- the words, each as its bytes
 abbrev pub texts : List (Bor Text) → List Text
@@ -24,6 +24,7 @@ pub data Asked : Type 0 where
   trace : Text → Text → Asked
   events : Text → Text → Asked
   places : Text → Asked
+  explain : Text → Asked
   sends : Text → Asked
   upgrade : Text → Text → Asked
   schedule_of : Text → Text → Asked
@@ -40,6 +41,7 @@ asked_by (Swap source schedule place) = swap source.now schedule.now place.now
 asked_by (Trace source schedule) = trace source.now schedule.now
 asked_by (Events source schedule) = events source.now schedule.now
 asked_by (Places source) = places source.now
+asked_by (Explain source) = explain source.now
 asked_by (Sends source) = sends source.now
 asked_by (Upgrade source derivation) = upgrade source.now derivation.now
 asked_by (Schedule source seed) = schedule_of source.now seed.now
@@ -61,6 +63,7 @@ named p = if bytes_eq p.0 (codes "check") then Some (check (value (codes "SRC") 
     else if bytes_eq p.0 (codes "trace") then Some (trace (value (codes "SRC") p.1) (value (codes "SCHED") p.1))
     else if bytes_eq p.0 (codes "events") then Some (events (value (codes "SRC") p.1) (value (codes "SCHED") p.1))
     else if bytes_eq p.0 (codes "places") then Some (places (value (codes "SRC") p.1))
+    else if bytes_eq p.0 (codes "explain") then Some (explain (value (codes "SRC") p.1))
     else if bytes_eq p.0 (codes "sends") then Some (sends (value (codes "SRC") p.1))
     else if bytes_eq p.0 (codes "upgrade") then Some (upgrade (value (codes "SRC") p.1) (value (codes "DERIV") p.1))
     else if bytes_eq p.0 (codes "schedule") then Some (schedule_of (value (codes "SRC") p.1) (value (codes "SEED") p.1))

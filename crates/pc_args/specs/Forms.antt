@@ -2,7 +2,7 @@
 use Rattle.std.specs.Prelude.{◌≡◌, ◌==◌, Bool, true, false, not, List, [], ◌∷◌, Some, codes}
 use Rattle.clap.specs.Words.{takes}
 use Rattle.pc_lists.specs.Texts.{Text}
-use Rattle.pc_args.specs.Asked.{Asked, check, command_of, events, judge, make, outcomes, places, play, run, schedule_of, sends, show, swap, trace, upgrade}
+use Rattle.pc_args.specs.Asked.{Asked, check, command_of, events, explain, judge, make, outcomes, places, play, run, schedule_of, sends, show, swap, trace, upgrade}
 use Rattle.pc_args.specs.Line.{rcap}
 
 -- A name or number that is not empty and does not begin with `-`.
@@ -36,6 +36,9 @@ events_words source schedule = codes "events" ∷ source ∷ schedule ∷ []
 
 abbrev pub places_words : Text → List Text
 places_words source = codes "places" ∷ source ∷ []
+
+abbrev pub explain_words : Text → List Text
+explain_words source = codes "explain" ∷ source ∷ []
 
 abbrev pub sends_words : Text → List Text
 sends_words source = codes "sends" ∷ source ∷ []
@@ -72,6 +75,7 @@ pub record WrittenFormsAreTaken : Type 0 where
   pub tellings : (source schedule : Text) → is_plain source ≡ true → is_plain schedule ≡ true
       → AskFor (events_words source schedule) (events source schedule)
   pub placings : (source : Text) → is_plain source ≡ true → AskFor (places_words source) (places source)
+  pub explanations : (source : Text) → is_plain source ≡ true → AskFor (explain_words source) (explain source)
   pub sendings : (source : Text) → is_plain source ≡ true → AskFor (sends_words source) (sends source)
   pub upgrades : (source derivation : Text) → is_plain source ≡ true → is_plain derivation ≡ true
       → AskFor (upgrade_words source derivation) (upgrade source derivation)

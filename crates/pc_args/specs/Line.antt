@@ -42,6 +42,10 @@ events = with_rule (with_rule (new_app (codes "events")) (positional (codes "SRC
 abbrev pub places : App
 places = with_rule (new_app (codes "places")) (positional (codes "SRC"))
 
+-- `explain SRC`
+abbrev pub explain : App
+explain = with_rule (new_app (codes "explain")) (positional (codes "SRC"))
+
 -- `sends SRC`
 abbrev pub sends : App
 sends = with_rule (new_app (codes "sends")) (positional (codes "SRC"))
@@ -68,7 +72,7 @@ bare = on_top (λ s. record s { no_binary_name = true; disable_help_subcommand =
 
 -- The subcommands, in this order.
 abbrev pub subcommands : List App
-subcommands = check ∷ judge ∷ run ∷ show ∷ make ∷ swap ∷ trace ∷ sends ∷ upgrade ∷ schedule ∷ play ∷ outcomes ∷ places ∷ events ∷ []
+subcommands = check ∷ judge ∷ run ∷ show ∷ make ∷ swap ∷ trace ∷ sends ∷ upgrade ∷ schedule ∷ play ∷ outcomes ∷ places ∷ events ∷ explain ∷ []
 
 -- A command line with these subcommands more.
 abbrev pub with_all : App → List App → App

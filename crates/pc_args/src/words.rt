@@ -45,7 +45,7 @@ pub enum Command<'a> {
         schedule: &'a str,
         place: &'a str,
     },
-    /// To tell the accesses of a run of a source by a schedule, with their clocks.
+    /// To write the accesses of a run of a source by a schedule, with their clocks.
     Trace {
         source: &'a str,
         schedule: &'a str,
@@ -59,7 +59,11 @@ pub enum Command<'a> {
     Places {
         source: &'a str,
     },
-    /// To tell which entity of a source may send which message.
+    /// To explain why a source is refused.
+    Explain {
+        source: &'a str,
+    },
+    /// To list which entity of a source may send which message.
     Sends {
         source: &'a str,
     },
@@ -90,7 +94,7 @@ pub enum Command<'a> {
 pub enum WordsFault {
     /// The command line does not take them.
     Refused,
-    /// Want of memory.
+    /// Memory ran out.
     Memory,
 }
 
@@ -160,7 +164,8 @@ fn make_rcap<'a>(alloc: Global) -> Result<clap::Command<'a>, AllocError>
     let play = with_leaf(schedule, alloc, "play", &["SRC", "SEED"])?;
     let outcomes = with_leaf(play, alloc, "outcomes", &["SRC", "COUNT"])?;
     let places = with_leaf(outcomes, alloc, "places", &["SRC"])?;
-    with_leaf(places, alloc, "events", &["SRC", "SCHED"])
+    let events = with_leaf(places, alloc, "events", &["SRC", "SCHED"])?;
+    with_leaf(events, alloc, "explain", &["SRC"])
 }
 
 // The matches of the words, or why clap refuses them.
@@ -225,6 +230,9 @@ fn command_in<'a>(matches: &ArgMatches<'a>) -> Option<Command<'a>>
             schedule: value_of(own, "SCHED"),
         }),
         "places" => Some(Command::Places {
+            source: value_of(own, "SRC"),
+        }),
+        "explain" => Some(Command::Explain {
             source: value_of(own, "SRC"),
         }),
         "sends" => Some(Command::Sends {

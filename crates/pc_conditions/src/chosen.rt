@@ -43,11 +43,11 @@ fn calls_behaviour(site: &Site, name: u32) -> bool
 }
 
 // Whether two texts are equal.
-fn same_text(a: &[u8], b: &[u8]) -> bool
-    ensures { result ≡ calls.same_text a.now b.now }
+fn same_text(one: &[u8], other: &[u8]) -> bool
+    ensures { result ≡ calls.same_text one.now other.now }
 {
-    let mut left = b;
-    for byte in a {
+    let mut left = other;
+    for byte in one {
         match left {
             [] => return false,
             [first, others @ ..] => {

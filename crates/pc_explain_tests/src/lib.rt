@@ -4,6 +4,10 @@
 #[cfg(test)]
 mod cases;
 #[cfg(test)]
+mod endings;
+#[cfg(test)]
+mod explaining;
+#[cfg(test)]
 mod names;
 #[cfg(test)]
 mod naming;

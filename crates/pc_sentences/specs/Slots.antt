@@ -1,6 +1,7 @@
 -- Slots and fields that a sentence names.
 use Rattle.std.specs.Prelude.{ℕ, zero, suc, ◌+◌, Bool, false, ◌&&◌, not, nat_eq, List, [], ◌∷◌, take, Option, Some, None, slice_get, if◌then◌else◌}
 use Rattle.pc_ann.specs.declared.annotation.Note.{Note}
+use Rattle.pc_caps.specs.Limits.{field_limit, slot_limit}
 use Rattle.pc_core.specs.declared.nodes.Node.{Node}
 use Rattle.pc_core.specs.declared.nodes.NodeKind.{NodeKind}
 use Rattle.pc_core.specs.declared.nodes.NodeKind.TheVariants as node
@@ -56,14 +57,10 @@ is_lost before after k = has before k && not (has after k)
 abbrev pub differs : Mask → Mask → ℕ → Bool
 differs before after k = if has before k then not (has after k) else has after k
 
--- How many slots a method and how many fields an entity has at most.
-abbrev pub most : ℕ
-most = 64
-
 -- The first slot that is live before a loop, and not after its body.
 unfoldable pub lost_slot : StopData → ℕ
-lost_slot st = least (is_lost st.live (live_after st (body_note st))) most 0
+lost_slot st = least (is_lost st.live (live_after st (body_note st))) slot_limit 0
 
 -- The first field that is set in the loop's body.
 unfoldable pub looped_field : StopData → ℕ
-looped_field st = least (differs st.set (set_after st (body_note st))) most 0
+looped_field st = least (differs st.set (set_after st (body_note st))) field_limit 0

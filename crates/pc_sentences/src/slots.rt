@@ -1,15 +1,14 @@
 //! Slots and fields that a sentence names.
 ghost use Rattle.std.specs.Prelude.{◌≡◌, None, take};
+ghost use Rattle.pc_caps.specs.Limits.{field_limit, slot_limit};
 ghost use Rattle.pc_sentences.specs.Slots as spec;
 
 use crate::stop::Stop;
 use pc_ann::Note;
+use pc_caps::{FIELD_LIMIT, SLOT_LIMIT};
 use pc_core::{Node, NodeKind};
 use pc_masks::Mask;
 use pc_words::child;
-
-// How many slots a method and how many fields an entity has at most.
-const MOST: u32 = 64;
 
 fn consumes_as(slot: u32, kind: &NodeKind) -> bool
     ensures { result ≡ spec.consumes_as slot kind.now }
@@ -131,9 +130,9 @@ fn differs(before: Mask, after: Mask, field: u32) -> bool
 
 #[tactic(auto, using(crate::proofs::Least::lost_next, crate::proofs::Least::lost_here, crate::proofs::Least::lost_none))]
 fn first_lost(before: Mask, after: Mask) -> u32
-    ensures { result ≡ spec.least (spec.is_lost before after) spec.most 0 }
+    ensures { result ≡ spec.least (spec.is_lost before after) slot_limit 0 }
 {
-    for slot in 0..MOST {
+    for slot in 0..SLOT_LIMIT {
         if is_lost(before, after, slot) {
             return slot;
         }
@@ -143,9 +142,9 @@ fn first_lost(before: Mask, after: Mask) -> u32
 
 #[tactic(auto, using(crate::proofs::Least::differs_next, crate::proofs::Least::differs_here, crate::proofs::Least::differs_none))]
 fn first_different(before: Mask, after: Mask) -> u32
-    ensures { result ≡ spec.least (spec.differs before after) spec.most 0 }
+    ensures { result ≡ spec.least (spec.differs before after) field_limit 0 }
 {
-    for field in 0..MOST {
+    for field in 0..FIELD_LIMIT {
         if differs(before, after, field) {
             return field;
         }

@@ -23,4 +23,5 @@ returns c =
     let play = c.in_ok-play.ensures ∙ ap (on line.play.top) schedule in
     let outcomes = c.in_ok-outcomes.ensures ∙ ap (on line.outcomes.top) play in
     let places = c.in_ok-places.ensures ∙ ap (on line.places.top) outcomes in
-    IfOk-weaker c.with_leaf-14.result _ _ (λ r added. added ∙ ap (on line.events.top) places) c.with_leaf-14.ensures
+    let events = c.in_ok-events.ensures ∙ ap (on line.events.top) places in
+    IfOk-weaker c.with_leaf-15.result _ _ (λ r added. added ∙ ap (on line.explain.top) events) c.with_leaf-15.ensures

@@ -6,5 +6,5 @@ use Rattle.pc_conditions.proofs.chosen.same_text.Goals as goal
 
 pub returns-in-empty : goal.returns-in-empty
 returns-in-empty c =
-    sym (too_short (drop c.loop-byte.byte-index c.args.a.now) c.loop-byte.left.now (left_over c.args.a.now c.loop-byte.byte-index c.loop-byte-test.true) (omega (arith, c.in-empty.len_below)))
+    sym (too_short (drop c.loop-byte.byte-index c.args.one.now) c.loop-byte.left.now (left_over c.args.one.now c.loop-byte.byte-index c.loop-byte-test.true) (omega (arith, c.in-empty.len_below)))
     ∙ c.loop-byte.invariant

@@ -1,0 +1,5 @@
+mod Lengths
+mod Made
+mod OneText
+mod Reasons
+mod SameLists

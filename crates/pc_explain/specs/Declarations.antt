@@ -1,0 +1,138 @@
+-- The lines on a declaration that fails.
+use Rattle.std.specs.Prelude.{ℕ, Bool, ◌&&◌, nat_eq, List, [], ◌∷◌, ◌++◌, Option, Some, None, slice_get, codes}
+use Rattle.std.specs.List.{find}
+use Rattle.std.specs.Option.{is_some}
+use Rattle.pc_core.specs.CoreData.{CoreData}
+use Rattle.pc_core.specs.Lookup.{method_named}
+use Rattle.pc_core.specs.declared.declarations.EntityDef.{EntityDef}
+use Rattle.pc_core.specs.declared.declarations.Method.{Method}
+use Rattle.pc_core.specs.declared.declarations.MethodKind.TheVariants as kind
+use Rattle.pc_core.specs.declared.declarations.ParamInfo.{ParamInfo}
+use Rattle.pc_core.specs.declared.declarations.MethodKind.{MethodKind}
+use Rattle.pc_caps.specs.declared.capability.Form.{Form}
+use Rattle.pc_lists.specs.Texts.{Text, line_end}
+use Rattle.pc_sub.specs.declared.faults.DeclFault.{DeclFault}
+use Rattle.pc_sub.specs.declared.faults.DeclFault.TheVariants as decl
+use Rattle.pc_explain_names.specs.Bearers.{kind_word}
+use Rattle.pc_window.specs.Places.{piece_of}
+use Rattle.pc_window.specs.Quoting.{piece, quoted}
+use Rattle.pc_words.specs.Caps.{cap_word, new_word}
+use Rattle.pc_words.specs.Forms as forms
+use Rattle.pc_words.specs.Methods as methods
+use Rattle.pc_words.specs.Lacks.{methods_in}
+use Rattle.pc_words.specs.Misfits.{first_misfit, misfit}
+use Rattle.pc_words.specs.Scene.{SceneData}
+
+-- ---- a parameter that is not sendable
+
+-- What takes only sendable parameters.
+unfoldable pub taker : MethodKind → Form → Text
+taker kind.Be f = codes "a behaviour"
+taker kind.Spawn f = codes "an actor's constructor"
+taker kind.New f = codes "a constructor that gives " ++ new_word f
+taker kind.Fun f = codes "a constructor that gives " ++ new_word f
+
+unfoldable pub parameter_line : SceneData → Method → ParamInfo → Text
+parameter_line s m p =
+    codes "node: the parameter " ++ (quoted (piece_of s.bytes p.span) ++ (codes ", " ++ (forms.place_words s.core (p.entity, p.cap) ++ (codes ", of " ++ (methods.method s m ++ line_end)))))
+
+unfoldable pub sendable_line : Method → ParamInfo → Text
+sendable_line m p =
+    codes "rule parameters: " ++ (cap_word p.cap ++ (codes " is not sendable, and " ++ (taker m.kind m.result.1 ++ (codes " takes only parameters of iso, val or tag" ++ line_end))))
+
+unfoldable pub declare_hint : Text → Text
+declare_hint name =
+    codes "hint: declare it " ++ (piece name ++ (codes " iso, " ++ (piece name ++ (codes " val or " ++ (piece name ++ (codes " tag" ++ line_end))))))
+
+unfoldable pub not_sendable_lines : SceneData → Method → ParamInfo → Text
+not_sendable_lines s m p = parameter_line s m p ++ (sendable_line m p ++ declare_hint (forms.entity_name s.core p.entity))
+
+-- ---- a method that is missing
+
+abbrev pub kind_of : Option EntityDef → Text
+kind_of None = []
+kind_of (Some x) = kind_word x.kind
+
+unfoldable pub provider_line : CoreData → ℕ → Method → Text
+provider_line core e wanted =
+    codes "node: the " ++ (kind_of (slice_get core.entities e) ++ (codes " " ++ (forms.entity core e ++ (codes ", which is "
+    ++ (forms.with_article (forms.entity_name core wanted.entity) ++ line_end)))))
+
+unfoldable pub declares_line : SceneData → ℕ → Method → Text
+declares_line s e wanted =
+    codes "rule is: " ++ (forms.entity s.core wanted.entity ++ (codes " declares " ++ (methods.method s wanted ++ (codes ", and "
+    ++ (forms.entity s.core e ++ (codes " has no such function" ++ line_end))))))
+
+-- A method as it would be written in its entity.
+unfoldable pub written : SceneData → Method → Text
+written s m = methods.words m ++ (piece (forms.name_text s.core m.name) ++ methods.signature s m)
+
+unfoldable pub other_hint : CoreData → (entity name : ℕ) → Text
+other_hint core e name =
+    codes "hint: " ++ (forms.entity core e ++ (codes "." ++ (piece (forms.name_text core name) ++ (codes " is not a function" ++ line_end))))
+
+-- To add it, or, if the entity has something else of this name, that it is no function.
+unfoldable pub missing_hint : SceneData → ℕ → Method → Option ℕ → Text
+missing_hint s e wanted None = codes "hint: add `" ++ (written s wanted ++ (codes " => ..`" ++ line_end))
+missing_hint s e wanted (Some m) = other_hint s.core e wanted.name
+
+unfoldable pub missing_lines : SceneData → ℕ → Method → Text
+missing_lines s e wanted = provider_line s.core e wanted ++ (declares_line s e wanted ++ missing_hint s e wanted (method_named s.core e wanted.name))
+
+-- ---- a method that does not fit
+
+-- The method does not stand for this one of its name.
+unfoldable pub wants : CoreData → Method → Method → Bool
+wants core given wanted = nat_eq wanted.name given.name && is_some (first_misfit core wanted given)
+
+abbrev pub or_else : Option Method → Option Method → Option Method
+or_else None other = other
+or_else (Some found) other = Some found
+
+-- The first method of these entities that it does not stand for.
+unfoldable pub wanted_from : CoreData → Method → List ℕ → Option Method
+wanted_from core given [] = None
+wanted_from core given (b ∷ bs) = or_else (find (wants core given) (methods_in core (slice_get core.entities b))) (wanted_from core given bs)
+
+abbrev pub provided_by : Option EntityDef → List ℕ
+provided_by None = []
+provided_by (Some x) = x.provides
+
+abbrev pub wanted_of : CoreData → ℕ → Method → Option Method
+wanted_of core e given = wanted_from core given (provided_by (slice_get core.entities e))
+
+unfoldable pub method_line : SceneData → Method → Text
+method_line s given = codes "node: the method " ++ (methods.method s given ++ line_end)
+
+unfoldable pub misfit_line : SceneData → Method → Method → Text
+misfit_line s wanted given = codes "rule is: " ++ (misfit s wanted given (first_misfit s.core wanted given) ++ line_end)
+
+unfoldable pub stands_lines : SceneData → Method → Option Method → Text
+stands_lines s given None = []
+stands_lines s given (Some wanted) = codes "part: it stands for " ++ (methods.method s wanted ++ (line_end ++ misfit_line s wanted given))
+
+unfoldable pub mismatch_lines : SceneData → ℕ → Method → Text
+mismatch_lines s e given = method_line s given ++ stands_lines s given (wanted_of s.core e given)
+
+-- ---- each of them
+
+abbrev pub param_lines : SceneData → Method → Option ParamInfo → Text
+param_lines s m None = []
+param_lines s m (Some p) = not_sendable_lines s m p
+
+abbrev pub parameter_lines : SceneData → Option Method → (index : ℕ) → Text
+parameter_lines s None i = []
+parameter_lines s (Some m) i = param_lines s m (slice_get m.params i)
+
+abbrev pub missing_of : SceneData → ℕ → Option Method → Text
+missing_of s e None = []
+missing_of s e (Some wanted) = missing_lines s e wanted
+
+abbrev pub mismatch_of : SceneData → ℕ → Option Method → Text
+mismatch_of s e None = []
+mismatch_of s e (Some given) = mismatch_lines s e given
+
+unfoldable pub declaration_lines : SceneData → DeclFault → Text
+declaration_lines s (decl.NotSendable m i) = parameter_lines s (slice_get s.core.methods m) i
+declaration_lines s (decl.MissingMethod e m) = missing_of s e (slice_get s.core.methods m)
+declaration_lines s (decl.Mismatch e m) = mismatch_of s e (slice_get s.core.methods m)

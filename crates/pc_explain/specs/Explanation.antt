@@ -1,0 +1,127 @@
+-- The explanation of a core that has no derivation.
+use Rattle.std.specs.Prelude.{◌≡◌, ℕ, Bool, true, false, List, [], ◌∷◌, ◌++◌, length, map, Option, Some, None, slice_get, codes}
+use Rattle.pc_ann.specs.declared.annotation.Ann.{Ann}
+use Rattle.pc_ann.specs.declared.annotation.Note.{Note}
+use Rattle.pc_ann.specs.declared.annotation.Rule.{Rule}
+use Rattle.pc_ann.specs.declared.annotation.Rule.TheVariants as rule
+use Rattle.pc_caps.specs.declared.span.Span.{Span}
+use Rattle.pc_check.specs.Faults.{StopsAt, LeavesUnset}
+use Rattle.pc_check.specs.Inference.{with_inferred}
+use Rattle.pc_conditions.specs.Failing.{reasons, reasons_at}
+use Rattle.pc_conditions.specs.declared.reason.Reason.{Reason}
+use Rattle.pc_core.specs.CoreData.{CoreData}
+use Rattle.pc_core.specs.declared.declarations.EntityDef.{EntityDef}
+use Rattle.pc_core.specs.declared.declarations.Method.{Method}
+use Rattle.pc_core.specs.declared.declarations.ParamInfo.{ParamInfo}
+use Rattle.pc_core.specs.declared.nodes.Node.{Node}
+use Rattle.pc_hints.specs.Hints.{hint}
+use Rattle.pc_lists.specs.Options.{◌>>=◌}
+use Rattle.pc_lists.specs.Texts.{Text}
+use Rattle.pc_refusals.specs.CoreFaults.{decl_text}
+use Rattle.pc_rules.specs.Parts.{Masks, Slots}
+use Rattle.pc_sentences.specs.Sentences.{sentence}
+use Rattle.pc_sentences.specs.Stop.{StopData}
+use Rattle.pc_sub.specs.Declarations.{first_fault}
+use Rattle.pc_sub.specs.declared.faults.DeclFault.{DeclFault}
+use Rattle.pc_sub.specs.declared.faults.DeclFault.TheVariants as decl
+use Rattle.pc_token.specs.declared.kinds.Token.{Token}
+use Rattle.pc_window.specs.Head.{head}
+use Rattle.pc_parts.specs.NodeWords.{node_line}
+use Rattle.pc_parts.specs.Parts.{part_lines}
+use Rattle.pc_words.specs.Scene.{SceneData}
+use Rattle.pc_explain.specs.Declarations.{declaration_lines}
+use Rattle.pc_explain.specs.Known.{known_slots}
+use Rattle.pc_explain.specs.RuleLines.{rule_lines}
+use Rattle.pc_explain.specs.Setting.{unset_lines}
+use Rattle.pc_explain.specs.declared.rule_lines.Told.{Told}
+
+-- What an explanation looks at: the source, its core, and the notes of the first nodes, with the types that follow from them.
+unfoldable pub scene_of : Text → List Token → CoreData → List Note → SceneData
+scene_of bytes tokens core notes = record { bytes = bytes; tokens = tokens; core = core; slots = known_slots core notes (length notes); notes = notes }
+
+-- ---- a declaration that fails
+
+abbrev pub no_span : Span
+no_span = record { start = 0; end = 0 }
+
+abbrev pub entity_span : Option EntityDef → Span
+entity_span None = no_span
+entity_span (Some x) = x.span
+
+abbrev pub method_span : Option Method → Span
+method_span None = no_span
+method_span (Some x) = x.span
+
+abbrev pub param_span : Option ParamInfo → Span
+param_span None = no_span
+param_span (Some p) = p.span
+
+abbrev pub own_param_span : Option Method → ℕ → Span
+own_param_span None i = no_span
+own_param_span (Some x) i = param_span (slice_get x.params i)
+
+-- The name of its parameter, its entity or its method.
+unfoldable pub decl_span : CoreData → DeclFault → Span
+decl_span core (decl.NotSendable m i) = own_param_span (slice_get core.methods m) i
+decl_span core (decl.MissingMethod e m) = entity_span (slice_get core.entities e)
+decl_span core (decl.Mismatch e m) = method_span (slice_get core.methods m)
+
+unfoldable pub declaration_text : Text → SceneData → DeclFault → Text
+declaration_text name s f = head name s.bytes (decl_span s.core f) (decl_text f) ++ declaration_lines s f
+
+-- ---- a node of which no rule says anything
+
+-- The rule, the sentence of what it asks and does not hold, and what to do about it.
+unfoldable pub told : StopData → Reason → Told
+told stop r = record { rule = r.rule; sentence = sentence stop r; hint = hint stop r }
+
+abbrev pub is_own_rule : Rule → Bool
+is_own_rule rule.GetOwn = true
+is_own_rule rule.PutOwn = true
+is_own_rule r = false
+
+-- The rules for a constructor that has not set all fields yet are looked at.
+abbrev pub is_own : List Reason → Bool
+is_own [] = false
+is_own (r ∷ rs) = is_own_rule r.rule
+
+abbrev pub all_of : Option (List Reason) → List Reason
+all_of None = []
+all_of (Some rs) = rs
+
+abbrev pub reasons_by : CoreData → Slots → Option (List Note) → Node → Masks → List Reason
+reasons_by core slots None x m = []
+reasons_by core slots (Some ns) x m = reasons core slots ns x m
+
+-- Why no rule says anything of node x: each rule that is looked at, with the first thing that it asks and that does not hold.
+unfoldable pub reasons_of : CoreData → Ann → Node → Masks → List Reason
+reasons_of core ann x m = all_of (reasons_at core (with_inferred core ann x) x m)
+
+abbrev pub stop_at : SceneData → ℕ → Node → Masks → StopData
+stop_at s n x m = record { scene = s; number = n; at = x; live = m.0; set = m.1 }
+
+unfoldable pub node_text : Text → StopData → List Reason → Text
+node_text name stop rs =
+    head name stop.scene.bytes stop.at.span (codes "no rule")
+    ++ (node_line stop.scene stop.at ++ (part_lines stop.scene stop.at (is_own rs) ++ rule_lines (map (told stop) rs)))
+
+-- ---- a constructor that leaves a field unset
+
+-- The note of a method's body.
+abbrev pub body_note : Ann → Method → Option Note
+body_note ann x = do
+  b ← x.body
+  slice_get ann.notes b
+
+unfoldable pub unset_text : Text → SceneData → Method → Note → Text
+unset_text name s x t = head name s.bytes x.span (codes "field not set") ++ unset_lines s x t.set_after
+
+-- ---- the explanation
+
+-- The text explains why the source of this name, with these bytes and tokens, whose core this is, is refused.
+pub data IsExplanation (name bytes : Text) (tokens : List Token) (core : CoreData) : Text → Type 0 where
+  declared : (f : DeclFault) → first_fault core ≡ Some f → IsExplanation name bytes tokens core (declaration_text name (scene_of bytes tokens core []) f)
+  no_rule : (ann : Ann) (n : ℕ) (m : Masks) (x : Node) → StopsAt core n m ann → slice_get core.nodes n ≡ Some x
+      → IsExplanation name bytes tokens core (node_text name (stop_at (scene_of bytes tokens core ann.notes) n x m) (reasons_of core ann x m))
+  unset : (ann : Ann) (k : ℕ) (left : LeavesUnset core k ann)
+      → IsExplanation name bytes tokens core (unset_text name (scene_of bytes tokens core ann.notes) left.0.method left.0.note)

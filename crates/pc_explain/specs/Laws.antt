@@ -1,0 +1,18 @@
+-- What is said of explanations.
+use Rattle.std.specs.Prelude.{◌≡◌, List}
+use Rattle.pc_core.specs.CoreData.{CoreData}
+use Rattle.pc_core.specs.Formed.{Formed}
+use Rattle.pc_lists.specs.Texts.{Text}
+use Rattle.pc_rules.specs.Valid.{Derivable}
+use Rattle.pc_token.specs.declared.kinds.Token.{Token}
+use Rattle.pc_explain.specs.Explanation.{IsExplanation}
+
+-- A core has at most one explanation.
+abbrev pub ExplanationsAreOne : Type 0
+ExplanationsAreOne =
+    (name bytes : Text) (tokens : List Token) (core : CoreData) (one other : Text) → Formed core → IsExplanation name bytes tokens core one
+    → IsExplanation name bytes tokens core other → one ≡ other
+
+-- One that has a derivation has none.
+abbrev pub AcceptedHasNone : Type 0
+AcceptedHasNone = (name bytes : Text) (tokens : List Token) (core : CoreData) (text : Text) → Formed core → Derivable core → IsExplanation name bytes tokens core text → ⊥

@@ -1,0 +1,95 @@
+-- The lines on a constructor that leaves a field unset.
+use Rattle.std.specs.Prelude.{ℕ, ◌+◌, Bool, true, false, ◌&&◌, nat_eq, List, [], ◌∷◌, ◌++◌, Option, Some, None, slice_get, codes, if◌then◌else◌}
+use Rattle.pc_core.specs.CoreData.{CoreData}
+use Rattle.pc_core.specs.Lookup.{own_nodes}
+use Rattle.pc_core.specs.declared.declarations.EntityDef.{EntityDef}
+use Rattle.pc_core.specs.declared.declarations.FieldInfo.{FieldInfo}
+use Rattle.pc_core.specs.declared.declarations.Method.{Method}
+use Rattle.pc_core.specs.declared.nodes.Node.{Node}
+use Rattle.pc_core.specs.declared.nodes.NodeKind.{NodeKind}
+use Rattle.pc_core.specs.declared.nodes.NodeKind.TheVariants as node
+use Rattle.pc_lists.specs.Texts.{Text, line_end}
+use Rattle.pc_masks.specs.Masks.{has}
+use Rattle.pc_masks.specs.declared.mask.Mask.{Mask}
+use Rattle.pc_rules.specs.Fields.{is_this}
+use Rattle.pc_window.specs.Places.{place}
+use Rattle.pc_window.specs.Quoting.{quoted}
+use Rattle.pc_words.specs.Forms as forms
+use Rattle.pc_words.specs.Methods as methods
+use Rattle.pc_words.specs.Scene.{SceneData}
+
+-- ---- where a field is written
+
+abbrev pub writes_name : ℕ → NodeKind → Bool
+writes_name name (node.SetField written) = nat_eq written name
+writes_name name k = false
+
+abbrev pub is_own : Option Node → Bool
+is_own None = false
+is_own (Some y) = is_this y.kind
+
+abbrev pub child_in : CoreData → Option ℕ → Option Node
+child_in core None = None
+child_in core (Some c) = slice_get core.nodes c
+
+-- The node writes the field of this name of `this`.
+unfoldable pub writes_own : CoreData → ℕ → Node → Bool
+writes_own core name x = writes_name name x.kind && is_own (child_in core (slice_get x.children 1))
+
+-- What stands before a place.
+abbrev pub before_place : (first : Bool) → Text
+before_place first = if first then codes " on every path: it is set only at " else codes ", "
+
+unfoldable pub write_place : SceneData → (first : Bool) → Node → Text
+write_place s first x = before_place first ++ place s.bytes x.span.start
+
+-- The places of the writes among these nodes.
+abbrev pub write_places : SceneData → ℕ → (first : Bool) → List Node → Text
+write_places s name first [] = []
+write_places s name first (x ∷ xs) = if writes_own s.core name x then write_place s first x ++ write_places s name false xs else write_places s name first xs
+
+-- ---- the fields
+
+unfoldable pub unset_part : SceneData → Method → FieldInfo → Text
+unset_part s m f =
+    codes "part: the field " ++ (quoted (forms.name_text s.core f.name) ++ (codes ", " ++ (forms.place_words s.core (f.entity, f.cap)
+    ++ (codes ", is not set" ++ (write_places s f.name true (own_nodes s.core m) ++ line_end)))))
+
+unfoldable pub part_of : SceneData → Method → (set : Bool) → FieldInfo → Text
+part_of s m true f = []
+part_of s m false f = unset_part s m f
+
+-- Those, from this index on, that are not set.
+abbrev pub unset_parts : SceneData → Method → Mask → ℕ → List FieldInfo → Text
+unset_parts s m set i [] = []
+unset_parts s m set i (f ∷ fs) = part_of s m (has set i) f ++ unset_parts s m set (i + 1) fs
+
+abbrev pub first_unset : Mask → ℕ → List FieldInfo → Option FieldInfo
+first_unset set i [] = None
+first_unset set i (f ∷ fs) = if has set i then first_unset set (i + 1) fs else Some f
+
+unfoldable pub field_name : CoreData → Option FieldInfo → Text
+field_name core None = []
+field_name core (Some f) = quoted (forms.name_text core f.name)
+
+-- ---- the lines
+
+abbrev pub fields_of : Option EntityDef → List FieldInfo
+fields_of None = []
+fields_of (Some x) = x.fields
+
+unfoldable pub constructor_line : SceneData → Method → Text
+constructor_line s m = codes "node: the constructor " ++ (methods.method s m ++ line_end)
+
+unfoldable pub set_hint : CoreData → Option FieldInfo → Text
+set_hint core f = codes "hint: give " ++ (field_name core f ++ (codes " an initial value, or set it on every path" ++ line_end))
+
+abbrev pub set_rule : Text
+set_rule = codes "rule constructor: at the end of a constructor every field must be set" ++ line_end
+
+unfoldable pub field_lines : SceneData → Method → Mask → List FieldInfo → Text
+field_lines s m set fs = unset_parts s m set 0 fs ++ (set_rule ++ set_hint s.core (first_unset set 0 fs))
+
+-- On a constructor at whose end these fields are set, and others are not.
+unfoldable pub unset_lines : SceneData → Method → Mask → Text
+unset_lines s m set = constructor_line s m ++ field_lines s m set (fields_of (slice_get s.core.entities m.entity))

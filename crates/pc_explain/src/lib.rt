@@ -1,0 +1,18 @@
+//! Why a core has no derivation, in words.
+//!
+//! Proved: `explain_core` writes an explanation of the fault by which `check` refuses a core, or memory ran out: the refusal's
+//! line and the source's line with carets, what the node is and what its parts are, and for each rule that is looked at the first
+//! thing that it asks and that does not hold, with what to do about it. A core has one explanation (`explanations_are_one`), and
+//! one that has a derivation has none (`accepted_has_none`).
+#![tactic(auto)]
+
+mod declarations;
+mod explaining;
+mod known;
+mod laws;
+mod rule_lines;
+mod setting;
+
+pub use explaining::explain_core;
+pub use laws::{accepted_has_none, explanations_are_one};
+pub use rule_lines::Told;

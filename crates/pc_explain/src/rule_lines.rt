@@ -1,0 +1,164 @@
+//! The lines on the rules, each with its hint.
+ghost use Rattle.std.specs.Prelude.{◌≡◌, ◌++◌, flat_map, OnOk};
+ghost use Rattle.std.specs.List.{list_any};
+ghost use Rattle.pc_explain.specs.RuleLines as spec;
+
+use pc_ann::Rule;
+use pc_caps::List;
+use pc_window::push_bytes;
+use std::alloc::AllocError;
+
+/// A rule that is looked at and says nothing: the sentence of what it asks and does not hold, and what to do about it, or
+/// nothing.
+#[derive(Drop)]
+pub struct Told {
+    pub rule: Rule,
+    pub sentence: List<u8>,
+    pub hint: List<u8>,
+}
+
+// The name of a rule.
+fn rule_word(rule: Rule) -> &'static [u8]
+    ensures { result.now ≡ spec.rule_word rule }
+{
+    match rule {
+        Rule::Number => b"number",
+        Rule::Truth => b"truth",
+        Rule::Text => b"text",
+        Rule::Prim => b"prim",
+        Rule::This => b"this",
+        Rule::Local => b"local",
+        Rule::Consume => b"consume",
+        Rule::Get => b"get",
+        Rule::GetOwn => b"getown",
+        Rule::Put => b"put",
+        Rule::PutOwn => b"putown",
+        Rule::Define => b"define",
+        Rule::Assign => b"assign",
+        Rule::New => b"new",
+        Rule::Spawn => b"spawn",
+        Rule::Call => b"call",
+        Rule::CallRecover => b"callrecover",
+        Rule::Send => b"send",
+        Rule::Builtin => b"builtin",
+        Rule::Arith => b"arith",
+        Rule::Compare => b"compare",
+        Rule::Equal => b"equal",
+        Rule::Join => b"join",
+        Rule::Logic => b"logic",
+        Rule::Lazy => b"lazy",
+        Rule::Identity => b"identity",
+        Rule::Seq => b"seq",
+        Rule::If => b"if",
+        Rule::While => b"while",
+        Rule::Recover => b"recover",
+        Rule::Body => b"body",
+    }
+}
+
+// Whether the rule fails by this sentence.
+fn says(sentence: &[u8], told: &Told) -> bool
+    ensures { result ≡ spec.says sentence.now told.now }
+{
+    told.sentence.as_slice() == sentence
+}
+
+// Whether one of the rules does.
+fn one_says(sentence: &[u8], told: &[Told]) -> bool
+    ensures { result ≡ list_any (spec.says sentence.now) told.now }
+{
+    told.iter().any(|one| says(sentence, one))
+}
+
+// Appends the name of a later rule, if it fails by this sentence.
+#[tactic(auto, unfolding(crate::specs::RuleLines::more_name))]
+fn push_more_name(out: &mut Vec<u8>, sentence: &[u8], told: &Told) -> Result<(), AllocError>
+    ensures { OnOk result (out.new.items ≡ out.old.items ++ spec.more_name sentence.now told.now) }
+{
+    if says(sentence, told) {
+        push_bytes(out, b", ")?;
+        push_bytes(out, rule_word(told.rule))?;
+    }
+    Ok(())
+}
+
+// Appends the names of the later rules that fail by this sentence.
+fn push_more_names(out: &mut Vec<u8>, sentence: &[u8], later: &[Told]) -> Result<(), AllocError>
+    ensures { OnOk result (out.new.items ≡ out.old.items ++ flat_map (spec.more_name sentence.now) later.now) }
+{
+    'later: for told in later {
+        push_more_name(out, sentence, told)?;
+    }
+    Ok(())
+}
+
+// `rule` or `rules`.
+fn number_word(several: bool) -> &'static [u8]
+    ensures { result.now ≡ spec.number_word several }
+{
+    if several { b"rules " } else { b"rule " }
+}
+
+// Appends the names of the rules that fail by the sentence of the first.
+#[tactic(auto, unfolding(crate::specs::RuleLines::names_of))]
+fn push_names(out: &mut Vec<u8>, told: &Told, later: &[Told]) -> Result<(), AllocError>
+    ensures { OnOk result (out.new.items ≡ out.old.items ++ spec.names_of told.now later.now) }
+{
+    let sentence = told.sentence.as_slice();
+    push_bytes(out, number_word(one_says(sentence, later)))?;
+    push_bytes(out, rule_word(told.rule))?;
+    push_more_names(out, sentence, later)
+}
+
+// Appends the line of a hint, if there is one.
+#[tactic(auto, unfolding(crate::specs::RuleLines::hint_line))]
+fn push_hint_line(out: &mut Vec<u8>, hint: &[u8]) -> Result<(), AllocError>
+    ensures { OnOk result (out.new.items ≡ out.old.items ++ spec.hint_line hint.now) }
+{
+    match hint {
+        [] => Ok(()),
+        [_, ..] => {
+            push_bytes(out, b"hint: ")?;
+            push_bytes(out, hint)?;
+            push_bytes(out, b"\n")
+        }
+    }
+}
+
+// Appends the line on the first of these rules, and its hint.
+#[tactic(auto, unfolding(crate::specs::RuleLines::rule_line))]
+fn push_rule_line(out: &mut Vec<u8>, told: &Told, later: &[Told]) -> Result<(), AllocError>
+    ensures { OnOk result (out.new.items ≡ out.old.items ++ spec.rule_line told.now later.now) }
+{
+    push_names(out, told, later)?;
+    push_bytes(out, b": ")?;
+    push_bytes(out, told.sentence.as_slice())?;
+    push_bytes(out, b"\n")?;
+    push_hint_line(out, told.hint.as_slice())
+}
+
+// Appends the line on a rule, unless an earlier one has its sentence.
+fn push_line(
+    out: &mut Vec<u8>,
+    earlier: &[Told],
+    told: &Told,
+    later: &[Told],
+) -> Result<(), AllocError>
+    ensures { OnOk result (out.new.items ≡ out.old.items ++ spec.line_after earlier.now told.now later.now) }
+{
+    if one_says(told.sentence.as_slice(), earlier) {
+        return Ok(());
+    }
+    push_rule_line(out, told, later)
+}
+
+/// Appends the lines on the rules, in their order. Rules that fail by the same sentence share a line.
+#[tactic(auto, unfolding(crate::specs::RuleLines::rule_lines))]
+pub(crate) fn push_rule_lines(out: &mut Vec<u8>, told: &[Told]) -> Result<(), AllocError>
+    ensures { OnOk result (out.new.items ≡ out.old.items ++ spec.rule_lines told.now) }
+{
+    for at in 0..told.len() {
+        push_line(out, &told[..at], &told[at], &told[at + 1..])?;
+    }
+    Ok(())
+}

@@ -1,0 +1,297 @@
+//! The lines on a constructor that leaves a field unset.
+ghost use Rattle.std.specs.Prelude.{◌≡◌, ◌++◌, true, OnOk, slice_range};
+ghost use Rattle.std.specs.Option.{option_copied};
+ghost use Rattle.pc_core.specs.Lookup.{own_nodes as own_nodes_are};
+ghost use Rattle.pc_explain.specs.Setting as spec;
+
+use pc_core::{Core, EntityDef, FieldInfo, Method, Node, NodeKind};
+use pc_masks::Mask;
+use pc_window::{push_bytes, push_place, push_quoted};
+use pc_words::{Scene, name_text, push_method, push_place_type};
+use std::alloc::{AllocError, Global};
+
+// Whether a node of this kind writes a field of this name.
+fn writes_name(name: u32, kind: &NodeKind) -> bool
+    ensures { result ≡ spec.writes_name name kind.now }
+{
+    match kind {
+        NodeKind::SetField(written) => *written == name,
+        NodeKind::Number(_)
+        | NodeKind::Truth(_)
+        | NodeKind::Text(_)
+        | NodeKind::Prim(_)
+        | NodeKind::This
+        | NodeKind::Local(_)
+        | NodeKind::Consume(_)
+        | NodeKind::Field(_)
+        | NodeKind::Define(_)
+        | NodeKind::Assign(_)
+        | NodeKind::New(_)
+        | NodeKind::Spawn(_)
+        | NodeKind::Call(_)
+        | NodeKind::Binary(_)
+        | NodeKind::Not
+        | NodeKind::And
+        | NodeKind::Or
+        | NodeKind::Same(_)
+        | NodeKind::Seq
+        | NodeKind::If
+        | NodeKind::While
+        | NodeKind::Recover(_)
+        | NodeKind::Body => false,
+    }
+}
+
+// Whether the child of this number is `this`.
+fn is_own(core: &Core, child: Option<u32>) -> bool
+    ensures { result ≡ spec.is_own (spec.child_in core.now child) }
+{
+    match child {
+        None => false,
+        Some(number) => match core.node_at(number) {
+            Some(found) => matches!(found.kind, NodeKind::This),
+            None => false,
+        },
+    }
+}
+
+// Whether the node writes the field of this name of `this`.
+#[tactic(auto, unfolding(crate::specs::Setting::writes_own))]
+fn writes_own(core: &Core, name: u32, node: &Node) -> bool
+    ensures { result ≡ spec.writes_own core.now name node.now }
+{
+    writes_name(name, &node.kind) && is_own(core, node.children.as_slice().get(1).copied())
+}
+
+// What stands before a place.
+fn before_place(first: bool) -> &'static [u8]
+    ensures { result.now ≡ spec.before_place first }
+{
+    if first {
+        b" on every path: it is set only at "
+    } else {
+        b", "
+    }
+}
+
+// Appends the place of a write.
+#[tactic(auto, unfolding(crate::specs::Setting::write_place))]
+fn push_write_place(
+    alloc: Global,
+    out: &mut Vec<u8>,
+    scene: &Scene,
+    first: bool,
+    node: &Node,
+) -> Result<(), AllocError>
+    ensures { OnOk result (out.new.items ≡ out.old.items ++ spec.write_place scene.now first node.now) }
+{
+    push_bytes(out, before_place(first))?;
+    push_place(alloc, out, scene.bytes(), node.span.start)
+}
+
+// Appends the places of the writes of a field among these nodes.
+fn push_write_places(
+    alloc: Global,
+    out: &mut Vec<u8>,
+    scene: &Scene,
+    name: u32,
+    nodes: &[Node],
+) -> Result<(), AllocError>
+    ensures { OnOk result (out.new.items ≡ out.old.items ++ spec.write_places scene.now name true nodes.now) }
+{
+    let core = scene.core();
+    let mut first = true;
+    for node in nodes {
+        if writes_own(core, name, node) {
+            push_write_place(alloc, out, scene, first, node)?;
+            first = false;
+        }
+    }
+    Ok(())
+}
+
+// The nodes of a method.
+fn own_nodes<'a>(core: &'a Core, method: &Method) -> &'a [Node]
+    ensures { result.now ≡ own_nodes_are core.now method.now }
+{
+    let nodes = core.nodes();
+    let first = method.first_node as usize;
+    let end = match method.body {
+        None => first,
+        Some(body) => body as usize + 1,
+    };
+    part_of(nodes, first, end)
+}
+
+// These nodes, without those before the first and those from the end on.
+fn part_of(nodes: &[Node], first: usize, end: usize) -> &[Node]
+    ensures { result.now ≡ slice_range nodes.now first end }
+{
+    let front = &nodes[..end.min(nodes.len())];
+    &front[first.min(front.len())..]
+}
+
+// Appends the line on a field that is not set.
+#[tactic(auto, unfolding(crate::specs::Setting::unset_part))]
+fn push_unset_part(
+    alloc: Global,
+    out: &mut Vec<u8>,
+    scene: &Scene,
+    method: &Method,
+    field: FieldInfo,
+) -> Result<(), AllocError>
+    ensures { OnOk result (out.new.items ≡ out.old.items ++ spec.unset_part scene.now method.now field) }
+{
+    let core = scene.core();
+    push_bytes(out, b"part: the field ")?;
+    push_quoted(alloc, out, name_text(core, field.name))?;
+    push_bytes(out, b", ")?;
+    push_place_type(alloc, out, core, (field.entity, field.cap))?;
+    push_bytes(out, b", is not set")?;
+    push_write_places(alloc, out, scene, field.name, own_nodes(core, method))?;
+    push_bytes(out, b"\n")
+}
+
+// Appends the line on a field, if it is not set.
+#[tactic(auto, unfolding(crate::specs::Setting::part_of))]
+fn push_part(
+    alloc: Global,
+    out: &mut Vec<u8>,
+    scene: &Scene,
+    method: &Method,
+    set: bool,
+    field: FieldInfo,
+) -> Result<(), AllocError>
+    ensures { OnOk result (out.new.items ≡ out.old.items ++ spec.part_of scene.now method.now set field) }
+{
+    if set {
+        Ok(())
+    } else {
+        push_unset_part(alloc, out, scene, method, field)
+    }
+}
+
+// Appends the lines on the fields that are not set.
+fn push_unset_parts(
+    alloc: Global,
+    out: &mut Vec<u8>,
+    scene: &Scene,
+    method: &Method,
+    set: Mask,
+    fields: &[FieldInfo],
+) -> Result<(), AllocError>
+    ensures { OnOk result (out.new.items ≡ out.old.items ++ spec.unset_parts scene.now method.now set 0 fields.now) }
+{
+    let mut index = 0;
+    for field in fields {
+        push_part(alloc, out, scene, method, set.has(index), *field)?;
+        index += 1;
+    }
+    Ok(())
+}
+
+// The first field that is not set.
+fn first_unset(set: Mask, fields: &[FieldInfo]) -> Option<FieldInfo>
+    ensures { result ≡ spec.first_unset set 0 fields.now }
+{
+    let mut index = 0;
+    for field in fields {
+        if !set.has(index) {
+            return Some(*field);
+        }
+        index += 1;
+    }
+    None
+}
+
+// Appends the name of a field.
+#[tactic(auto, unfolding(crate::specs::Setting::field_name))]
+fn push_field_name(
+    alloc: Global,
+    out: &mut Vec<u8>,
+    core: &Core,
+    field: Option<FieldInfo>,
+) -> Result<(), AllocError>
+    ensures { OnOk result (out.new.items ≡ out.old.items ++ spec.field_name core.now field) }
+{
+    match field {
+        Some(field) => push_quoted(alloc, out, name_text(core, field.name)),
+        None => Ok(()),
+    }
+}
+
+// Appends what to do.
+#[tactic(auto, unfolding(crate::specs::Setting::set_hint))]
+fn push_set_hint(
+    alloc: Global,
+    out: &mut Vec<u8>,
+    core: &Core,
+    field: Option<FieldInfo>,
+) -> Result<(), AllocError>
+    ensures { OnOk result (out.new.items ≡ out.old.items ++ spec.set_hint core.now field) }
+{
+    push_bytes(out, b"hint: give ")?;
+    push_field_name(alloc, out, core, field)?;
+    push_bytes(out, b" an initial value, or set it on every path\n")
+}
+
+// Appends the lines on the fields, the rule and what to do.
+#[tactic(auto, unfolding(crate::specs::Setting::field_lines))]
+fn push_field_lines(
+    alloc: Global,
+    out: &mut Vec<u8>,
+    scene: &Scene,
+    method: &Method,
+    set: Mask,
+    fields: &[FieldInfo],
+) -> Result<(), AllocError>
+    ensures { OnOk result (out.new.items ≡ out.old.items ++ spec.field_lines scene.now method.now set fields.now) }
+{
+    push_unset_parts(alloc, out, scene, method, set, fields)?;
+    push_bytes(
+        out,
+        b"rule constructor: at the end of a constructor every field must be set\n",
+    )?;
+    push_set_hint(alloc, out, scene.core(), first_unset(set, fields))
+}
+
+// The fields of an entity, if it is there.
+fn fields_of(entity: Option<&EntityDef>) -> &[FieldInfo]
+    ensures { result.now ≡ spec.fields_of (option_copied entity.entry) }
+{
+    match entity {
+        Some(entity) => entity.fields.as_slice(),
+        None => &[],
+    }
+}
+
+// Appends the line on the constructor.
+#[tactic(auto, unfolding(crate::specs::Setting::constructor_line))]
+fn push_constructor_line(
+    alloc: Global,
+    out: &mut Vec<u8>,
+    scene: &Scene,
+    method: &Method,
+) -> Result<(), AllocError>
+    ensures { OnOk result (out.new.items ≡ out.old.items ++ spec.constructor_line scene.now method.now) }
+{
+    push_bytes(out, b"node: the constructor ")?;
+    push_method(alloc, out, scene, method)?;
+    push_bytes(out, b"\n")
+}
+
+/// Appends the lines on a constructor at whose end these fields are set, and others are not.
+#[tactic(auto, unfolding(crate::specs::Setting::unset_lines))]
+pub(crate) fn push_unset_lines(
+    alloc: Global,
+    out: &mut Vec<u8>,
+    scene: &Scene,
+    method: &Method,
+    set: Mask,
+) -> Result<(), AllocError>
+    ensures { OnOk result (out.new.items ≡ out.old.items ++ spec.unset_lines scene.now method.now set) }
+{
+    let fields = fields_of(scene.core().entity_at(method.entity));
+    push_constructor_line(alloc, out, scene, method)?;
+    push_field_lines(alloc, out, scene, method, set, fields)
+}
