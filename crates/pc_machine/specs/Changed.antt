@@ -14,7 +14,7 @@ changed (x ∷ xs) (suc i) g = x ∷ changed xs i g
 abbrev pub framed : List Frame → Actor → Actor
 framed frames a = record { mailbox = a.mailbox; frames = frames }
 
--- A message comes behind those that wait for the actor.
+-- A message comes after those that wait for the actor.
 abbrev pub mailed : Message → Actor → Actor
 mailed m a = record { mailbox = a.mailbox ++ m ∷ []; frames = a.frames }
 
@@ -22,7 +22,7 @@ mailed m a = record { mailbox = a.mailbox ++ m ∷ []; frames = a.frames }
 abbrev pub unmailed : Actor → Actor
 unmailed a = record { mailbox = drop 1 a.mailbox; frames = a.frames }
 
--- The frames of an actor, and none where there is no actor.
+-- The frames of an actor; none if there is no actor.
 abbrev pub frames_in : Option Actor → List Frame
 frames_in None = []
 frames_in (Some a) = a.frames

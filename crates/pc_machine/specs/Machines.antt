@@ -14,7 +14,7 @@ pub record MachineData : Type 0 where
   pub core : CoreData
   pub configuration : Configuration
 
--- how many messages may wait before another step
+-- the greatest number of messages that may wait before another step
 abbrev pub message_limit : ℕ
 message_limit = 4194304
 

@@ -72,17 +72,17 @@ Fits (Makes count entity fields g) n = (fields ≤ field_limit) × (0 < length g
 Fits (Spawns count entity fields m) n = (fields ≤ field_limit) × (count ≤ n)
 Fits (Sends count receiver m) n = (0 < count) × (count ≤ n)
 
--- The plan reaches no actor but one of so many.
+-- The plan reaches only an actor among this number of them.
 abbrev pub Reaches : Plan → ℕ → Type 0
 Reaches (Sends count receiver m) actors = receiver < actors
 Reaches p actors = Unit {0}
 
--- The actor whose own object a value is, where it is one of so many actors.
+-- The actor whose own object a value is, if it is one of this number of actors.
 abbrev pub receiver_in : Value → ℕ → Option ℕ
 receiver_in (At a) actors = if nat_eq a.serial 0 && nat_lt a.maker actors then Some a.maker else None
 receiver_in v actors = None
 
--- How the plan of actor i ends, and the configuration behind it.
+-- How the plan of actor i ends, and the configuration after it.
 abbrev pub planned_frames : Configuration → ℕ → Actor → Plan → List Frame → Outcome × Configuration
 planned_frames c i a p [] = (outcome.Skipped, c)
 planned_frames c i a p (f ∷ fs) = made c i a fs (move_of (around c i) p f)

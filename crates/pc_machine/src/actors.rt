@@ -32,7 +32,7 @@ impl Model for Actors {
 }
 
 impl Actors {
-    /// No actors. It takes no memory.
+    /// No actors. It does not allocate.
     pub fn new(alloc: Global) -> Actors
         ensures { result ≡ [] }
     {
@@ -42,28 +42,28 @@ impl Actors {
         }
     }
 
-    /// How many actors there are.
+    /// The number of actors.
     pub fn len(&self) -> usize
         ensures { result ≡ length self.now }
     {
         self.all.len()
     }
 
-    /// How many messages wait for them.
+    /// The number of messages that wait for them.
     pub fn waiting(&self) -> u32
         ensures { result ≡ messages_in self.now }
     {
         self.waiting
     }
 
-    /// The actor of a number. `None` exactly where there is none.
+    /// The actor of a number. `None` iff there is none.
     pub fn get(&self, actor: usize) -> Option<&Actor>
         ensures { option_copied result ≡ slice_get self.now actor }
     {
         self.all.get(actor)
     }
 
-    /// Puts an actor behind the others. An `Err` changes nothing.
+    /// Puts an actor after the others. An `Err` changes nothing.
     pub fn add(&mut self, actor: Actor) -> Result<(), AllocError>
         requires { messages_in self.old + length actor.mailbox < 2 ^ 32 }
         ensures ok { OnOk result (self.new ≡ self.old ++ actor ∷ []) }
@@ -75,7 +75,7 @@ impl Actors {
         Ok(())
     }
 
-    /// Puts a message behind those that wait for an actor. An `Err` changes nothing.
+    /// Puts a message after those that wait for an actor. An `Err` changes nothing.
     pub fn deliver(&mut self, actor: usize, message: Message) -> Result<(), AllocError>
         requires there { actor < length self.old }
         requires few { messages_in self.old + 1 < 2 ^ 32 }
@@ -87,7 +87,7 @@ impl Actors {
         Ok(())
     }
 
-    /// Drops the oldest message of an actor for whom one waits. It takes no memory.
+    /// Drops the oldest message of an actor for whom one waits. It does not allocate.
     pub fn take(&mut self, actor: usize)
         requires { IsSomeAnd (slice_get self.old actor) (λ a. 0 < length a.mailbox) }
         ensures { self.new ≡ changed self.old actor unmailed }
@@ -96,7 +96,7 @@ impl Actors {
         self.waiting -= 1;
     }
 
-    /// Does the first task of an actor's running frame, where it concerns that frame and the objects alone. An `Err` changes
+    /// Does the first task of an actor's running frame, if it concerns that frame and the objects alone. An `Err` changes
     /// nothing.
     pub fn run_frame(
         &mut self,
@@ -113,7 +113,7 @@ impl Actors {
         run_in(alloc, core, heap, &mut self.all, actor)
     }
 
-    /// Gives an actor other frames, and answers those that it had. It takes no memory.
+    /// Gives an actor other frames, and answers those that it had. It does not allocate.
     pub fn swap_frames(&mut self, actor: usize, frames: Stack<Frame>) -> Stack<Frame>
         requires { actor < length self.old }
         ensures new { self.new ≡ changed self.old actor (framed frames) }
@@ -122,7 +122,7 @@ impl Actors {
         swap_frames_of(&mut self.all, actor, frames)
     }
 
-    /// Takes the last actor away. It takes no memory.
+    /// Takes the last actor away. It does not allocate.
     pub fn withdraw(&mut self)
         ensures { self.new ≡ take (length self.old - 1) self.old }
     {
@@ -133,7 +133,7 @@ impl Actors {
     }
 }
 
-/// An actor that has nothing to do. It takes no memory.
+/// An actor that has nothing to do. It does not allocate.
 pub fn idle_actor(alloc: Global) -> Actor
     ensures { result ≡ record { mailbox = []; frames = [] } }
 {
@@ -153,7 +153,7 @@ pub fn waiting_actor(alloc: Global, message: Message) -> Result<Actor, AllocErro
     Ok(Actor { mailbox, frames })
 }
 
-// A message behind those that wait for an actor of these.
+// Puts a message after those that wait for one of these actors.
 fn deliver_to(all: &mut Vec<Actor>, actor: usize, message: Message) -> Result<(), AllocError>
     requires { actor < length all.old.items }
     ensures ok { OnOk result (all.new.items ≡ changed all.old.items actor (mailed message)) }
@@ -164,7 +164,7 @@ fn deliver_to(all: &mut Vec<Actor>, actor: usize, message: Message) -> Result<()
     Ok(())
 }
 
-// The oldest message of an actor of these goes.
+// Removes the oldest message of one of these actors.
 fn take_from(all: &mut Vec<Actor>, actor: usize)
     requires { actor < length all.old.items }
     ensures { all.new.items ≡ changed all.old.items actor unmailed }
@@ -173,7 +173,7 @@ fn take_from(all: &mut Vec<Actor>, actor: usize)
     drop(from.mailbox.take());
 }
 
-// Other frames for an actor of these.
+// Gives one of these actors other frames.
 fn swap_frames_of(all: &mut Vec<Actor>, actor: usize, frames: Stack<Frame>) -> Stack<Frame>
     requires { actor < length all.old.items }
     ensures new { all.new.items ≡ changed all.old.items actor (framed frames) }

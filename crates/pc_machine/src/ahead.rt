@@ -1,4 +1,4 @@
-//! What an actor's next step is, before it is made. The functions only look, and take no memory.
+//! What an actor's next step is, before it is made. The functions only read, and do not allocate.
 ghost use Rattle.std.specs.Prelude.{◌≡◌, ◌+◌, ℕ, length, slice_get, List as Sequence};
 ghost use Rattle.pc_semantics.specs.Ahead as spec;
 ghost use Rattle.pc_semantics.specs.Ahead.{by_move, by_outcome};
@@ -207,7 +207,7 @@ fn end(core: &Core, frame: &Frame) -> Ahead
     }
 }
 
-// The first task of a frame, where it is no task inside the frame.
+// The first task of a frame, if it is no task inside the frame.
 fn first_call(core: &Core, heap: &Heap, actors: usize, frame: &Frame) -> Ahead
     requires { ¬ (IsInside (slice_get frame.now.tasks 0)) }
     ensures { (i : ℕ) → result ≡ by_move (first_move core.now (amid heap.now.objects i actors) frame.now (slice_get frame.now.tasks 0)) }
@@ -241,7 +241,7 @@ fn first_call(core: &Core, heap: &Heap, actors: usize, frame: &Frame) -> Ahead
     }
 }
 
-// The first task of a frame, where every object has the fields of its entity.
+// The first task of a frame, if every object has the fields of its entity.
 fn first_task(core: &Core, heap: &Heap, actors: usize, frame: &Frame) -> Ahead
     requires { Fielded core.now heap.now.objects }
     ensures { (i : ℕ) → result ≡ by_move (first_move core.now (amid heap.now.objects i actors) frame.now (slice_get frame.now.tasks 0)) }
@@ -291,7 +291,7 @@ fn oldest(core: &Core, actor: u32, mailbox: &Mailbox) -> Ahead
     }
 }
 
-/// What the next step of an actor is, where every object has the fields of its entity.
+/// What the next step of an actor is, if every object has the fields of its entity.
 #[tactic(auto, using(crate::proofs::Foreseen::none_foreseen, crate::proofs::Foreseen::task_foreseen, crate::proofs::Foreseen::idle_foreseen))]
 pub fn ahead_of(core: &Core, state: &State, actor: u32) -> Ahead
     requires { Fielded core.now state.now.heap.objects }

@@ -6,7 +6,7 @@ use pc_heap::Value;
 use pc_semantics::{Arguments, Message, Stack};
 use std::alloc::{AllocError, Global};
 
-/// The values of so many arguments, which were pushed one after the other. `None` exactly where there are not so many.
+/// The values of this number of arguments, which were pushed one after the other. `None` iff there are fewer.
 pub fn arguments_on(stack: &Stack<Value>, count: usize) -> Option<&[Value]>
     ensures values { MatchOption result
         (popped count stack.now [] ≡ None)
@@ -17,7 +17,7 @@ pub fn arguments_on(stack: &Stack<Value>, count: usize) -> Option<&[Value]>
     stack.topmost(count)
 }
 
-/// The values of so many arguments but one, below the receiver on top. `None` exactly where there are not so many.
+/// The values of one argument fewer than this number, below the receiver on top. `None` iff there are fewer.
 pub fn arguments_below(stack: &Stack<Value>, count: usize) -> Option<&[Value]>
     requires some { 0 < count }
     requires top { 0 < length stack.now }

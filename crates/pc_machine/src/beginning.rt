@@ -1,4 +1,4 @@
-//! Where the program of a core begins.
+//! The start of a core's program.
 ghost use Rattle.std.specs.Prelude.{◌≡◌, ◌<◌, ◌∷◌, [], Some, IsSome, IfOk, OnOk};
 ghost use Rattle.pc_heap.specs.declared.value.Value.TheVariants.{At};
 ghost use Rattle.std.specs.FinMap.{empty, insert, len};
@@ -39,7 +39,7 @@ fn set_out(heap: &mut Heap, environment: Address, stream: Address)
     }
 }
 
-// The objects of the stream, of the environment and of Main, by the number of its entity, come where there is none.
+// Adds the objects of the stream, of the environment and of Main, by the number of its entity, to a heap that has none.
 fn add_objects(core: &Core, heap: &mut Heap, main: u32) -> Result<(), AllocError>
     requires { heap.old.objects ≡ empty }
     ensures { OnOk result (heap.new.objects ≡ (spec.start_of core.now (Some (main, 0))).objects) }
@@ -78,7 +78,7 @@ fn start_actors(alloc: Global, create: u32) -> Result<Actors, AllocError>
     Ok(actors)
 }
 
-/// Where the program of a core begins.
+/// The start of a core's program.
 pub fn start_state(alloc: Global, core: &Core) -> Result<State, AllocError>
     ensures { IfOk result (λ state. configuration_of state ≡ spec.start core.now) }
 {

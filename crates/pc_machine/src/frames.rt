@@ -10,7 +10,7 @@ use pc_heap::Value;
 use pc_semantics::{Frame, Slots, Stack, Task, Tasks};
 use std::alloc::{AllocError, Global};
 
-// A frame that holds the place of another. It takes no memory.
+// A frame that holds the place of another. It does not allocate.
 fn blank(alloc: Global) -> Frame {
     Frame {
         method: 0,
@@ -20,7 +20,7 @@ fn blank(alloc: Global) -> Frame {
     }
 }
 
-// Copies of the arguments, each in a slot behind those that are filled.
+// Copies of the arguments, each in a slot after those that are filled.
 fn fill_arguments(filled: &mut Vec<Option<Value>>, arguments: &[Value]) -> Result<(), AllocError>
     ensures { OnOk result (filled.new.items ≡ filled.old.items ++ map Some arguments.now) }
 {
@@ -96,7 +96,7 @@ fn place_value(frame: &mut Frame, count: usize, value: Value)
     drop(frame.stack.replace_top(value));
 }
 
-/// The running frame goes on with a value in the place of the topmost ones. It takes no memory.
+/// The running frame goes on with a value in the place of the topmost ones. It does not allocate.
 pub fn place_top(frames: &mut Stack<Frame>, count: usize, value: Value)
     requires running { 0 < length frames.old }
     requires some { 0 < count }
@@ -106,7 +106,7 @@ pub fn place_top(frames: &mut Stack<Frame>, count: usize, value: Value)
     place_value(frames.top_mut(), count, value);
 }
 
-// The same where the value may take no value's place.
+// The same, but the count may be 0.
 fn push_value(frame: &mut Frame, count: usize, value: Value) -> Result<(), AllocError>
     requires { count ≤ length frame.old.stack }
     ensures ok { OnOk result (frame.new ≡ pushed (after_call count frame.old) value) }

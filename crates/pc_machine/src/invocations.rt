@@ -45,7 +45,7 @@ fn plan_function(
     }))
 }
 
-/// The actor whose own object a value is, where it is one of so many.
+/// The actor whose own object a value is, if it is one of this number of actors.
 pub fn receiver_of(value: &Value, actors: usize) -> Option<u32>
     ensures { result ≡ receiver_in value.now actors }
 {
@@ -57,7 +57,7 @@ pub fn receiver_of(value: &Value, actors: usize) -> Option<u32>
     }
 }
 
-// What the call of a behaviour is about to do, where there are so many actors.
+// What the call of a behaviour is about to do, if there are this many actors.
 fn plan_message(
     alloc: Global,
     actors: usize,
@@ -132,7 +132,7 @@ fn plan_call(
     plan_method(alloc, actors, number, method, this, arguments)
 }
 
-/// What the task Invoke of a node is about to do, where there are so many actors.
+/// What the task Invoke of a node is about to do, if there are this many actors.
 pub fn plan_invoke(
     alloc: Global,
     core: &Core,

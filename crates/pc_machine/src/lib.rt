@@ -1,9 +1,9 @@
-//! The machine that runs a core. What it does is the definition's: where a program begins, each step of an actor, and what
+//! The machine that runs a core. What it does is the definition's: the start of a program, each step of an actor, and what
 //! an actor is about to touch are those of `pc_semantics`, exactly.
 //!
 //! Proved: `start` is the definition's, `step` in outcome and configuration too, for every core, every configuration
-//! that steps reach and every actor; `access`, `ahead` and the counts are the configuration's, and take no memory. After want
-//! of memory the configuration is as it was.
+//! that steps reach and every actor; `access`, `ahead`, `actor`, `class_of` and the counts are the configuration's, and do not
+//! allocate. If memory runs out, the configuration stays as it was.
 //!
 //! Not proved: time. A test takes a million steps, and looks at no clock.
 #![tactic(auto)]

@@ -8,7 +8,7 @@ use pc_core::Core;
 use pc_heap::{Heap, Value};
 use pc_tree::{BOOL_ENTITY, STRING_ENTITY, U64_ENTITY};
 
-/// How many fields the entity of a number has, and 0 where there is no such entity.
+/// The number of fields of an entity, by its number; 0 if there is no such entity.
 pub fn fields_of(core: &Core, entity: u32) -> u32
     ensures count { result ≡ fields_in (slice_get core.now.entities entity) }
     ensures few { result ≤ field_limit }
@@ -20,7 +20,7 @@ pub fn fields_of(core: &Core, entity: u32) -> u32
     }
 }
 
-/// A value's own entity. `None` exactly where the value is the address of no object.
+/// A value's own entity. `None` iff the value is the address of no object.
 pub fn entity_of(heap: &Heap, value: &Value) -> Option<u32>
     ensures { result ≡ around.entity_of heap.now.objects value.now }
 {

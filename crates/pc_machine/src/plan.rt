@@ -1,10 +1,10 @@
-//! What a call or the end of a method is about to do, with the memory that it takes.
+//! What a call or the end of a method is about to do, with the memory for it already allocated.
 
 use pc_heap::Value;
 use pc_semantics::{Frame, Lack, Message};
 
-/// What becomes of the frames of an actor. Where the running frame goes on, its first task goes and as many values as `count`
-/// says go off its stack.
+/// What becomes of the frames of an actor. If the running frame goes on, its first task and `count` values of its
+/// stack are removed.
 #[derive(Drop)]
 pub enum Change {
     /// It goes on with a value.
@@ -22,14 +22,14 @@ pub enum Plan {
     Lacks(Lack),
     /// Only the frames of the actor change.
     Changes(Change),
-    /// An object of an entity is made, with so many fields, and its constructor's frame begins. The object becomes `this`.
+    /// An object of an entity is made, with this number of fields, and its constructor's frame begins. The object becomes `this`.
     Makes {
         count: usize,
         entity: u32,
         fields: u32,
         frame: Frame,
     },
-    /// An actor is made with its object, of an entity with so many fields, and its first message.
+    /// An actor is made with its object, of an entity with this number of fields, and its first message.
     Spawns {
         count: usize,
         entity: u32,

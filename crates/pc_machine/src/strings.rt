@@ -44,7 +44,7 @@ fn truth_text(alloc: Global, truth: bool) -> Result<List<u8>, AllocError>
     }
 }
 
-// What `string` of a value gives, where that is a number or a truth value.
+// What `string` of a value gives, if that is a number or a truth value.
 fn text_of(alloc: Global, value: &Value) -> Result<Option<List<u8>>, AllocError>
     ensures { IfOk result (λ text. text ≡ spec.text_of value.now) }
 {

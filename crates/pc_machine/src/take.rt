@@ -13,7 +13,7 @@ use pc_heap::{Address, Value};
 use pc_semantics::{Frame, Lack, Message, Outcome, Stack};
 use std::alloc::{AllocError, Global};
 
-// A copy of the text that a message asks to print. `None` exactly where its arguments are not one text.
+// A copy of the text that a message asks to print. `None` iff its arguments are not one text.
 fn text_in(alloc: Global, message: &Message) -> Result<Option<List<u8>>, AllocError>
     ensures { IfOk result (λ text. text ≡ only_text message.now.arguments) }
 {
@@ -23,7 +23,7 @@ fn text_in(alloc: Global, message: &Message) -> Result<Option<List<u8>>, AllocEr
     }
 }
 
-// The frame that a message begins. `None` exactly where it has no method with a body.
+// The frame that a message begins. `None` iff it has no method with a body.
 fn frame_of(
     alloc: Global,
     core: &Core,
@@ -94,7 +94,7 @@ fn begin_oldest(
     Ok(Outcome::Moved)
 }
 
-/// The step of an idle actor: it takes its oldest message, where one waits.
+/// The step of an idle actor: it takes its oldest message, if one waits.
 pub fn take(
     alloc: Global,
     core: &Core,

@@ -18,11 +18,8 @@ use pc_clocks::Seats;
 use pc_core::Core;
 use pc_machine::{Machine, start};
 use pc_semantics::{Access, Ahead, Outcome};
-use pc_trace::TraceFault;
+use pc_trace::{ACTOR_LIMIT, TraceFault};
 use std::alloc::{AllocError, Global};
-
-// How many actors a clock may speak of.
-const ACTORS: u32 = 64;
 
 // The clocks at the start of a program: nobody, or the stream and Main, for whom a message waits that no event sent.
 fn first_seats(alloc: Global, actors: u32) -> Result<Seats, AllocError>
@@ -55,7 +52,7 @@ fn room(ahead: Ahead, actors: u32, place: u64) -> Result<(), TraceFault>
 {
     match ahead {
         Ahead::Spawn => {
-            if actors < ACTORS {
+            if actors < ACTOR_LIMIT {
                 Ok(())
             } else {
                 Err(TraceFault::TooMany(place))

@@ -1,4 +1,4 @@
--- Conflicts, seen in the accesses that are told.
+-- Conflicts between the accesses that are reported.
 use Rattle.std.specs.Prelude.{◌≡◌, ◌≢◌, ◌⊎◌, ◌<◌, ◌≤◌, ℕ, suc, true, List, length, Option, Some, None, slice_get}
 use Rattle.pc_clocks.specs.Seats.{number}
 use Rattle.pc_trace.specs.declared.touch.Touch.{Touch}
@@ -19,7 +19,7 @@ Known q p = number q.clock q.actor ≤ number p.clock q.actor
 abbrev pub Unknown : Touch → Touch → Type 0
 Unknown q p = Clash q p × (number p.clock q.actor < number q.clock q.actor)
 
--- Of these accesses all that clash with p and are behind one place, and before another, are counted by the clock of p.
+-- Of these accesses all that clash with p and are after one place, and before another, are counted by the clock of p.
 abbrev pub KnownBetween : List Touch → (from to : ℕ) → Touch → Type 0
 KnownBetween touches from to p = (m : ℕ) (q : Touch) → from ≤ m → m < to → slice_get touches m ≡ Some q → Clash q p → Known q p
 

@@ -34,7 +34,7 @@ pub record Covers (touches : List Touch) (at : ℕ) (rows : RowList) : Type 0 wh
 abbrev pub Rises : List Touch → Type 0
 Rises touches = (m n : ℕ) (q p : Touch) → m < n → slice_get touches m ≡ Some q → slice_get touches n ≡ Some p → q.actor ≡ p.actor → number q.clock q.actor < number p.clock p.actor
 
--- None of the first places of a row, so many, has an access that clashes with p and is not counted by it.
+-- None of this number of first places of a row has an access that clashes with p and is not counted by it.
 abbrev pub NoneUnknown : List Touch → List ℕ → ℕ → Touch → Type 0
 NoneUnknown touches row count p = (k m : ℕ) (q : Touch) → k < count → slice_get row k ≡ Some m → slice_get touches m ≡ Some q → Unknown q p → ⊥
 
@@ -50,7 +50,7 @@ abbrev pub LatestOf : List Touch → List ℕ → ℕ → Touch → Option ℕ �
 LatestOf touches row count p None = NoneUnknown touches row count p
 LatestOf touches row count p (Some best) = LatestKnownOf touches row count p best
 
--- What stays of the first places of a row behind access p.
+-- What stays of the first places of a row after access p.
 pub record KeptOf (touches : List Touch) (row : List ℕ) (count : ℕ) (p : Touch) (new : List ℕ) : Type 0 where
   pub kept : (k m : ℕ) (q : Touch) → k < count → slice_get row k ≡ Some m → slice_get touches m ≡ Some q → Replaces p q ⊎ Has new m
   pub only : (m : ℕ) → Has new m → Has row m

@@ -13,7 +13,7 @@ use Rattle.pc_trace.specs.Keeps.{Keeps}
 use Rattle.pc_trace.specs.Noted.{Noted}
 use Rattle.pc_trace.specs.Traces.{actor_limit}
 
--- Behind n turns that did not end the run: the configuration, the kept clocks and the accesses so far.
+-- After n turns that did not end the run: the configuration, the kept clocks and the accesses so far.
 pub record Reached (core : CoreData) (list : List ℕ) (n : ℕ) (c : Configuration) (seats : List Seat) (touches : List Touch) : Type 0 where
   pub here : c ≡ at_place core list n
   pub live : Live core list n
@@ -23,7 +23,7 @@ pub record Reached (core : CoreData) (list : List ℕ) (n : ℕ) (c : Configurat
   pub keeps : Keeps core list n seats
   pub noted : Noted core list n touches
 
--- One more access, where an event has one.
+-- One more access, if an event has one.
 abbrev pub noted_with : Option Access → (place actor : ℕ) → List ℕ → List Touch → List Touch
 noted_with None place actor clock touches = touches
 noted_with (Some x) place actor clock touches =

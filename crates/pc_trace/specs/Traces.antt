@@ -1,4 +1,4 @@
--- What is told of a run: its accesses with their clocks, and whether they are ordered.
+-- What is reported of a run: its accesses with their clocks, and whether they are ordered.
 use Rattle.std.specs.Prelude.{◌≡◌, ◌<◌, ◌≤◌, ℕ, suc, List, length, Some, None, slice_get}
 use Rattle.pc_lists.specs.Places.{Each}
 use Rattle.pc_core.specs.CoreData.{CoreData}
@@ -22,7 +22,7 @@ use Rattle.pc_trace.specs.declared.fault.TraceFault.TheVariants as fault
 use Rattle.pc_trace.specs.declared.fault.AcceptedFault.{AcceptedFault}
 use Rattle.pc_trace.specs.declared.fault.AcceptedFault.TheVariants as accepted
 
--- how many actors a clock may speak of
+-- the greatest number of actors that a clock may have a number for
 abbrev pub actor_limit : ℕ
 actor_limit = 64
 
@@ -48,7 +48,7 @@ pub record Unordered (core : CoreData) (list : List ℕ) (q p : ℕ) : Type 0 wh
   pub conflict : Conflict core list q p
   pub not_before : Before core list q p → ⊥
 
--- Of the places in a list, before p and behind q, all that conflict with p are before it.
+-- Of the places in a list, before p and after q, all that conflict with p are before it.
 abbrev pub OrderedBetween : CoreData → List ℕ → (from to : ℕ) → Type 0
 OrderedBetween core list q p = (r : ℕ) → q < r → r < p → Conflict core list r p → Before core list r p
 

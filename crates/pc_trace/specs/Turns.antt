@@ -11,7 +11,7 @@ use Rattle.pc_trace.specs.declared.fault.TraceFault.TheVariants as fault
 use Rattle.pc_semantics.specs.declared.ahead.Ahead.{Ahead}
 use Rattle.pc_semantics.specs.declared.ahead.Ahead.TheVariants as ahead
 
--- An actor does something, where there are so many actors.
+-- An actor does something, if there are this many actors.
 abbrev pub Acts : (count actor : ℕ) → List Seat → List Seat → Type 0
 Acts count actor old new = ChangedAt old new actor (λ s t. Advanced count actor s.clock [] t.clock × (t.letters ≡ s.letters))
 
@@ -27,7 +27,7 @@ Posts sender receiver old new = ChangedAt old new receiver (λ s t. (t.clock ≡
 abbrev pub Born : ℕ → List Seat → List Seat → Type 0
 Born maker old new = new ≡ old ++ record { clock = []; letters = clock_of old maker ∷ [] } ∷ []
 
--- Behind an event of this kind.
+-- After an event of this kind.
 abbrev pub Follows : Ahead → (count actor : ℕ) → List Seat → List Seat → Type 0
 Follows ahead.Take count actor old new = Receives count actor old new
 Follows ahead.Task count actor old new = Acts count actor old new
@@ -35,7 +35,7 @@ Follows (ahead.Send receiver) count actor old new = (mid : List Seat) × Acts co
 Follows ahead.Spawn count actor old new = (mid : List Seat) × Acts count actor old mid × Born actor mid new
 Follows x count actor old new = Unit {0}
 
--- What an event of this kind needs, where there are so many actors: the actor, whose clock has no number that is too large; the
+-- What an event of this kind needs, if there are this many actors: the actor, whose clock has no number that is too large; the
 -- message that it takes, with such a clock too; and the receiver of a message.
 pub record Ready (kind : Ahead) (count actor : ℕ) (seats : List Seat) : Type 0 where
   pub there : actor < count
@@ -52,7 +52,7 @@ Says o place (Err (fault.Lacks n)) = (n ≡ place) × ((l : Lack) × (o ≡ outc
 Says o place (Err (fault.TooMany n)) = ⊥
 Says o place (Err fault.Memory) = ⊥
 
--- A step of this kind makes no actor where there are as many as there may be; or it does, and that is the answer.
+-- A step of this kind makes no actor if there are as many as there may be; or it does, and that is the answer.
 abbrev pub Room : Ahead → (count place : ℕ) → Result (Unit {0}) TraceFault → Type 0
 Room kind count place (Ok u) = kind ≡ ahead.Spawn → count < actor_limit
 Room kind count place (Err f) = (f ≡ fault.TooMany place) × (kind ≡ ahead.Spawn) × (count ≡ actor_limit)

@@ -1,4 +1,4 @@
-//! Conflicts between the accesses that are told.
+//! Conflicts between the accesses that are reported.
 ghost use Rattle.std.specs.Prelude.{◌≡◌, ◌+◌, ◌<◌, ◌^◌, Decides, IfOk, OnOk, length};
 ghost use Rattle.pc_clocks.specs.Seats.{number};
 ghost use Rattle.pc_trace.specs.Clashes.{Found, Judged, Unknown};
@@ -10,7 +10,7 @@ use crate::touch::{Touch, Verdict};
 use pc_caps::List;
 use std::alloc::{AllocError, Global};
 
-// How many events of an actor a clock counts.
+// The number of events of an actor that a clock counts.
 fn count(clock: &List<u64>, actor: u32) -> u64
     ensures { result ≡ number clock.now actor }
 {
@@ -31,7 +31,7 @@ pub fn is_unknown(earlier: &Touch, later: &Touch) -> bool
         && count(&later.clock, earlier.actor) < count(&earlier.clock, earlier.actor)
 }
 
-// What is found of the access at a place, and the places that are kept behind it.
+// What is found of the access at a place, and the places that are kept after it.
 fn look(
     alloc: Global,
     touches: &[Touch],

@@ -36,7 +36,7 @@ fn act_and_spawn(
     seats.spawn(alloc, actor)
 }
 
-/// The clocks behind an event of an actor, by what it is. There were so many actors before it.
+/// The clocks after an event of an actor, by what it is, if there were this many actors before it.
 pub fn follow(
     alloc: Global,
     seats: &mut Seats,

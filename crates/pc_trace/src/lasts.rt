@@ -44,7 +44,7 @@ impl Model for Lasts {
 }
 
 impl Lasts {
-    /// No field was touched. It takes no memory.
+    /// No field was touched. It does not allocate.
     pub fn new(alloc: Global) -> Lasts
         ensures { result ≡ [] }
     {

@@ -1,13 +1,13 @@
 //! The accesses of a run with their clocks, and whether those that conflict are ordered.
 //!
-//! `specs/Traces.antt` says what is told. Two accesses conflict where they are of different actors, touch one field of one object,
-//! and one of them writes (`pc_events`). The clock of an event says of each actor how many of its events are this one or come before
-//! it: one event comes before another where both are one actor's and it is the earlier one, where it puts a message into a mailbox
+//! `specs/Traces.antt` says what is reported. Two accesses conflict if they are of different actors, touch one field of one object,
+//! and one of them writes (`pc_events`). The clock of an event has for each actor the number of its events that are this one or come
+//! before it: one event comes before another if both are one actor's and it is the earlier one, if it puts a message into a mailbox
 //! and the other takes this message, or by a chain of these.
 //!
-//! Proved: `trace` tells exactly the accesses of the run, with these clocks, for any core; its verdict names the first event that is
-//! not ordered with an earlier one that it conflicts with, and the latest such, or there is none. `accepted_trace` tells the same of
-//! a safe core, and there is none.
+//! Proved: `trace` reports exactly the accesses of the run, with these clocks, for any core; its verdict names the first event that is
+//! not ordered with an earlier one that it conflicts with, and the latest such, or there is none. `accepted_trace` reports the same
+//! of a safe core, and there is none.
 #![tactic(auto)]
 
 mod clash;
@@ -20,5 +20,6 @@ mod touch;
 mod tracing;
 
 pub use fault::{AcceptedFault, TraceFault};
+pub use recorder::ACTOR_LIMIT;
 pub use touch::{Touch, Trace, Verdict};
 pub use tracing::{accepted_trace, trace};

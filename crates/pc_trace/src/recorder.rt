@@ -18,10 +18,10 @@ use pc_machine::{Machine, start};
 use pc_semantics::{Access, Ahead, Outcome};
 use std::alloc::{AllocError, Global};
 
-// How many actors a clock may speak of.
-const ACTORS: u32 = 64;
+/// The greatest number of actors that a clock may have a number for. A run that would make one more is not traced to its end.
+pub const ACTOR_LIMIT: u32 = 64;
 
-// The clocks where a program begins: nobody, or the stream and Main, for whom a message waits that no event sent.
+// The clocks at the start of a program: nobody, or the stream and Main, for whom a message waits that no event sent.
 fn first_seats(alloc: Global, actors: u32) -> Result<Seats, AllocError>
     ensures { IfOk result (λ seats. seats ≡ seats_at_start actors) }
 {
@@ -33,14 +33,14 @@ fn first_seats(alloc: Global, actors: u32) -> Result<Seats, AllocError>
     Ok(seats)
 }
 
-// There is room for another actor, where a step makes one.
+// There is room for another actor, if a step makes one.
 fn room(ahead: Ahead, actors: u32, place: u64) -> Result<(), TraceFault>
     requires { actors ≤ actor_limit }
     ensures { Room ahead actors place result }
 {
     match ahead {
         Ahead::Spawn => {
-            if actors < ACTORS {
+            if actors < ACTOR_LIMIT {
                 Ok(())
             } else {
                 Err(TraceFault::TooMany(place))
@@ -55,7 +55,7 @@ fn room(ahead: Ahead, actors: u32, place: u64) -> Result<(), TraceFault>
     }
 }
 
-// Whether a step moved, where it did not end the run.
+// Whether a step moved, if it did not end the run.
 fn moved(outcome: Outcome, place: u64) -> Result<bool, TraceFault>
     ensures { Says outcome place result }
 {
@@ -67,7 +67,7 @@ fn moved(outcome: Outcome, place: u64) -> Result<bool, TraceFault>
     }
 }
 
-// One more access, where an event has one.
+// One more access, if an event has one.
 fn note(
     alloc: Global,
     seats: &Seats,
@@ -133,9 +133,9 @@ fn turn(
 /// The accesses of a run of a core, in order, with their clocks.
 ///
 /// # Errors
-/// - `TooLong` and `Lacks` exactly where a step of the list ends the run so, with its place, counted from 1.
-/// - `TooMany` exactly where a step would make the 65th actor, with its place; the first of these three.
-/// - `Memory` at want of memory.
+/// - `TooLong` and `Lacks` iff a step of the list ends the run so, with its place, counted from 1.
+/// - `TooMany` iff a step would make the 65th actor, with its place; the first of these three.
+/// - `Memory` if memory ran out.
 pub fn recorded(alloc: Global, core: &Core, list: &[u32]) -> Result<List<Touch>, TraceFault>
     requires { length list.now ≤ list_limit }
     ensures { MatchResult result (λ touches. RanOn core.now list.now × Noted core.now list.now (length list.now) touches) (TraceStops core.now list.now) }

@@ -74,7 +74,7 @@ fn keep(
     }
 }
 
-/// The places that stay behind an access.
+/// The places that stay after an access.
 pub fn kept_of(
     alloc: Global,
     touches: &[Touch],

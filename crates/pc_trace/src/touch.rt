@@ -1,4 +1,4 @@
-//! What is told of a run.
+//! What is reported of a run.
 
 use pc_caps::List;
 use pc_heap::Address;
@@ -10,13 +10,13 @@ pub struct Touch {
     pub place: u64,
     /// The actor whose event it is.
     pub actor: u32,
-    /// Where the object stands.
+    /// The address of the object.
     pub address: Address,
     /// The index of the field.
     pub field: u32,
     /// Whether the field was written; otherwise it was read.
     pub write: bool,
-    /// For each actor that there was then, how many of its events are this one or come before it.
+    /// For each actor that there was then, the number of its events that are this one or come before it.
     pub clock: List<u64>,
 }
 

@@ -17,9 +17,9 @@ use std::alloc::Global;
 /// be safe. The list has at most 4,000,000 places.
 ///
 /// # Errors
-/// - `TooLong` and `Lacks` exactly where a step of the list ends the run so, with its place, counted from 1.
-/// - `TooMany` exactly where a step would make the 65th actor, with its place. The first of these three counts.
-/// - `Memory` at want of memory.
+/// - `TooLong` and `Lacks` iff a step of the list ends the run so, with its place, counted from 1.
+/// - `TooMany` iff a step would make the 65th actor, with its place. The first of these three counts.
+/// - `Memory` if memory ran out.
 pub fn trace(alloc: Global, core: &Core, list: &[u32]) -> Result<Trace, TraceFault>
     requires { length list.now ≤ list_limit }
     ensures { MatchResult result (IsTrace core.now list.now) (TraceStops core.now list.now) }
@@ -33,9 +33,9 @@ pub fn trace(alloc: Global, core: &Core, list: &[u32]) -> Result<Trace, TraceFau
 /// 4,000,000 places.
 ///
 /// # Errors
-/// - `TooLong` exactly where a step of the list would make a text that is too long, with its place, counted from 1.
-/// - `TooMany` exactly where a step would make the 65th actor, with its place. The first of these two counts.
-/// - `Memory` at want of memory.
+/// - `TooLong` iff a step of the list would make a text that is too long, with its place, counted from 1.
+/// - `TooMany` iff a step would make the 65th actor, with its place. The first of these two counts.
+/// - `Memory` if memory ran out.
 pub fn accepted_trace(
     alloc: Global,
     core: &Core,
