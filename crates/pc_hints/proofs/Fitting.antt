@@ -1,14 +1,15 @@
 -- What a hint promises is as it must be.
-use Rattle.std.specs.Prelude.{◌≡◌, ℕ, Bool, true, false, ◌&&◌, Option, Some, None, if◌then◌else◌, refl}
+use Rattle.std.specs.Prelude.{◌≡◌, ℕ, Bool, true, false, not, ◌&&◌, nat_lt, Option, Some, None, if◌then◌else◌, refl}
 use Rattle.std.proofs.Common.{subst}
 use Rattle.std.proofs.lemmas.Bool.{and_parts}
 use Rattle.std.proofs.lemmas.Option.{same_Some, none-some}
 use Rattle.pc_caps.specs.Order.{is_below}
-use Rattle.pc_caps.specs.Tables.{fits, unalias}
+use Rattle.pc_caps.specs.Tables.{fits, sendable, unalias}
 use Rattle.pc_caps.specs.declared.capability.Cap.{Cap}
 use Rattle.pc_caps.specs.declared.capability.Cap.TheVariants as cap
 use Rattle.pc_caps.specs.declared.capability.Form.{Form}
 use Rattle.pc_caps.specs.declared.capability.Form.TheVariants as form
+use Rattle.pc_core.specs.declared.declarations.Method.{Method}
 use Rattle.pc_core.specs.declared.nodes.Node.{Node}
 use Rattle.pc_parts.specs.Parts.{child_role}
 use Rattle.pc_parts.specs.declared.parts.Role.{Role}
@@ -16,7 +17,7 @@ use Rattle.pc_parts.specs.declared.parts.Role.TheVariants as role
 use Rattle.pc_sentences.specs.Stop.{StopData, child_form}
 use Rattle.pc_hints.specs.Choice as choice
 use Rattle.pc_hints.specs.Laws.{HintEnters, HintFits, HintIsBelow, promised}
-use Rattle.pc_hints.specs.Nodes.{child_node, is_box_this, is_new, local_cap, old_form}
+use Rattle.pc_hints.specs.Nodes.{child_node, is_box_this, is_new, is_tag_this, local_cap, old_form, own_method}
 use Rattle.pc_hints.specs.declared.choice.Wanted.{Wanted}
 use Rattle.pc_hints.specs.declared.choice.Wanted.TheVariants as wanted
 use Rattle.pc_hints.specs.declared.hint.Hint.{Hint}
@@ -102,15 +103,31 @@ fitting_of st i k (Some x) = one_suits (wanted.Fits k) (choice.fitting_node st i
 box_suits : (w : Wanted) → Suits w hint.DeclareBox
 box_suits w f e = absurd (none-some f e)
 
+tag_by : (w : Wanted) (a b : Bool) → AllSuit w (if a then Some hint.TagInRecover else choice.when b hint.TagUntilSet)
+tag_by w true b = one_suits w hint.TagInRecover (λ f e. absurd (none-some f e))
+tag_by w false b = when_suits w b hint.TagUntilSet (λ s f e. absurd (none-some f e))
+
+tag_of : (w : Wanted) (recovered : Bool) (o : Option Method) → AllSuit w (choice.tag_hint_of recovered o)
+tag_of w recovered None = none_suits w
+tag_of w recovered (Some m) = tag_by w (recovered && not (sendable m.receiver)) (choice.is_constructor m.kind)
+
+if_suits : (w : Wanted) (a : Bool) (o : Option Hint) → AllSuit w o → AllSuit w (if a then o else None)
+if_suits w true o s = s
+if_suits w false o s = none_suits w
+
+tagged : (w : Wanted) (st : StopData) (i : ℕ) → AllSuit w (choice.tag_this st i)
+tagged w st i = if_suits w (is_tag_this st i) (choice.tag_hint_of (nat_lt 0 st.at.depth) (own_method st)) (tag_of w (nat_lt 0 st.at.depth) (own_method st))
+
 receiver_of : (st : StopData) (i : ℕ) (k : Cap) (o : Option Node) → AllSuit (wanted.Fits k) (choice.receiver_of st i k o)
 receiver_of st i k None = none_suits (wanted.Fits k)
 receiver_of st i k (Some x) =
     let w = wanted.Fits k in
     let g = child_form st i in
-    let last = choice.when (choice.is_seen_form g && choice.is_ref_cap k) hint.DeclareBox in
+    let seen = choice.when (choice.is_seen_form g && choice.is_ref_cap k) hint.DeclareBox in
+    let last = choice.or_else seen (choice.tag_this st i) in
     or_suits w (choice.consume_if w true i (local_cap st x)) (choice.or_else (choice.declare_if (is_box_this st x g) w) last) (consumed w true i (local_cap st x))
     (or_suits w (choice.declare_if (is_box_this st x g) w) last (declared (is_box_this st x g) w)
-    (when_suits w (choice.is_seen_form g && choice.is_ref_cap k) hint.DeclareBox (λ s. box_suits w)))
+    (or_suits w seen (choice.tag_this st i) (when_suits w (choice.is_seen_form g && choice.is_ref_cap k) hint.DeclareBox (λ s. box_suits w)) (tagged w st i)))
 
 unfit_by : (st : StopData) (i : ℕ) (k : Cap) (r : Role) → AllSuit (wanted.Fits k) (choice.unfit_by st i k r)
 unfit_by st i k role.Receiver = receiver_of st i k (child_node st i)

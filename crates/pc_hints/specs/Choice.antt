@@ -1,8 +1,8 @@
 -- What to do about each condition that does not hold.
-use Rattle.std.specs.Prelude.{ℕ, Bool, true, false, ◌&&◌, ◌||◌, nat_eq, nat_lt, Option, Some, None, slice_get, if◌then◌else◌}
+use Rattle.std.specs.Prelude.{ℕ, Bool, true, false, not, ◌&&◌, ◌||◌, nat_eq, nat_le, nat_lt, Option, Some, None, slice_get, if◌then◌else◌}
 use Rattle.std.specs.Option.{is_some}
 use Rattle.pc_caps.specs.Order.{is_below}
-use Rattle.pc_caps.specs.Tables.{fits, unalias}
+use Rattle.pc_caps.specs.Tables.{fits, sendable, unalias}
 use Rattle.pc_caps.specs.declared.capability.Cap.{Cap}
 use Rattle.pc_caps.specs.declared.capability.Cap.TheVariants as cap
 use Rattle.pc_caps.specs.declared.capability.Form.{Form}
@@ -13,10 +13,14 @@ use Rattle.pc_core.specs.CoreData.{CoreData}
 use Rattle.pc_core.specs.Lookup.{field_named, method_named}
 use Rattle.pc_core.specs.declared.declarations.EntityDef.{EntityDef}
 use Rattle.pc_core.specs.declared.declarations.Method.{Method}
+use Rattle.pc_core.specs.declared.declarations.MethodKind.{MethodKind}
+use Rattle.pc_core.specs.declared.declarations.MethodKind.TheVariants as method
 use Rattle.pc_core.specs.declared.nodes.Node.{Node}
 use Rattle.pc_parts.specs.Parts.{child_role}
 use Rattle.pc_parts.specs.declared.parts.Role.{Role}
 use Rattle.pc_parts.specs.declared.parts.Role.TheVariants as role
+use Rattle.pc_tree.specs.BuiltIn.{bool_entity, first_own, string_entity, u64_entity}
+use Rattle.pc_tree.specs.Kinds.{is_abstract}
 use Rattle.pc_tree.specs.declared.kinds.EntityKind.{EntityKind}
 use Rattle.pc_tree.specs.declared.kinds.EntityKind.TheVariants as kind
 use Rattle.pc_words.specs.Scene.{is_param}
@@ -106,10 +110,28 @@ abbrev pub is_ref_cap : Cap → Bool
 is_ref_cap cap.Ref = true
 is_ref_cap k = false
 
+abbrev pub is_constructor : MethodKind → Bool
+is_constructor method.New = true
+is_constructor method.Spawn = true
+is_constructor k = false
+
+-- Why `this` of a method is a tag: in a recover, if its capability is not sendable; in a constructor, until all fields are set. In a function
+-- of tag it is one by its declaration.
+abbrev pub tag_hint : (recovered : Bool) → Method → Option Hint
+tag_hint recovered m = if recovered && not (sendable m.receiver) then Some hint.TagInRecover else when (is_constructor m.kind) hint.TagUntilSet
+
+abbrev pub tag_hint_of : (recovered : Bool) → Option Method → Option Hint
+tag_hint_of recovered None = None
+tag_hint_of recovered (Some m) = tag_hint recovered m
+
+-- Of a part that is `this`, seen as tag.
+abbrev pub tag_this : StopData → ℕ → Option Hint
+tag_this st i = if is_tag_this st i then tag_hint_of (nat_lt 0 st.at.depth) (own_method st) else None
+
 abbrev pub receiver_node : StopData → ℕ → Cap → Node → Form → Option Hint
 receiver_node st i k x f =
     or_else (consume_if (wanted.Fits k) true i (local_cap st x))
-    (or_else (declare_if (is_box_this st x f) (wanted.Fits k)) (when (is_seen_form f && is_ref_cap k) hint.DeclareBox))
+    (or_else (declare_if (is_box_this st x f) (wanted.Fits k)) (or_else (when (is_seen_form f && is_ref_cap k) hint.DeclareBox) (tag_this st i)))
 
 abbrev pub receiver_of : StopData → ℕ → Cap → Option Node → Option Hint
 receiver_of st i k None = None
@@ -149,14 +171,11 @@ is_condition r = false
 -- The entity of a number or a truth value.
 abbrev pub is_plain : Option (ℕ × Form) → Bool
 is_plain None = false
-is_plain (Some ty) = nat_eq ty.0 1 || nat_eq ty.0 2
-
-abbrev pub string : ℕ
-string = 3
+is_plain (Some ty) = nat_eq ty.0 u64_entity || nat_eq ty.0 bool_entity
 
 abbrev pub entity : StopData → ℕ → ℕ → Option Hint
 entity st i other =
-    or_else (when (is_condition (child_role st.at i) && is_assigned st i) hint.Compare) (when (nat_eq other string && is_plain (child_type st i)) hint.ToString)
+    or_else (when (is_condition (child_role st.at i) && is_assigned st i) hint.Compare) (when (nat_eq other string_entity && is_plain (child_type st i)) hint.ToString)
 
 abbrev pub is_trait_kind : EntityKind → Bool
 is_trait_kind kind.Trait = true
@@ -166,8 +185,17 @@ abbrev pub is_trait : Option EntityDef → Bool
 is_trait None = false
 is_trait (Some x) = is_trait_kind x.kind
 
+-- An entity of the file that may be said to be a trait: not another trait, as it could be one of those above.
+abbrev pub may_say : ℕ → Option EntityDef → Bool
+may_say e None = false
+may_say e (Some x) = nat_le first_own e && not (is_abstract x.kind)
+
+abbrev pub says_is : CoreData → Option (ℕ × Form) → Bool
+says_is core None = false
+says_is core (Some ty) = may_say ty.0 (slice_get core.entities ty.0)
+
 abbrev pub under : StopData → ℕ → ℕ → Option Hint
-under st i e = when (is_trait (slice_get st.scene.core.entities e)) (hint.SayIs i e)
+under st i e = when (is_trait (slice_get st.scene.core.entities e) && says_is st.scene.core (child_type st i)) (hint.SayIs i e)
 
 -- ---- members
 
@@ -189,15 +217,12 @@ entity_by (Some m) = Some m.entity
 
 -- ---- the rest
 
-abbrev pub tag_hint : StopData → Hint
-tag_hint st = if nat_lt 0 st.at.depth then hint.TagInRecover else hint.TagUntilSet
-
 abbrev pub shows_box : StopData → ℕ → Option Node → Bool
 shows_box st i None = false
 shows_box st i (Some x) = is_box_this st x (child_form st i)
 
 abbrev pub writable : StopData → ℕ → Option Hint
-writable st i = or_else (when (shows_box st i (child_node st i)) (hint.DeclareFunction cap.Ref)) (when (is_tag_this st i) (tag_hint st))
+writable st i = or_else (when (shows_box st i (child_node st i)) (hint.DeclareFunction cap.Ref)) (tag_this st i)
 
 -- The capability as which a value is written into an origin of this form.
 abbrev pub entered_cap : Form → Cap
@@ -228,7 +253,7 @@ chosen st (asks.Reached k) = Some (reached (is_assign st.at.kind))
 chosen st (asks.Variable k) = Some (variable (is_param st.scene st.at.method k) k)
 chosen st (asks.HasField i name) = when (has_method st.scene.core (entity_in (child_type st i)) name) (hint.CallMethod name)
 chosen st (asks.HasOwnField name) = when (has_method st.scene.core (entity_by (own_method st)) name) (hint.CallMethod name)
-chosen st (asks.Seen i k) = when (is_tag_this st i) (tag_hint st)
+chosen st (asks.Seen i k) = tag_this st i
 chosen st (asks.NotFixed b) = Some hint.DeclareField
 chosen st (asks.Writable i k) = writable st i
 chosen st (asks.Enters k) = fitting st 0 (entered_cap (child_form st 1))

@@ -8,14 +8,12 @@ use crate::hint::Hint;
 use crate::nodes::{
     child_node, is_assigned, is_box_this, is_new, is_tag_this, local_cap, old_form,
 };
-use pc_caps::{Cap, Form, below, fits, unalias};
+use pc_caps::{Cap, Form, below, fits, sendable, unalias};
 use pc_conditions::Condition;
-use pc_core::{Core, Node, NodeKind};
+use pc_core::{Core, Method, MethodKind, Node, NodeKind};
 use pc_parts::{Role, child_role};
 use pc_sentences::{Stop, lost_slot};
-use pc_tree::EntityKind;
-
-const STRING: u32 = 3;
+use pc_tree::{BOOL_ENTITY, EntityKind, FIRST_OWN, STRING_ENTITY, U64_ENTITY};
 
 /// What the form of a part must be.
 #[derive(Clone, Copy)]
@@ -179,6 +177,39 @@ fn is_ref_cap(cap: Cap) -> bool
     matches!(cap, Cap::Ref)
 }
 
+fn is_constructor(kind: MethodKind) -> bool
+    ensures { result ≡ spec.is_constructor kind }
+{
+    match kind {
+        MethodKind::New | MethodKind::Spawn => true,
+        MethodKind::Fun | MethodKind::Be => false,
+    }
+}
+
+// Why `this` of a method is a tag, if it is not one by its declaration.
+fn tag_hint(recovered: bool, method: &Method) -> Option<Hint>
+    ensures { result ≡ spec.tag_hint recovered method.now }
+{
+    if recovered && !sendable(method.receiver) {
+        Some(Hint::TagInRecover)
+    } else {
+        when(is_constructor(method.kind), Hint::TagUntilSet)
+    }
+}
+
+// What to say of a part that is `this`, seen as tag.
+fn tag_this(stop: &Stop, index: usize) -> Option<Hint>
+    ensures { result ≡ spec.tag_this stop.now index }
+{
+    if !is_tag_this(stop, index) {
+        return None;
+    }
+    match stop.core().method_at(stop.node().method) {
+        Some(method) => tag_hint(stop.node().depth > 0, method),
+        None => None,
+    }
+}
+
 // What to do about a receiver that shows this node, and whose form does not fit.
 fn receiver_node(stop: &Stop, index: usize, cap: Cap, node: &Node, form: Form) -> Option<Hint>
     ensures { result ≡ spec.receiver_node stop.now index cap node.now form }
@@ -187,7 +218,10 @@ fn receiver_node(stop: &Stop, index: usize, cap: Cap, node: &Node, form: Form) -
     let consumed = consume_if(wanted, true, index, local_cap(stop, node));
     let declared = declare_if(is_box_this(stop, node, form), wanted);
     let seen = when(is_seen_form(form) && is_ref_cap(cap), Hint::DeclareBox);
-    or_else(consumed, or_else(declared, seen))
+    or_else(
+        consumed,
+        or_else(declared, or_else(seen, tag_this(stop, index))),
+    )
 }
 
 // What to do about a receiver whose form does not fit.
@@ -255,7 +289,7 @@ fn is_plain(ty: Option<(u32, Form)>) -> bool
     ensures { result ≡ spec.is_plain ty }
 {
     match ty {
-        Some(found) => found.0 == 1 || found.0 == 2,
+        Some(found) => found.0 == U64_ENTITY || found.0 == BOOL_ENTITY,
         None => false,
     }
 }
@@ -267,7 +301,7 @@ fn entity_hint(stop: &Stop, index: usize, other: u32) -> Option<Hint>
     or_else(
         when(assigned, Hint::Compare),
         when(
-            other == STRING && is_plain(stop.child_type(index)),
+            other == STRING_ENTITY && is_plain(stop.child_type(index)),
             Hint::ToString,
         ),
     )
@@ -281,6 +315,30 @@ fn is_trait(core: &Core, entity: u32) -> bool
         Some(found) => matches!(found.kind, EntityKind::Trait),
         None => false,
     }
+}
+
+// Whether the entity of this type may be said to be a trait.
+fn says_is(core: &Core, ty: Option<(u32, Form)>) -> bool
+    ensures { result ≡ spec.says_is core.now ty }
+{
+    match ty {
+        Some(found) => match core.entity_at(found.0) {
+            Some(entity) => FIRST_OWN <= found.0 && !entity.kind.is_abstract(),
+            None => false,
+        },
+        None => false,
+    }
+}
+
+// What to do about a part whose entity is not below this one.
+fn under(stop: &Stop, index: usize, above: u32) -> Option<Hint>
+    ensures { result ≡ spec.under stop.now index above }
+{
+    let core = stop.core();
+    when(
+        is_trait(core, above) && says_is(core, stop.child_type(index)),
+        Hint::SayIs(index, above),
+    )
 }
 
 fn has_method(core: &Core, entity: Option<u32>, name: u32) -> bool
@@ -320,16 +378,6 @@ fn entity_by(core: &Core, method: u32) -> Option<u32>
     }
 }
 
-fn tag_hint(stop: &Stop) -> Hint
-    ensures { result ≡ spec.tag_hint stop.now }
-{
-    if stop.node().depth > 0 {
-        Hint::TagInRecover
-    } else {
-        Hint::TagUntilSet
-    }
-}
-
 // Whether the child is `this` of box in a function of box.
 fn shows_box(stop: &Stop, index: usize) -> bool
     ensures { result ≡ spec.shows_box stop.now index (node_is stop.now index) }
@@ -345,7 +393,7 @@ fn writable(stop: &Stop, index: usize) -> Option<Hint>
 {
     or_else(
         when(shows_box(stop, index), Hint::DeclareFunction(Cap::Ref)),
-        when(is_tag_this(stop, index), tag_hint(stop)),
+        tag_this(stop, index),
     )
 }
 
@@ -391,7 +439,7 @@ pub fn chosen(stop: &Stop, condition: Condition) -> Option<Hint>
     let core = stop.core();
     let node = stop.node();
     match condition {
-        Condition::Under(child, entity) => when(is_trait(core, entity), Hint::SayIs(child, entity)),
+        Condition::Under(child, entity) => under(stop, child, entity),
         Condition::Fits(child, cap) => unfit(stop, child, cap),
         Condition::Below(child, form) => not_below(stop, child, form),
         Condition::IsA(child, entity) => entity_hint(stop, child, entity),
@@ -409,7 +457,7 @@ pub fn chosen(stop: &Stop, condition: Condition) -> Option<Hint>
             has_method(core, entity_by(core, node.method), name),
             Hint::CallMethod(name),
         ),
-        Condition::Seen(child, _) => when(is_tag_this(stop, child), tag_hint(stop)),
+        Condition::Seen(child, _) => tag_this(stop, child),
         Condition::NotFixed(_) => Some(Hint::DeclareField),
         Condition::Writable(child, _) => writable(stop, child),
         Condition::Enters(_) => fitting(stop, 0, entered_cap(stop.child_form(1))),
