@@ -1,5 +1,7 @@
 mod Lengths
 mod Made
+mod NotesFound
 mod OneText
 mod Reasons
 mod SameLists
+mod Unset

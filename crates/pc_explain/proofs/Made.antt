@@ -8,6 +8,7 @@ use Rattle.pc_check.specs.Faults.{StopsAt, LeavesUnset}
 use Rattle.pc_core.specs.CoreData.{CoreData}
 use Rattle.pc_core.specs.declared.declarations.Method.{Method}
 use Rattle.pc_core.specs.declared.nodes.Node.{Node}
+use Rattle.pc_lists.specs.Options.{◌>>=◌}
 use Rattle.pc_lists.specs.Texts.{Text}
 use Rattle.pc_rules.specs.Parts.{Masks}
 use Rattle.pc_sub.specs.Declarations.{first_fault}

@@ -56,6 +56,7 @@ node_one : (name bytes : Text) (tokens : List Token) (core : CoreData) (a b : An
     → slice_get core.nodes n ≡ Some x → slice_get core.nodes k ≡ Some y
     → node_text name (stop_at (scene_of bytes tokens core a.notes) n x m) (reasons_of core a x m)
     ≡ node_text name (stop_at (scene_of bytes tokens core b.notes) k y l) (reasons_of core b y l)
+unfolding reasons_of
 node_one name bytes tokens core a b n k m l x y one agree f s t g h =
     let o = one core a b n k f s.0 t.0 in
     let is : x ≡ s.0.at = same_Some x s.0.at (sym g ∙ s.0.is_at) in

@@ -8,6 +8,7 @@ use Rattle.pc_check.specs.Inference.{inferred_slot, with_inferred, with_slot}
 use Rattle.pc_conditions.specs.Failing.{reasons}
 use Rattle.pc_core.specs.CoreData.{CoreData}
 use Rattle.pc_core.specs.declared.nodes.Node.{Node}
+use Rattle.pc_lists.specs.Options.{◌>>=◌}
 use Rattle.pc_rules.specs.Parts.{Masks, Slots, notes_of}
 use Rattle.pc_explain.specs.Explanation.{all_of, reasons_by, reasons_of}
 

@@ -25,12 +25,15 @@ use Rattle.pc_words.specs.Scene.{SceneData}
 
 -- ---- a parameter that is not sendable
 
+abbrev pub creator : Form → Text
+creator f = codes "a constructor that gives " ++ new_word f
+
 -- What takes only sendable parameters.
-unfoldable pub taker : MethodKind → Form → Text
+abbrev pub taker : MethodKind → Form → Text
 taker kind.Be f = codes "a behaviour"
 taker kind.Spawn f = codes "an actor's constructor"
-taker kind.New f = codes "a constructor that gives " ++ new_word f
-taker kind.Fun f = codes "a constructor that gives " ++ new_word f
+taker kind.New f = creator f
+taker kind.Fun f = creator f
 
 unfoldable pub parameter_line : SceneData → Method → ParamInfo → Text
 parameter_line s m p =

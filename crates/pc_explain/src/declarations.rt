@@ -16,18 +16,21 @@ use pc_words::{
 };
 use std::alloc::{AllocError, Global};
 
+fn push_creator(out: &mut Vec<u8>, form: Form) -> Result<(), AllocError>
+    ensures { OnOk result (out.new.items ≡ out.old.items ++ spec.creator form) }
+{
+    push_bytes(out, b"a constructor that gives ")?;
+    push_bytes(out, new_word(form))
+}
+
 // Appends what takes only sendable parameters.
-#[tactic(auto, unfolding(crate::specs::Declarations::taker))]
 fn push_taker(out: &mut Vec<u8>, kind: MethodKind, form: Form) -> Result<(), AllocError>
     ensures { OnOk result (out.new.items ≡ out.old.items ++ spec.taker kind form) }
 {
     match kind {
         MethodKind::Be => push_bytes(out, b"a behaviour"),
         MethodKind::Spawn => push_bytes(out, b"an actor's constructor"),
-        MethodKind::New | MethodKind::Fun => {
-            push_bytes(out, b"a constructor that gives ")?;
-            push_bytes(out, new_word(form))
-        }
+        MethodKind::New | MethodKind::Fun => push_creator(out, form),
     }
 }
 

@@ -130,6 +130,13 @@ fn push_declaration(
     push_declaration_lines(alloc, out, scene, fault)
 }
 
+// The note of a node.
+fn note_at(notes: &[Note], node: u32) -> Option<Note>
+    ensures { result ≡ slice_get notes.now node }
+{
+    notes.get(node as usize).copied()
+}
+
 // The notes of these nodes, if each has one.
 fn notes_of(
     alloc: Global,
@@ -140,8 +147,8 @@ fn notes_of(
 {
     let mut found = List::new(alloc);
     for child in children {
-        match notes.get(*child as usize) {
-            Some(note) => found.push(*note)?,
+        match note_at(notes, *child) {
+            Some(note) => found.push(note)?,
             None => return Ok(None),
         }
     }
@@ -366,8 +373,7 @@ fn explain_unset(
 fn body_note(ann: &Ann, method: &Method) -> Option<Note>
     ensures { result ≡ spec.body_note ann.now method.now }
 {
-    let body = method.body?;
-    ann.notes.get(body as usize).copied()
+    note_at(ann.notes.as_slice(), method.body?)
 }
 
 // The explanation of the node of this number, of which no rule says anything.

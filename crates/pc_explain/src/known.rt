@@ -167,8 +167,8 @@ fn infer_slots(core: &Core, known: &mut Known, nodes: &[Node])
     }
 }
 
-// The first nodes, as many as this.
-fn first_nodes(nodes: &[Node], count: usize) -> &[Node]
+/// The first nodes, as many as this.
+pub(crate) fn first_nodes(nodes: &[Node], count: usize) -> &[Node]
     ensures { result.now ≡ take count nodes.now }
 {
     &nodes[..count.min(nodes.len())]

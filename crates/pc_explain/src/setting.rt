@@ -1,9 +1,11 @@
 //! The lines on a constructor that leaves a field unset.
-ghost use Rattle.std.specs.Prelude.{◌≡◌, ◌++◌, true, OnOk, slice_range};
+ghost use Rattle.std.specs.Prelude.{◌≡◌, ◌++◌, drop, true, OnOk};
 ghost use Rattle.std.specs.Option.{option_copied};
 ghost use Rattle.pc_core.specs.Lookup.{own_nodes as own_nodes_are};
+ghost use Rattle.pc_masks.specs.Masks.{has};
 ghost use Rattle.pc_explain.specs.Setting as spec;
 
+use crate::known::first_nodes;
 use pc_core::{Core, EntityDef, FieldInfo, Method, Node, NodeKind};
 use pc_masks::Mask;
 use pc_window::{push_bytes, push_place, push_quoted};
@@ -114,21 +116,19 @@ fn push_write_places(
 fn own_nodes<'a>(core: &'a Core, method: &Method) -> &'a [Node]
     ensures { result.now ≡ own_nodes_are core.now method.now }
 {
-    let nodes = core.nodes();
     let first = method.first_node as usize;
     let end = match method.body {
         None => first,
         Some(body) => body as usize + 1,
     };
-    part_of(nodes, first, end)
+    first_nodes(nodes_from(core.nodes(), first), end.saturating_sub(first))
 }
 
-// These nodes, without those before the first and those from the end on.
-fn part_of(nodes: &[Node], first: usize, end: usize) -> &[Node]
-    ensures { result.now ≡ slice_range nodes.now first end }
+// These nodes without the first, as many as this.
+fn nodes_from(nodes: &[Node], first: usize) -> &[Node]
+    ensures { result.now ≡ drop first nodes.now }
 {
-    let front = &nodes[..end.min(nodes.len())];
-    &front[first.min(front.len())..]
+    &nodes[first.min(nodes.len())..]
 }
 
 // Appends the line on a field that is not set.
@@ -171,6 +171,16 @@ fn push_part(
     }
 }
 
+// Whether the field of this index is set.
+fn is_set(set: Mask, index: usize) -> bool
+    ensures { result ≡ has set index }
+{
+    match u32::try_from(index) {
+        Ok(number) => set.has(number),
+        Err(_) => false,
+    }
+}
+
 // Appends the lines on the fields that are not set.
 fn push_unset_parts(
     alloc: Global,
@@ -182,10 +192,9 @@ fn push_unset_parts(
 ) -> Result<(), AllocError>
     ensures { OnOk result (out.new.items ≡ out.old.items ++ spec.unset_parts scene.now method.now set 0 fields.now) }
 {
-    let mut index = 0;
-    for field in fields {
-        push_part(alloc, out, scene, method, set.has(index), *field)?;
-        index += 1;
+    for index in 0..fields.len() {
+        let set = is_set(set, index);
+        push_part(alloc, out, scene, method, set, fields[index])?;
     }
     Ok(())
 }
@@ -194,12 +203,10 @@ fn push_unset_parts(
 fn first_unset(set: Mask, fields: &[FieldInfo]) -> Option<FieldInfo>
     ensures { result ≡ spec.first_unset set 0 fields.now }
 {
-    let mut index = 0;
-    for field in fields {
-        if !set.has(index) {
-            return Some(*field);
+    for index in 0..fields.len() {
+        if !is_set(set, index) {
+            return Some(fields[index]);
         }
-        index += 1;
     }
     None
 }
