@@ -1,5 +1,5 @@
 -- The line on a node.
-use Rattle.std.specs.Prelude.{ℕ, Bool, true, false, ◌&&◌, nat_le, [], ◌++◌, Option, Some, None, slice_get, if◌then◌else◌, codes}
+use Rattle.std.specs.Prelude.{ℕ, Bool, true, false, nat_eq, [], ◌++◌, Option, Some, None, slice_get, if◌then◌else◌, codes}
 use Rattle.pc_caps.specs.declared.capability.Cap.{Cap}
 use Rattle.pc_core.specs.CoreData.{CoreData}
 use Rattle.pc_core.specs.declared.declarations.Method.{Method}
@@ -15,7 +15,7 @@ use Rattle.pc_window.specs.Quoting.{piece, quoted}
 use Rattle.pc_words.specs.Caps.{cap_word}
 use Rattle.pc_words.specs.Forms.{name_text, place_words}
 use Rattle.pc_words.specs.Methods as methods
-use Rattle.pc_words.specs.Scene.{SceneData, child, is_param, is_unwritten_this, slot_in, slot_name, slot_type}
+use Rattle.pc_words.specs.Scene.{SceneData, child, is_param, slot_in, slot_name, slot_type}
 use Rattle.pc_parts.specs.Members.{callee, field_at, place_of}
 
 abbrev pub op_word : Op → Text
@@ -67,17 +67,18 @@ local_words s x k = typed s.core (local_head (is_param s x.method k)) (slot_name
 unfoldable pub consume_words : SceneData → Node → ℕ → Text
 consume_words s x k = codes "`consume " ++ (piece (slot_name s x.method k) ++ (codes "`" ++ of_part s.core (slot_type s x.method k)))
 
-abbrev pub ends_by : Node → Option Method → Bool
-ends_by x None = false
-ends_by x (Some m) = nat_le x.span.end m.span.start
+abbrev pub ends_at : ℕ → Option Node → Bool
+ends_at end None = false
+ends_at end (Some o) = nat_eq o.span.end end
 
-abbrev pub is_own_origin : SceneData → Option ℕ → Bool
-is_own_origin s None = false
-is_own_origin s (Some c) = is_unwritten_this s c
+abbrev pub origin_ends_at : CoreData → ℕ → Option ℕ → Bool
+origin_ends_at core end None = false
+origin_ends_at core end (Some c) = ends_at end (slice_get core.nodes c)
 
--- The write is that of an initial value: it stands before the method's name, in the text of a field.
+-- The write is that of an initial value: it has the place of the field's name, as its origin has, so that both end there.
+-- An assignment goes on after its origin, to the value.
 unfoldable pub is_initial : SceneData → Node → Bool
-is_initial s x = is_own_origin s (child x 1) && ends_by x (slice_get s.core.methods x.method)
+is_initial s x = origin_ends_at s.core x.span.end (child x 1)
 
 abbrev pub write_head : Bool → Text
 write_head initial = if initial then codes "the initial value of the field " else codes "the write of the field "

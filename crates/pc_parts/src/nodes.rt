@@ -162,32 +162,32 @@ fn push_consume(
     push_of_part(alloc, out, scene.core(), scene.slot_type(node.method, slot))
 }
 
-// Whether the node stands before the name of the method of this number.
-fn ends_by(core: &Core, node: &Node, method: u32) -> bool
-    ensures { result ≡ spec.ends_by node.now (slice_get core.now.methods method) }
+// Whether the node of this number ends at this offset.
+fn ends_at(core: &Core, node: u32, end: u32) -> bool
+    ensures { result ≡ spec.ends_at end (slice_get core.now.nodes node) }
 {
-    match core.method_at(method) {
-        Some(found) => node.span.end <= found.span.start,
+    match core.node_at(node) {
+        Some(found) => found.span.end == end,
         None => false,
     }
 }
 
-// Whether the origin is `this`, and is not written.
-fn is_own_origin(scene: &Scene, origin: Option<u32>) -> bool
-    ensures { result ≡ spec.is_own_origin scene.now origin }
+// Whether there is an origin, and it ends at this offset.
+fn origin_ends_at(core: &Core, origin: Option<u32>, end: u32) -> bool
+    ensures { result ≡ spec.origin_ends_at core.now end origin }
 {
     match origin {
-        Some(number) => scene.is_unwritten_this(number),
+        Some(number) => ends_at(core, number, end),
         None => false,
     }
 }
 
-// Whether the write is that of an initial value.
+// Whether the write is that of an initial value: only an assignment goes on after its origin.
 #[tactic(auto, unfolding(crate::specs::NodeWords::is_initial))]
 fn is_initial(scene: &Scene, node: &Node) -> bool
     ensures { result ≡ spec.is_initial scene.now node.now }
 {
-    is_own_origin(scene, child(node, 1)) && ends_by(scene.core(), node, node.method)
+    origin_ends_at(scene.core(), child(node, 1), node.span.end)
 }
 
 fn write_head(initial: bool) -> &'static [u8]
