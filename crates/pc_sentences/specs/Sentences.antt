@@ -14,7 +14,7 @@ use Rattle.pc_core.specs.declared.declarations.Method.{Method}
 use Rattle.pc_core.specs.declared.nodes.NodeKind.{NodeKind}
 use Rattle.pc_core.specs.declared.nodes.NodeKind.TheVariants as node
 use Rattle.pc_lists.specs.Texts.{Text}
-use Rattle.pc_parts.specs.Parts.{child_role}
+use Rattle.pc_parts.specs.Parts.{child_role, shown_node}
 use Rattle.pc_parts.specs.declared.parts.Role.{Role}
 use Rattle.pc_parts.specs.declared.parts.Role.TheVariants as role
 use Rattle.pc_window.specs.Places.{place}
@@ -31,12 +31,13 @@ use Rattle.pc_sentences.specs.Untyped.{reason}
 
 -- ---- of a child
 
-abbrev pub reason_of : StopData → Option ℕ → Text
-reason_of st None = []
-reason_of st (Some c) = reason st.scene c
+-- The reason of the node that the part shows, since the words before it say that this one has no type.
+abbrev pub reason_of : StopData → Role → Option ℕ → Text
+reason_of st r None = []
+reason_of st r (Some c) = reason st.scene (shown_node st.scene.core r c)
 
 unfoldable pub untyped : StopData → ℕ → Text
-untyped st i = part st i ++ (codes " has no type: " ++ reason_of st (child st.at i))
+untyped st i = part st i ++ (codes " has no type: " ++ reason_of st (child_role st.at i) (child st.at i))
 
 abbrev pub why_not : StopData → Option (ℕ × Form) → ℕ → Text
 why_not st None e = []

@@ -11,7 +11,7 @@ use pc_ann::Rule;
 use pc_caps::{Cap, Form, lift};
 use pc_conditions::{Condition, Reason};
 use pc_core::{Core, Method, NodeKind};
-use pc_parts::{Role, child_role};
+use pc_parts::{Role, child_role, shown_node};
 use pc_window::{push_bytes, push_number, push_piece, push_place, push_quoted};
 use pc_words::{
     cap_word, child, entity_name, form_word, name_text, push_entity, push_method_name,
@@ -43,17 +43,23 @@ const LOST: &[u8] =
 
 const LOOPED: &[u8] = b" is set in the loop, which may run no turn or several";
 
-// Appends why a child has no type.
+// Appends why the node that a part shows has no type.
 fn push_reason_of(
     alloc: Global,
     out: &mut Vec<u8>,
     stop: &Stop,
+    role: Role,
     node: Option<u32>,
 ) -> Result<(), AllocError>
-    ensures { OnOk result (out.new.items ≡ out.old.items ++ spec.reason_of stop.now node) }
+    ensures { OnOk result (out.new.items ≡ out.old.items ++ spec.reason_of stop.now role node) }
 {
     match node {
-        Some(number) => push_reason(alloc, out, stop.scene(), number),
+        Some(number) => push_reason(
+            alloc,
+            out,
+            stop.scene(),
+            shown_node(stop.core(), role, number),
+        ),
         None => Ok(()),
     }
 }
@@ -69,7 +75,14 @@ fn push_untyped(
 {
     push_part(alloc, out, stop, index)?;
     push_bytes(out, b" has no type: ")?;
-    push_reason_of(alloc, out, stop, child(stop.node(), index))
+    let node = stop.node();
+    push_reason_of(
+        alloc,
+        out,
+        stop,
+        child_role(node, index),
+        child(node, index),
+    )
 }
 
 // Appends `R is a E`.
