@@ -15,9 +15,13 @@ use Rattle.pc_refusals.specs.declared.typing.Accepted.{Accepted}
 use Rattle.pc_top.specs.CoreOf.{CoreOf}
 use Rattle.pc_top.specs.Shapes.{ByNumber, OfAccepted}
 
+-- How many seeds are played at most.
+abbrev pub seeds_limit : ℕ
+seeds_limit = 10000
+
 -- One to five digits, and a number from 1 to 10,000. The first ones may be zeros.
 abbrev pub IsCount : Text → ℕ → Type 0
-IsCount text n = IsNumber 5 text n × (1 ≤ n) × (n ≤ 10000)
+IsCount text n = IsNumber 5 text n × (1 ≤ n) × (n ≤ seeds_limit)
 
 -- ---- lines
 
