@@ -1,5 +1,5 @@
 -- What has a name already.
-use Rattle.std.specs.Prelude.{ℕ, List, [], ◌∷◌, map, Option, Some, None, codes, if◌then◌else◌}
+use Rattle.std.specs.Prelude.{ℕ, Bool, ◌||◌, List, [], ◌∷◌, map, Option, Some, None, codes, is_some, if◌then◌else◌}
 use Rattle.std.specs.List.{find}
 use Rattle.std.specs.Str.{bytes_eq}
 use Rattle.pc_caps.specs.declared.span.Span.{Span}
@@ -62,8 +62,33 @@ outer_bearer bytes file e name at =
 unfoldable pub bearer_of : Text → t.File → t.Entity → Option t.Method → Text → ℕ → Option (Bearer × Span)
 bearer_of bytes file e m name at = or_else (param_bearer bytes m name at) (or_else (local_bearer bytes e m name at) (outer_bearer bytes file e name at))
 
+-- A field or a method of the entity that is called `create`.
+unfoldable pub create_bearer : Text → t.Entity → ℕ → Option (Bearer × Span)
+create_bearer bytes e at = or_else (field_bearer bytes e.fields (codes "create") at) (method_bearer bytes e.methods (codes "create") at)
+
 -- ---- entities by their names
 
+abbrev pub is_value : Text → Bool
+is_value name = bytes_eq name (codes "None") || bytes_eq name (codes "U64") || bytes_eq name (codes "Bool") || bytes_eq name (codes "String")
+
+-- What kind the entity of this name is, of those that each program has.
+unfoldable pub built_in_kind : Text → Option EntityKind
+built_in_kind name =
+    if is_value name then Some kind.Primitive
+    else (if bytes_eq name (codes "Env") then Some kind.Class else (if bytes_eq name (codes "OutStream") then Some kind.Actor else None))
+
+unfoldable pub is_built_in : Text → Bool
+is_built_in name = is_some (built_in_kind name)
+
+-- The same of a file's entities.
 abbrev pub kind_named : Text → List t.Entity → Option EntityKind
 kind_named name [] = None
 kind_named name (e ∷ es) = if bytes_eq e.name.text name then Some e.kind else kind_named name es
+
+abbrev pub kind_or : Option EntityKind → Option EntityKind → Option EntityKind
+kind_or None other = other
+kind_or (Some k) other = Some k
+
+-- The same of both.
+unfoldable pub known_kind : Text → List t.Entity → Option EntityKind
+known_kind name es = kind_or (built_in_kind name) (kind_named name es)

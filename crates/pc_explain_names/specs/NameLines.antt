@@ -1,6 +1,6 @@
 -- The lines on a fault of a file's names.
 use Rattle.std.specs.Prelude.{ℕ, Bool, true, false, List, [], ◌∷◌, ◌++◌, map, Option, Some, None, nat_eq, codes, if◌then◌else◌}
-use Rattle.std.specs.List.{list_any}
+use Rattle.std.specs.List.{find, list_any}
 use Rattle.pc_caps.specs.declared.span.Span.{Span}
 use Rattle.pc_lists.specs.Texts.{Text, line_end}
 use Rattle.pc_tree.specs.Tree as t
@@ -11,9 +11,9 @@ use Rattle.pc_window.specs.Quoting.{piece, quoted}
 use Rattle.pc_explain_names.specs.declared.bearers.Bearer.{Bearer}
 use Rattle.pc_explain_names.specs.declared.marks.Mark.{Mark}
 use Rattle.pc_explain_names.specs.declared.marks.Mark.TheVariants as mark
-use Rattle.pc_explain_names.specs.Bearers.{bearer_of, kind_named, kind_word, word}
+use Rattle.pc_explain_names.specs.Bearers.{bearer_of, create_bearer, is_built_in, kind_word, known_kind, word}
 use Rattle.pc_explain_names.specs.Homes.{marks_at, visible_at}
-use Rattle.pc_explain_names.specs.Lists.{field_span, is_named, method_span, name_span, names}
+use Rattle.pc_explain_names.specs.Lists.{field_span, is_named, is_other, method_span, name_span, names}
 use Rattle.pc_explain_names.specs.Marks.{use_in}
 
 -- ---- the name
@@ -103,14 +103,14 @@ unfoldable pub is_provided : t.Entity → ℕ → Bool
 is_provided e at = list_any (begins_at at) (map name_span e.provides)
 
 unfoldable pub outside_line : Text → t.File → t.Entity → ℕ → Text
-outside_line name file e at = type_line (is_provided e at) name (kind_named name file.entities)
+outside_line name file e at = type_line (is_provided e at) name (known_kind name file.entities)
 
 -- By how the name is used.
 unfoldable pub use_lines : Text → t.File → Span → t.Entity → List Span → Option Mark → Text
 use_lines bytes file span e visible (Some mark.Bare) = bare_lines bytes (piece_of bytes span) e visible
 use_lines bytes file span e visible (Some mark.Consumed) = consumed_lines bytes (piece_of bytes span) e visible
 use_lines bytes file span e visible (Some (mark.Constructor head)) = constructor_line (piece_of bytes head) (piece_of bytes span)
-use_lines bytes file span e visible (Some mark.Type) = type_line false (piece_of bytes span) (kind_named (piece_of bytes span) file.entities)
+use_lines bytes file span e visible (Some mark.Type) = type_line false (piece_of bytes span) (known_kind (piece_of bytes span) file.entities)
 use_lines bytes file span e visible (Some (mark.Local s)) = []
 use_lines bytes file span e visible None = outside_line (piece_of bytes span) file e span.start
 
@@ -129,29 +129,84 @@ stands_at bytes at = codes " at " ++ (place bytes at ++ (codes ", which is visib
 unfoldable pub named_line : Text → Text → Bearer → ℕ → Text
 named_line bytes name b at = codes "rule name: " ++ (quoted name ++ (codes " is the name of the " ++ (word b ++ stands_at bytes at)))
 
-unfoldable pub bearer_line : Text → Text → Option (Bearer × Span) → Text
-bearer_line bytes name None = built_in_line name
-bearer_line bytes name (Some b) = named_line bytes name b.0 b.1.start
-
 abbrev pub other_name_hint : Text
 other_name_hint = codes "hint: give one of the two another name" ++ line_end
 
+unfoldable pub bearer_lines : Text → Text → Bearer → ℕ → Text
+bearer_lines bytes name b at = named_line bytes name b at ++ other_name_hint
+
+unfoldable pub built_in_lines : Text → Text
+built_in_lines name = built_in_line name ++ other_name_hint
+
+-- In the body of a trait's method it is the name of a field of an entity that takes the method over.
+unfoldable pub taken_lines : Text → Text
+taken_lines name = codes "rule name: " ++ (quoted name ++ (codes " is the name of a field of an entity that takes this method over" ++ (line_end ++ other_name_hint)))
+
+-- ---- a constructor `create` that is added, whose name stands already
+
+unfoldable pub added_at : Text → t.Entity → ℕ → Text
+added_at bytes e at = codes " at " ++ (place bytes at ++ (codes ", and a constructor `create` is added to " ++ (piece e.name.text ++ (codes ", which has none" ++ line_end))))
+
+unfoldable pub added_line : Text → t.Entity → Bearer → ℕ → Text
+added_line bytes e b at = codes "rule name: `create` is the name of the " ++ (word b ++ added_at bytes e at)
+
+unfoldable pub added_rule : Text → t.Entity → Option (Bearer × Span) → Text
+added_rule bytes e None = []
+added_rule bytes e (Some b) = added_line bytes e b.0 b.1.start
+
+unfoldable pub added_lines : Text → t.Entity → Option t.Method → ℕ → Text
+added_lines bytes e m at = node_line (codes "create") e m ++ (added_rule bytes e (create_bearer bytes e at) ++ other_name_hint)
+
+-- ---- a name that stands in an `is` list already
+
+unfoldable pub again_line : Text → Text → ℕ → Text
+again_line bytes name at = codes "rule name: " ++ (quoted name ++ (codes " stands after `is` already, at " ++ (place bytes at ++ line_end)))
+
+unfoldable pub again_rule : Text → Text → Option Span → Text
+again_rule bytes name None = []
+again_rule bytes name (Some s) = again_line bytes name s.start
+
+abbrev pub again_hint : Text
+again_hint = codes "hint: take one of the two away" ++ line_end
+
+unfoldable pub first_provided : Text → Text → t.Entity → ℕ → Option Span
+first_provided bytes name e at = find (is_other bytes name at) (map name_span e.provides)
+
+unfoldable pub again_lines : Text → Text → t.Entity → Option t.Method → ℕ → Text
+again_lines bytes name e m at = node_line name e m ++ (again_rule bytes name (first_provided bytes name e at) ++ again_hint)
+
+-- ---- by what has the name
+
+-- Nothing in the file.
+unfoldable pub unborne_lines : Text → Text → t.Entity → Option t.Method → ℕ → Text
+unborne_lines bytes name e m at =
+    if is_built_in name then node_line name e m ++ built_in_lines name
+    else (if begins_at at e.name.span then added_lines bytes e m at else node_line name e m ++ taken_lines name)
+
+unfoldable pub borne_lines : Text → Text → t.Entity → Option t.Method → ℕ → Option (Bearer × Span) → Text
+borne_lines bytes name e m at None = unborne_lines bytes name e m at
+borne_lines bytes name e m at (Some b) = node_line name e m ++ bearer_lines bytes name b.0 b.1.start
+
+unfoldable pub named_lines : Text → t.File → Text → t.Entity → Option t.Method → ℕ → Text
+named_lines bytes file name e m at = borne_lines bytes name e m at (bearer_of bytes file e m name at)
+
 unfoldable pub double_lines : Text → t.File → Span → t.Entity → Option t.Method → Text
 double_lines bytes file span e m =
-    node_line (piece_of bytes span) e m ++ (bearer_line bytes (piece_of bytes span) (bearer_of bytes file e m (piece_of bytes span) span.start) ++ other_name_hint)
+    if is_provided e span.start then again_lines bytes (piece_of bytes span) e m span.start
+    else named_lines bytes file (piece_of bytes span) e m span.start
 
 -- ---- traits in a cycle, and Main
 
-unfoldable pub trait_line : Text → Text
-trait_line name = codes "node: the trait " ++ (piece name ++ line_end)
+unfoldable pub trait_line : EntityKind → Text → Text
+trait_line k name = codes "node: the " ++ (kind_word k ++ (codes " " ++ (piece name ++ line_end)))
 
 unfoldable pub chain_lines : Text → Text
 chain_lines name =
     codes "rule is: a chain of `is` leads from " ++ (piece name ++ (codes " back to " ++ (piece name
     ++ (line_end ++ (codes "hint: take one `is` of the chain away" ++ line_end)))))
 
-unfoldable pub cycle_lines : Text → Text
-cycle_lines name = trait_line name ++ chain_lines name
+unfoldable pub cycle_lines : EntityKind → Text → Text
+cycle_lines k name = trait_line k name ++ chain_lines name
 
 unfoldable pub main_lines : Text
 main_lines =

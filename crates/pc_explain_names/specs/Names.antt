@@ -20,6 +20,11 @@ abbrev pub double_in : Text → t.File → Span → Option t.Entity → Text
 double_in bytes file span None = []
 double_in bytes file span (Some e) = double_lines bytes file span e (method_at e span.start)
 
+-- The trait or the interface whose name stands there.
+abbrev pub cycle_in : Text → Span → Option t.Entity → Text
+cycle_in bytes span None = []
+cycle_in bytes span (Some e) = cycle_lines e.kind (piece_of bytes span)
+
 -- The explanation of a fault of the names of the file of this name with these bytes. Of a limit that is passed, and of no
 -- memory, there is none.
 abbrev pub names_text : Text → Text → t.File → NameFault → Text
@@ -27,6 +32,6 @@ names_text name bytes file (fault.Double s) = head name bytes s (codes "name twi
 names_text name bytes file (fault.Unknown s) = head name bytes s (codes "name unknown") ++ unknown_in bytes file s (entity_at file s.start)
 names_text name bytes file fault.NoMain = no_main_line name ++ no_main_lines
 names_text name bytes file (fault.BadMain s) = head name bytes s (codes "Main is of another form") ++ main_lines
-names_text name bytes file (fault.Cycle s) = head name bytes s (codes "trait in a cycle") ++ cycle_lines (piece_of bytes s)
+names_text name bytes file (fault.Cycle s) = head name bytes s (codes "trait in a cycle") ++ cycle_in bytes s (entity_at file s.start)
 names_text name bytes file (fault.TooMany w s) = []
 names_text name bytes file fault.Memory = []

@@ -1,6 +1,7 @@
 //! What has a name already, and entities by their names.
 ghost use Rattle.std.specs.Prelude.{◌≡◌, map, IfOk};
 ghost use Rattle.std.specs.Option.{option_map};
+ghost use Rattle.std.specs.Str.{bytes_eq};
 ghost use Rattle.pc_explain_names.specs.Bearers as spec;
 ghost use Rattle.pc_tree.specs.View.{entity_view, field_view, file_view, method_view};
 
@@ -185,8 +186,66 @@ pub(crate) fn bearer_of(
     outer_bearer(alloc, bytes, file, entity, name, at)
 }
 
-/// The kind of the entity of this name.
-pub(crate) fn kind_named(name: &[u8], entities: &[Entity]) -> Option<EntityKind>
+/// The field or the method of the entity that is called `create`, elsewhere than at this byte.
+#[tactic(auto, unfolding(crate::specs::Bearers::create_bearer))]
+pub(crate) fn create_bearer(
+    alloc: Global,
+    bytes: &[u8],
+    entity: &Entity,
+    at: u32,
+) -> Result<Found, AllocError>
+    ensures { IfOk result (λ found. found ≡ spec.create_bearer bytes.now (entity_view entity.now) at) }
+{
+    let found = field_bearer(alloc, bytes, entity.fields.as_slice(), b"create", at)?;
+    if found.is_some() {
+        return Ok(found);
+    }
+    method_bearer(alloc, bytes, entity.methods.as_slice(), b"create", at)
+}
+
+// Whether the name is this text.
+fn is_text(name: &[u8], text: &str) -> bool
+    ensures { result ≡ bytes_eq name.now text.now }
+{
+    name == text.as_bytes()
+}
+
+// Whether the name is that of a built-in primitive.
+fn is_value(name: &[u8]) -> bool
+    ensures { result ≡ spec.is_value name.now }
+{
+    is_text(name, "None")
+        || is_text(name, "U64")
+        || is_text(name, "Bool")
+        || is_text(name, "String")
+}
+
+// The kind of the entity of this name, of those that each program has.
+#[tactic(auto, unfolding(crate::specs::Bearers::built_in_kind))]
+fn built_in_kind(name: &[u8]) -> Option<EntityKind>
+    ensures { result ≡ spec.built_in_kind name.now }
+{
+    if is_value(name) {
+        Some(EntityKind::Primitive)
+    } else if is_text(name, "Env") {
+        Some(EntityKind::Class)
+    } else if is_text(name, "OutStream") {
+        Some(EntityKind::Actor)
+    } else {
+        None
+    }
+}
+
+/// Whether each program has an entity of this name.
+#[tactic(auto, unfolding(crate::specs::Bearers::is_built_in))]
+pub(crate) fn is_built_in(name: &[u8]) -> bool
+    ensures { result ≡ spec.is_built_in name.now }
+{
+    built_in_kind(name).is_some()
+}
+
+// The kind of the entity of this name, of those of a file.
+fn kind_named(name: &[u8], entities: &[Entity]) -> Option<EntityKind>
     ensures { result ≡ spec.kind_named name.now (map entity_view entities.now) }
 {
     for entity in entities {
@@ -195,4 +254,15 @@ pub(crate) fn kind_named(name: &[u8], entities: &[Entity]) -> Option<EntityKind>
         }
     }
     None
+}
+
+/// The kind of the entity of this name, of those that each program has and those of a file.
+#[tactic(auto, unfolding(crate::specs::Bearers::known_kind))]
+pub(crate) fn known_kind(name: &[u8], entities: &[Entity]) -> Option<EntityKind>
+    ensures { result ≡ spec.known_kind name.now (map entity_view entities.now) }
+{
+    match built_in_kind(name) {
+        Some(kind) => Some(kind),
+        None => kind_named(name, entities),
+    }
 }

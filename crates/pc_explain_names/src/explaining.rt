@@ -6,21 +6,29 @@ ghost use Rattle.pc_explain_names.specs.Names as spec;
 ghost use Rattle.pc_refusals.specs.Lines.{no_main_line};
 ghost use Rattle.pc_tree.specs.View.{entity_view, file_view};
 
+use crate::bearers::kind_word;
 use crate::double::push_double_lines;
 use crate::homes::{entity_at, method_at};
 use crate::unknown::push_unknown_lines;
 use pc_caps::{List, Span};
 use pc_names::NameFault;
-use pc_tree::{Entity, File};
+use pc_tree::{Entity, EntityKind, File};
 use pc_window::{piece_of, push_bytes, push_head, push_piece};
 use std::alloc::{AllocError, Global};
 
-// Appends the line on a trait.
+// Appends the line on a trait or an interface.
 #[tactic(auto, unfolding(crate::specs::NameLines::trait_line))]
-fn push_trait_line(alloc: Global, out: &mut Vec<u8>, name: &[u8]) -> Result<(), AllocError>
-    ensures { OnOk result (out.new.items ≡ out.old.items ++ lines.trait_line name.now) }
+fn push_trait_line(
+    alloc: Global,
+    out: &mut Vec<u8>,
+    kind: EntityKind,
+    name: &[u8],
+) -> Result<(), AllocError>
+    ensures { OnOk result (out.new.items ≡ out.old.items ++ lines.trait_line kind name.now) }
 {
-    push_bytes(out, b"node: the trait ")?;
+    push_bytes(out, b"node: the ")?;
+    push_bytes(out, kind_word(kind))?;
+    push_bytes(out, b" ")?;
     push_piece(alloc, out, name)?;
     push_bytes(out, b"\n")
 }
@@ -37,13 +45,34 @@ fn push_chain_lines(alloc: Global, out: &mut Vec<u8>, name: &[u8]) -> Result<(),
     push_bytes(out, b"\nhint: take one `is` of the chain away\n")
 }
 
-// Appends the lines on a trait in a cycle.
+// Appends the lines on a trait or an interface in a cycle.
 #[tactic(auto, unfolding(crate::specs::NameLines::cycle_lines))]
-fn push_cycle_lines(alloc: Global, out: &mut Vec<u8>, name: &[u8]) -> Result<(), AllocError>
-    ensures { OnOk result (out.new.items ≡ out.old.items ++ lines.cycle_lines name.now) }
+fn push_cycle_lines(
+    alloc: Global,
+    out: &mut Vec<u8>,
+    kind: EntityKind,
+    name: &[u8],
+) -> Result<(), AllocError>
+    ensures { OnOk result (out.new.items ≡ out.old.items ++ lines.cycle_lines kind name.now) }
 {
-    push_trait_line(alloc, out, name)?;
+    push_trait_line(alloc, out, kind, name)?;
     push_chain_lines(alloc, out, name)
+}
+
+// Appends the lines on the trait or the interface whose name stands in a cycle.
+fn push_cycle_in(
+    alloc: Global,
+    out: &mut Vec<u8>,
+    bytes: &[u8],
+    file: &File,
+    span: Span,
+) -> Result<(), AllocError>
+    ensures { OnOk result (out.new.items ≡ out.old.items ++ spec.cycle_in bytes.now span (entity_is (file_view file.now) span.start)) }
+{
+    match entity_at(alloc, file, span.start)? {
+        Some(entity) => push_cycle_lines(alloc, out, entity.kind, piece_of(bytes, span)),
+        None => Ok(()),
+    }
 }
 
 // Appends the lines on a `Main` of another form.
@@ -158,7 +187,7 @@ fn push_names_text(
         }
         NameFault::Cycle(span) => {
             push_head(alloc, out, name, bytes, span, "trait in a cycle")?;
-            push_cycle_lines(alloc, out, piece_of(bytes, span))
+            push_cycle_in(alloc, out, bytes, file, span)
         }
         NameFault::TooMany(_, _) | NameFault::Memory => Ok(()),
     }

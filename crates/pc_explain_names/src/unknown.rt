@@ -5,7 +5,7 @@ ghost use Rattle.std.specs.Option.{option_map};
 ghost use Rattle.pc_explain_names.specs.NameLines as spec;
 ghost use Rattle.pc_tree.specs.View.{entity_view, file_view, method_view};
 
-use crate::bearers::{kind_named, kind_word};
+use crate::bearers::{kind_word, known_kind};
 use crate::homes::{marks_at, visible_at};
 use crate::lists::{one_is_named, push_names};
 use crate::marks::{Mark, use_in};
@@ -380,9 +380,9 @@ fn one_begins_at(spans: &[Span], at: u32) -> bool
     spans.iter().any(|span| span.start == at)
 }
 
-// Whether the name at this byte stands in the entity's `is` list.
+/// Whether the name at this byte stands in the entity's `is` list.
 #[tactic(auto, unfolding(crate::specs::NameLines::is_provided))]
-fn is_provided(alloc: Global, entity: &Entity, at: u32) -> Result<bool, AllocError>
+pub(crate) fn is_provided(alloc: Global, entity: &Entity, at: u32) -> Result<bool, AllocError>
     ensures { IfOk result (λ is. is ≡ spec.is_provided (entity_view entity.now) at) }
 {
     let spans = name_spans(alloc, entity.provides.as_slice())?;
@@ -402,7 +402,7 @@ fn push_outside_lines(
     ensures { OnOk result (out.new.items ≡ out.old.items ++ spec.outside_line name.now (file_view file.now) (entity_view entity.now) at) }
 {
     let provided = is_provided(alloc, entity, at)?;
-    let kind = kind_named(name, file.entities.as_slice());
+    let kind = known_kind(name, file.entities.as_slice());
     push_type_line(alloc, out, provided, name, kind)
 }
 
@@ -428,7 +428,7 @@ fn push_use_lines(
             push_constructor_line(alloc, out, piece_of(bytes, head), name)
         }
         Some(Mark::Type) => {
-            let kind = kind_named(name, file.entities.as_slice());
+            let kind = known_kind(name, file.entities.as_slice());
             push_type_line(alloc, out, false, name, kind)
         }
         Some(Mark::Local(_)) => Ok(()),
