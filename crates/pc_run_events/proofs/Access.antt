@@ -1,4 +1,4 @@
--- What reads or writes a field takes no message, sends none and makes no actor.
+-- What reads or writes a field takes no message, sends none, and makes no actor and no object.
 use Rattle.std.specs.Prelude.{◌≡◌, ℕ, Bool, List, [], ◌∷◌, Option, Some, None, slice_get, refl}
 use Rattle.std.specs.FinMap.{get}
 use Rattle.std.proofs.lemmas.Option.{none-some}
@@ -13,7 +13,7 @@ use Rattle.pc_heap.specs.declared.value.Value.{Value}
 use Rattle.pc_heap.specs.declared.value.Value.TheVariants as value
 use Rattle.pc_lists.specs.Options.{◌>>=◌}
 use Rattle.pc_semantics.specs.Ahead.{ahead_of, by_move, of_actor, of_frames, of_tasks}
-use Rattle.pc_semantics.specs.Around.{Around, Move, pop, with_stack, with_tasks, with_top}
+use Rattle.pc_semantics.specs.Around.{Around, Move, Stuck, Overflows, Goes, Writes, Makes, Spawns, Enters, Sends, Leaves, pop, with_stack, with_tasks, with_top}
 use Rattle.pc_semantics.specs.Configurations.{Configuration}
 use Rattle.pc_semantics.specs.Fields.{get_field, get_from, get_of, get_task, get_value, put_field, put_into, put_of, put_task, put_value}
 use Rattle.pc_semantics.specs.Safety.{access, access_of, touched_name}
@@ -37,8 +37,28 @@ IsTask ahead.Skipped = Unit {0}
 IsTask ahead.Lacks = Unit {0}
 IsTask ahead.TooLong = Unit {0}
 
-abbrev Plain : Move → Type 0
-Plain m = IsTask (by_move m)
+-- It goes on, with a field written or not, or it does not move.
+abbrev pub Plain : Move → Type 0
+Plain (Stuck l) = Unit {0}
+Plain Overflows = Unit {0}
+Plain (Goes f) = Unit {0}
+Plain (Writes a k v f) = Unit {0}
+Plain (Makes a o g f) = ⊥
+Plain (Spawns o m f) = ⊥
+Plain (Enters g f) = ⊥
+Plain (Sends j m f) = ⊥
+Plain (Leaves v) = ⊥
+
+plain_task : (m : Move) → Plain m → IsTask (by_move m)
+plain_task (Stuck l) p = tt
+plain_task Overflows p = tt
+plain_task (Goes f) p = tt
+plain_task (Writes a k v f) p = tt
+plain_task (Makes a o g f) p = absurd p
+plain_task (Spawns o m f) p = absurd p
+plain_task (Enters g f) p = absurd p
+plain_task (Sends j m f) p = absurd p
+plain_task (Leaves v) p = absurd p
 
 top_plain : (f : Frame) (vs : List Value) (next : Value → Frame → Move) → ((v : Value) (g : Frame) → Plain (next v g)) → Plain (with_top f vs next)
 top_plain f [] next h = tt
@@ -70,7 +90,7 @@ get_plain : (core : CoreData) (a : Around) (f : Frame) (k : NodeKind) → Plain 
 get_plain core a f (node.Field name) = top_plain f f.stack (get_from core a name) (λ v g. from_plain core a name v g)
 get_plain core a f k = tt
 
-get_node : (core : CoreData) (a : Around) (f : Frame) (o : Option Node) → Plain (at_node o (λ x. get_task core a f x.kind))
+pub get_node : (core : CoreData) (a : Around) (f : Frame) (o : Option Node) → Plain (at_node o (λ x. get_task core a f x.kind))
 get_node core a f None = tt
 get_node core a f (Some x) = get_plain core a f x.kind
 
@@ -100,7 +120,7 @@ put_plain core a f (node.SetField name) =
     top_plain f f.stack (λ o g. pop g (put_into core a name o)) (λ o g. top_plain g g.stack (put_into core a name o) (λ v h. into_plain core a name o v h))
 put_plain core a f k = tt
 
-put_node : (core : CoreData) (a : Around) (f : Frame) (o : Option Node) → Plain (at_node o (λ x. put_task core a f x.kind))
+pub put_node : (core : CoreData) (a : Around) (f : Frame) (o : Option Node) → Plain (at_node o (λ x. put_task core a f x.kind))
 put_node core a f None = tt
 put_node core a f (Some x) = put_plain core a f x.kind
 
@@ -118,7 +138,7 @@ module _ (core : CoreData) (c : Configuration) (i : ℕ) (x : Access) where
 
   by_tasks : (f : Frame) (ts : List Task) → (slice_get ts 0 >>= (λ t. touched_name core t >>= (λ n. access_of core c f n))) ≡ Some x → IsTask (of_tasks core (around c i) f ts)
   by_tasks f [] e = absurd (none-some x e)
-  by_tasks f (t ∷ ts) e = by_name f t ts (touched_name core t) refl e
+  by_tasks f (t ∷ ts) e = plain_task _ (by_name f t ts (touched_name core t) refl e)
 
   by_frames : (a : Actor) (fs : List Frame) → (slice_get fs 0 >>= (λ f. slice_get f.tasks 0 >>= (λ t. touched_name core t >>= (λ n. access_of core c f n)))) ≡ Some x → IsTask (of_frames core c i a fs)
   by_frames a [] e = absurd (none-some x e)

@@ -11,16 +11,19 @@ use Rattle.pc_semantics.specs.Safety.{access}
 use Rattle.pc_semantics.specs.Step.{step}
 use Rattle.pc_semantics.specs.declared.access.Access.{Access}
 use Rattle.pc_semantics.specs.declared.ahead.Ahead.{Ahead}
+use Rattle.pc_semantics.specs.declared.ahead.Ahead.TheVariants as ahead
 use Rattle.pc_semantics.specs.declared.outcome.Outcome.{Outcome}
 use Rattle.pc_semantics.specs.declared.outcome.Outcome.TheVariants.{Moved, Skipped}
 use Rattle.pc_clocks.specs.Seats.{clock_of}
 use Rattle.pc_clocks.specs.declared.seat.Seat.{Seat}
 use Rattle.pc_events.specs.Before.{at_place, Event}
-use Rattle.pc_run_events.specs.Events.{AllEvents, touches_in}
+use Rattle.pc_run_events.specs.Events.{AllEvents, SentAt, touches_in}
 use Rattle.pc_run_events.specs.Kept.{PostsKeep, Recorded, Under, first_posts}
-use Rattle.pc_run_events.specs.Turns.{HasRow, Posted, deed_by, noted_with}
+use Rattle.pc_run_events.specs.Sights.{sight}
+use Rattle.pc_run_events.specs.Turns.{HasRow, Posted, deed_after, noted_with, sent_by}
 use Rattle.pc_run_events.specs.declared.events.Deed.{Deed}
 use Rattle.pc_run_events.specs.declared.events.RunEvent.{RunEvent}
+use Rattle.pc_run_events.specs.declared.sight.Sight.{Sight}
 use Rattle.pc_run_events.proofs.Posting.{has_row, posts_at_start, posts_event, posts_rested, taken_at}
 use Rattle.pc_run_events.proofs.Recording.{recorded_event, recorded_rest, touches_event}
 use Rattle.pc_trace.specs.Keeps.{first_seats}
@@ -82,49 +85,55 @@ module _ (core : CoreData) (list : List ℕ) (n : ℕ) (c : Configuration) (seat
           recorded = subst (λ (m : ℕ). Recorded core list m events) (one_on n) (recorded_rest core list n events u.recorded out);
         }
 
-    module _ (moves : o ≡ Moved) (kind : Ahead) (kind_is : kind ≡ ahead_of core c (get_or list n 0)) where
+    module _ (moves : o ≡ Moved) (seen : Sight) (seen_is : seen ≡ sight core c (get_or list n 0)) where
       ev : Event core list n (get_or list n 0)
       ev = record { actor = is; moved = outcome ∙ ap (λ (x : Outcome). Some x) moves }
 
-      kind_here : kind ≡ ahead_of core here (get_or list n 0)
-      kind_here = kind_is ∙ ap (λ (x : Configuration). ahead_of core x (get_or list n 0)) same
+      seen_here : seen ≡ sight core here (get_or list n 0)
+      seen_here = seen_is ∙ ap (λ (x : Configuration). sight core x (get_or list n 0)) same
 
-      pub row_there : HasRow kind (get_or list n 0) posts
+      kind_here : seen.ahead ≡ ahead_of core here (get_or list n 0)
+      kind_here = ap (λ (s : Sight). s.ahead) seen_here
+
+      pub row_there : HasRow seen.ahead (get_or list n 0) posts
       row_there = subst (λ (h : Ahead). HasRow h (get_or list n 0) posts) (sym kind_here) (has_row core list n (get_or list n 0) ev posts u.kept)
 
-      module _ (count : ℕ) (count_is : count ≡ length c.actors) (place : ℕ) (at : place ≡ n + 1) (next : List Seat) (follows : Follows kind count (get_or list n 0) seats next) (a : Option Access) (a_is : a ≡ access core c (get_or list n 0))
-          (deed : Option Deed) (deed_is : deed ≡ deed_by kind a (get_or list n 0) count posts) (more : List RunEvent) (made : more ≡ noted_with deed place (get_or list n 0) (clock_of next (get_or list n 0)) events) where
-        count_here : count ≡ length here.actors
-        count_here = count_is ∙ ap (λ (x : Configuration). length x.actors) same
+      module _ (place : ℕ) (at : place ≡ n + 1) (next : List Seat) (follows : Follows seen.ahead seen.actors (get_or list n 0) seats next) (sent : ℕ) (sent_is : sent ≡ sent_by seen.ahead (get_or list n 0) posts)
+          (deed : Option Deed) (deed_is : deed ≡ deed_after seen d (get_or list n 0) sent) (more : List RunEvent) (made : more ≡ noted_with deed place (get_or list n 0) (clock_of next (get_or list n 0)) events) where
+        count_here : seen.actors ≡ length here.actors
+        count_here = ap (λ (s : Sight). s.actors) seen_here
 
-        access_here : a ≡ access core here (get_or list n 0)
-        access_here = a_is ∙ ap (λ (x : Configuration). access core x (get_or list n 0)) same
+        access_here : seen.access ≡ access core here (get_or list n 0)
+        access_here = ap (λ (s : Sight). s.access) seen_here
 
         behind : Behind core list n (get_or list n 0) next
         behind =
             behind_event core list n (get_or list n 0) u.reached.live ev seats u.reached.keeps next
-            (subst (λ (m : ℕ). Follows (ahead_of core here (get_or list n 0)) m (get_or list n 0) seats next) count_here (subst (λ (h : Ahead). Follows h count (get_or list n 0) seats next) kind_here follows))
+            (subst (λ (m : ℕ). Follows (ahead_of core here (get_or list n 0)) m (get_or list n 0) seats next) count_here (subst (λ (h : Ahead). Follows h seen.actors (get_or list n 0) seats next) kind_here follows))
 
         place_here : place ≡ suc n
         place_here = at ∙ sym (one_on n)
 
-        deed_here : deed ≡ deed_by (ahead_of core here (get_or list n 0)) (access core here (get_or list n 0)) (get_or list n 0) (length here.actors) posts
-        deed_here =
-            deed_is ∙ ap (λ (h : Ahead). deed_by h a (get_or list n 0) count posts) kind_here
-            ∙ ap (λ (x : Option Access). deed_by (ahead_of core here (get_or list n 0)) x (get_or list n 0) count posts) access_here
-            ∙ ap (λ (m : ℕ). deed_by (ahead_of core here (get_or list n 0)) (access core here (get_or list n 0)) (get_or list n 0) m posts) count_here
+        abbrev grown : Configuration → List RunEvent
+        grown e = noted_with (deed_after (sight core here (get_or list n 0)) e (get_or list n 0) sent) place (get_or list n 0) (clock_of next (get_or list n 0)) events
 
-        more_here : more ≡ noted_with (deed_by (ahead_of core here (get_or list n 0)) (access core here (get_or list n 0)) (get_or list n 0) (length here.actors) posts) place (get_or list n 0) (clock_of next (get_or list n 0)) events
-        more_here = made ∙ ap (λ (x : Option Deed). noted_with x place (get_or list n 0) (clock_of next (get_or list n 0)) events) deed_here
+        more_here : more ≡ grown d
+        more_here =
+            made ∙ ap (λ (x : Option Deed). noted_with x place (get_or list n 0) (clock_of next (get_or list n 0)) events) (deed_is ∙ ap (λ (s : Sight). deed_after s d (get_or list n 0) sent) seen_here)
 
         -- The accesses among the events are those that a trace notes.
-        pub touches_made : touches_in more ≡ touched_with a place (get_or list n 0) (clock_of next (get_or list n 0)) (touches_in events)
+        pub touches_made : touches_in more ≡ touched_with seen.access place (get_or list n 0) (clock_of next (get_or list n 0)) (touches_in events)
         touches_made =
             ap touches_in more_here
-            ∙ touches_event core list n events u.recorded (get_or list n 0) ev (clock_of next (get_or list n 0)) behind.width behind.clock place place_here posts
+            ∙ touches_event core list n events u.recorded (get_or list n 0) ev (clock_of next (get_or list n 0)) behind.width behind.clock place place_here d sent
             ∙ ap (λ (x : Option Access). touched_with x place (get_or list n 0) (clock_of next (get_or list n 0)) (touches_in events)) (sym access_here)
 
-        pub under_moves : (later : List (List ℕ)) → Posted kind (get_or list n 0) place posts later → Reached core list (n + 1) d next (touches_in more) → Under core list (n + 1) d next later more
+        -- A message that is taken was sent at this place.
+        sent_there : ahead_of core here (get_or list n 0) ≡ ahead.Take → SentAt core list n sent
+        sent_there take =
+            subst (SentAt core list n) (sym (sent_is ∙ ap (λ (h : Ahead). sent_by h (get_or list n 0) posts) (kind_here ∙ take))) (taken_at core list n (get_or list n 0) ev posts u.kept take)
+
+        pub under_moves : (later : List (List ℕ)) → Posted seen.ahead (get_or list n 0) place posts later → Reached core list (n + 1) d next (touches_in more) → Under core list (n + 1) d next later more
         under_moves later posted reached = record {
           reached = reached;
           kept =
@@ -132,9 +141,12 @@ module _ (core : CoreData) (list : List ℕ) (n : ℕ) (c : Configuration) (seat
               (posts_event core list n (get_or list n 0) ev posts u.kept place place_here later (subst (λ (h : Ahead). Posted h (get_or list n 0) place posts later) kind_here posted));
           recorded =
               subst (λ (m : ℕ). Recorded core list m more) (one_on n)
-              (subst (Recorded core list (suc n)) (sym more_here)
-              (recorded_event core list n events u.recorded (get_or list n 0) ev (clock_of next (get_or list n 0)) behind.width behind.clock place place_here posts (taken_at core list n (get_or list n 0) ev posts u.kept)));
+              (subst (Recorded core list (suc n)) (sym (more_here ∙ ap grown after))
+              (recorded_event core list n events u.recorded (get_or list n 0) ev (clock_of next (get_or list n 0)) behind.width behind.clock place place_here sent sent_there));
         }
+          where
+            after : d ≡ at_place core list (suc n)
+            after = reached.here ∙ ap (at_place core list) (sym (one_on n))
 
 -- ---- the end
 

@@ -1,5 +1,7 @@
 pub mod Posts
 pub mod Events
+pub mod Sights
 pub mod Turns
 pub mod Kept
+pub mod Names
 pub mod Lines

@@ -1,7 +1,10 @@
 -- The events of a run, as lines.
-use Rattle.std.specs.Prelude.{ℕ, Bool, true, false, List, [], ◌∷◌, ◌++◌, length, codes, decimal}
+use Rattle.std.specs.Prelude.{ℕ, Bool, true, false, List, [], ◌∷◌, ◌++◌, length, slice_get, codes, decimal}
+use Rattle.pc_core.specs.CoreData.{CoreData}
+use Rattle.pc_heap.specs.declared.value.Address.{Address}
 use Rattle.pc_lists.specs.Texts.{Text, line_end}
 use Rattle.pc_run_events.specs.Events.{touches_in}
+use Rattle.pc_run_events.specs.Names.{entity_name, method_text}
 use Rattle.pc_run_events.specs.declared.events.Deed.{Deed}
 use Rattle.pc_run_events.specs.declared.events.Deed.TheVariants as deed
 use Rattle.pc_run_events.specs.declared.events.RunEvent.{RunEvent}
@@ -11,16 +14,33 @@ abbrev pub kind_text : Bool → Text
 kind_text true = codes "write"
 kind_text false = codes "read"
 
+-- `M.S`
+abbrev pub address_text : Address → Text
+address_text a = decimal a.maker ++ (codes "." ++ decimal a.serial)
+
 -- `read M.S F`, or the same with `write`.
 abbrev pub access_text : Access → Text
-access_text x = kind_text x.write ++ (codes " " ++ (decimal x.address.maker ++ (codes "." ++ (decimal x.address.serial ++ (codes " " ++ decimal x.field)))))
+access_text x = kind_text x.write ++ (codes " " ++ (address_text x.address ++ (codes " " ++ decimal x.field)))
 
--- What an event does. The method of a message has a word of its own, which is `-`.
-abbrev pub deed_text : Deed → Text
-deed_text (deed.Take sent) = codes "take - " ++ decimal sent
-deed_text (deed.Send receiver) = codes "send " ++ (decimal receiver ++ codes " -")
-deed_text (deed.Make actor) = codes "make " ++ (decimal actor ++ codes " -")
-deed_text (deed.Touch x) = access_text x
+-- `take E.m FROM`
+abbrev pub take_text : CoreData → (method sent : ℕ) → Text
+take_text core m sent = codes "take " ++ (method_text core (slice_get core.methods m) ++ (codes " " ++ decimal sent))
+
+-- `B E.m`
+abbrev pub message_text : CoreData → (actor method : ℕ) → Text
+message_text core b m = decimal b ++ (codes " " ++ method_text core (slice_get core.methods m))
+
+-- `new M.S E`
+abbrev pub new_text : CoreData → Address → (entity : ℕ) → Text
+new_text core a e = codes "new " ++ (address_text a ++ (codes " " ++ entity_name (slice_get core.entities e)))
+
+-- What an event does.
+abbrev pub deed_text : CoreData → Deed → Text
+deed_text core (deed.Take m sent) = take_text core m sent
+deed_text core (deed.Send r m) = codes "send " ++ message_text core r m
+deed_text core (deed.Make a m) = codes "make " ++ message_text core a m
+deed_text core (deed.New a e) = new_text core a e
+deed_text core (deed.Touch x) = access_text x
 
 -- Numbers, each after a comma.
 abbrev pub more_text : List ℕ → Text
@@ -37,23 +57,24 @@ abbrev pub event_words : RunEvent → Text
 event_words t = decimal t.place ++ (codes " " ++ (decimal t.actor ++ codes " "))
 
 -- `PLACE ACTOR DEED clock CLOCK`
-abbrev pub event_line : RunEvent → Text
-event_line t = event_words t ++ (deed_text t.deed ++ (codes " clock " ++ (clock_text t.clock ++ line_end)))
+abbrev pub event_line : CoreData → RunEvent → Text
+event_line core t = event_words t ++ (deed_text core t.deed ++ (codes " clock " ++ (clock_text t.clock ++ line_end)))
 
-abbrev pub events_text : List RunEvent → Text
-events_text [] = []
-events_text (t ∷ ts) = event_line t ++ events_text ts
+abbrev pub events_text : CoreData → List RunEvent → Text
+events_text core [] = []
+events_text core (t ∷ ts) = event_line core t ++ events_text core ts
 
 abbrev pub is_access : Deed → Bool
 is_access (deed.Touch x) = true
-is_access (deed.Take sent) = false
-is_access (deed.Send receiver) = false
-is_access (deed.Make actor) = false
+is_access (deed.Take m sent) = false
+is_access (deed.Send r m) = false
+is_access (deed.Make a m) = false
+is_access (deed.New a e) = false
 
 -- `events N accesses M ordered`
 abbrev pub count_line : (events accesses : ℕ) → Text
 count_line n m = codes "events " ++ (decimal n ++ (codes " accesses " ++ (decimal m ++ (codes " ordered" ++ line_end))))
 
--- The events, a line each, and how many they are, and how many accesses are among them.
-abbrev pub run_text : List RunEvent → Text
-run_text events = events_text events ++ count_line (length events) (length (touches_in events))
+-- The events, a line each, and then their number and that of the accesses among them.
+abbrev pub run_text : CoreData → List RunEvent → Text
+run_text core events = events_text core events ++ count_line (length events) (length (touches_in events))

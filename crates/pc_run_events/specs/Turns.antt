@@ -1,30 +1,72 @@
 -- A turn of a run: what its step does, and what becomes of the places at which waiting messages were sent.
-use Rattle.std.specs.Prelude.{◌≡◌, ◌<◌, ℕ, List, [], ◌∷◌, ◌++◌, drop, length, Option, Some, None, slice_get}
+use Rattle.std.specs.Prelude.{◌≡◌, ◌<◌, ℕ, if◌then◌else◌, nat_lt, List, [], ◌∷◌, ◌++◌, drop, length, Option, Some, None, slice_get}
+use Rattle.std.specs.FinMap.{len}
+use Rattle.pc_heap.specs.Objects.{class_at}
+use Rattle.pc_heap.specs.declared.value.Address.{Address}
+use Rattle.pc_lists.specs.Options.{◌>>=◌}
+use Rattle.pc_semantics.specs.Configurations.{Configuration}
+use Rattle.pc_semantics.specs.Safety.{address_of}
 use Rattle.pc_semantics.specs.declared.access.Access.{Access}
 use Rattle.pc_semantics.specs.declared.ahead.Ahead.{Ahead}
 use Rattle.pc_semantics.specs.declared.ahead.Ahead.TheVariants as ahead
+use Rattle.pc_run_events.specs.Events.{method_waiting}
 use Rattle.pc_run_events.specs.Posts.{RowAt, first_of}
 use Rattle.pc_run_events.specs.declared.events.Deed.{Deed}
 use Rattle.pc_run_events.specs.declared.events.Deed.TheVariants as deed
 use Rattle.pc_run_events.specs.declared.events.RunEvent.{RunEvent}
+use Rattle.pc_run_events.specs.declared.sight.Sight.{Sight}
+
+-- ---- what a step did
+
+-- The address of `this` in the method that an actor is in.
+abbrev pub this_of : Configuration → (actor : ℕ) → Option Address
+this_of c i = do
+  a ← slice_get c.actors i
+  f ← slice_get a.frames 0
+  slot ← slice_get f.slots 0
+  v ← slot
+  address_of v
+
+-- The object whose constructor an actor has begun, if there are more objects than before.
+abbrev pub object_made : (before : ℕ) → Configuration → (actor : ℕ) → Option Deed
+object_made n d i =
+    if nat_lt n (len d.objects)
+    then (this_of d i >>= (λ a. class_at d.objects a >>= (λ e. Some (deed.New a e))))
+    else None
+
+abbrev pub task_deed : Option Access → Option Deed → Option Deed
+task_deed None made = made
+task_deed (Some x) made = Some (deed.Touch x)
+
+-- What a step of this kind did, by what was seen before it and by the configuration after it. A message that it took was sent at this
+-- place.
+abbrev pub deed_by : Ahead → Sight → Configuration → (actor sent : ℕ) → Option Deed
+deed_by ahead.Take s d i sent = s.method >>= (λ m. Some (deed.Take m sent))
+deed_by (ahead.Send r) s d i sent = s.method >>= (λ m. Some (deed.Send r m))
+deed_by ahead.Spawn s d i sent = method_waiting d s.actors 0 >>= (λ m. Some (deed.Make s.actors m))
+deed_by ahead.Task s d i sent = task_deed s.access (object_made s.objects d i)
+deed_by ahead.Skipped s d i sent = None
+deed_by ahead.Lacks s d i sent = None
+deed_by ahead.TooLong s d i sent = None
+
+abbrev pub deed_after : Sight → Configuration → (actor sent : ℕ) → Option Deed
+deed_after s d i sent = deed_by s.ahead s d i sent
+
+-- ---- the messages that wait
 
 abbrev pub first_row : Option (List ℕ) → ℕ
 first_row None = 0
 first_row (Some row) = first_of row
 
-abbrev pub touch_of : Option Access → Option Deed
-touch_of None = None
-touch_of (Some x) = Some (deed.Touch x)
-
--- What a step of this kind does, by actor i, when there are n actors.
-abbrev pub deed_by : Ahead → Option Access → (i n : ℕ) → List (List ℕ) → Option Deed
-deed_by ahead.Take x i n posts = Some (deed.Take (first_row (slice_get posts i)))
-deed_by (ahead.Send r) x i n posts = Some (deed.Send r)
-deed_by ahead.Spawn x i n posts = Some (deed.Make n)
-deed_by ahead.Task x i n posts = touch_of x
-deed_by ahead.Skipped x i n posts = None
-deed_by ahead.Lacks x i n posts = None
-deed_by ahead.TooLong x i n posts = None
+-- The place at which the message was sent that a step of this kind takes; 0 if it takes none.
+abbrev pub sent_by : Ahead → (actor : ℕ) → List (List ℕ) → ℕ
+sent_by ahead.Take i posts = first_row (slice_get posts i)
+sent_by (ahead.Send r) i posts = 0
+sent_by ahead.Spawn i posts = 0
+sent_by ahead.Task i posts = 0
+sent_by ahead.Skipped i posts = 0
+sent_by ahead.Lacks i posts = 0
+sent_by ahead.TooLong i posts = 0
 
 -- The places after such a step at this place.
 abbrev pub Posted : Ahead → (i place : ℕ) → List (List ℕ) → List (List ℕ) → Type 0
@@ -36,7 +78,7 @@ Posted ahead.Skipped i place old new = new ≡ old
 Posted ahead.Lacks i place old new = new ≡ old
 Posted ahead.TooLong i place old new = new ≡ old
 
--- Where it takes or puts a message, there is a row.
+-- If it takes or puts a message, there is a row for it.
 abbrev pub HasRow : Ahead → ℕ → List (List ℕ) → Type 0
 HasRow ahead.Take i posts = i < length posts
 HasRow (ahead.Send r) i posts = r < length posts

@@ -1,17 +1,20 @@
 //! The events of a run.
 
 use pc_caps::List;
+use pc_heap::Address;
 use pc_semantics::Access;
 
-/// What an event does, if it is more than a plain step of its actor.
+/// What an event does, if it is more than a plain step of its actor. Methods and entities are named by their numbers in the core.
 #[derive(Clone, Copy, Debug, PartialEq, Eq)]
 pub enum Deed {
-    /// It takes the message that the event at this place sent. Places are counted from 1; 0 if no event did.
-    Take(u64),
-    /// It sends a message to this actor.
-    Send(u32),
-    /// It makes this actor, for which a message then waits.
-    Make(u32),
+    /// It takes a message of this method, which the event at the place `sent` sent. Places are counted from 1; 0 if no event did.
+    Take { method: u32, sent: u64 },
+    /// It sends this actor a message of this method.
+    Send { receiver: u32, method: u32 },
+    /// It makes this actor, for which a message of this method then waits.
+    Make { actor: u32, method: u32 },
+    /// It makes an object of this entity, at this address. The object is no actor's own object.
+    New { address: Address, entity: u32 },
     /// It reads or writes a field of an object.
     Touch(Access),
 }

@@ -1,18 +1,22 @@
-//! The events of a run that are no plain steps, each with its clock: messages that are taken and sent, actors that are made, fields
-//! that are read and written. `specs/Events.antt` says which they are, `docs/events.md` what is written of them.
+//! The events of a run that are no plain steps, each with its clock: messages that are taken and sent, actors and objects that are
+//! made, fields that are read and written. `specs/Events.antt` says which they are, `docs/events.md` what is written of them.
 //!
 //! Proved: `accepted_events` gives exactly these events of the run of a safe core, in order, each with the clock of `pc_events`. A message
-//! that is taken is the one that the event at its place put into the mailbox. The accesses among them are those of `pc_trace`, and those
-//! that conflict are ordered. `write_events` gives their lines, byte for byte.
+//! that is taken is the one that the event at its place put into the mailbox. The method of a message is that of the message in the
+//! mailbox, and an object that is made stands at an address that had none before. The accesses among the events are those of `pc_trace`,
+//! and those that conflict are ordered. `write_events` gives their lines, byte for byte.
 #![tactic(auto)]
 
+mod deeds;
 mod events;
 mod follow;
 mod lines;
+mod names;
 mod posts;
 mod recorder;
-mod told;
+mod safe;
+mod sight;
 
 pub use events::{Deed, RunEvent};
 pub use lines::write_events;
-pub use told::accepted_events;
+pub use safe::accepted_events;

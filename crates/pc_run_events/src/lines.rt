@@ -1,11 +1,15 @@
 //! The events of a run, as lines.
-ghost use Rattle.std.specs.Prelude.{◌≡◌, ◌++◌, IfOk, OnOk, decimal, length};
+ghost use Rattle.std.specs.Prelude.{◌≡◌, ◌++◌, IfOk, OnOk, decimal, length, slice_get};
 ghost use Rattle.pc_run_events.specs.Events.{touches_in};
 ghost use Rattle.pc_run_events.specs.Lines as spec;
+ghost use Rattle.pc_run_events.specs.Names.{method_text};
 
 use crate::events::{Deed, RunEvent};
+use crate::names::{push_entity, push_method};
 use itoa::Buffer;
 use pc_caps::List;
+use pc_core::Core;
+use pc_heap::Address;
 use pc_semantics::Access;
 use std::alloc::{AllocError, Global};
 
@@ -48,38 +52,76 @@ fn kind_of(write: bool) -> &'static str
     if write { "write" } else { "read" }
 }
 
+// Puts an address at the end.
+fn push_address(text: &mut Vec<u8>, address: Address) -> Result<(), AllocError>
+    ensures { OnOk result (text.new.items ≡ text.old.items ++ spec.address_text address) }
+{
+    push_number(text, u64::from(address.maker))?;
+    text.push(b'.')?;
+    push_number(text, u64::from(address.serial))
+}
+
 // Puts an access at the end.
-fn push_access(alloc: Global, text: &mut Vec<u8>, access: &Access) -> Result<(), AllocError>
+fn push_access(text: &mut Vec<u8>, access: &Access) -> Result<(), AllocError>
     ensures { OnOk result (text.new.items ≡ text.old.items ++ spec.access_text access.now) }
 {
-    let kind = kind_of(access.write);
-    let words = format!(in alloc;
-        "{} {}.{} {}",
-        kind, access.address.maker, access.address.serial, access.field
-    )?;
-    text.extend_from_slice(words.as_bytes())
+    text.extend_from_slice(kind_of(access.write).as_bytes())?;
+    text.push(b' ')?;
+    push_address(text, access.address)?;
+    text.push(b' ')?;
+    push_number(text, u64::from(access.field))
+}
+
+// Puts the taking of a message at the end.
+fn push_take(text: &mut Vec<u8>, core: &Core, method: u32, sent: u64) -> Result<(), AllocError>
+    ensures { OnOk result (text.new.items ≡ text.old.items ++ spec.take_text core.now method sent) }
+{
+    text.extend_from_slice(b"take ")?;
+    push_method(text, core, method)?;
+    text.push(b' ')?;
+    push_number(text, sent)
+}
+
+// Puts an actor and the method of a message for it at the end.
+fn push_message(text: &mut Vec<u8>, core: &Core, actor: u32, method: u32) -> Result<(), AllocError>
+    ensures { OnOk result (text.new.items ≡ text.old.items ++ spec.message_text core.now actor method) }
+{
+    push_number(text, u64::from(actor))?;
+    text.push(b' ')?;
+    push_method(text, core, method)
+}
+
+// Puts the making of an object at the end.
+fn push_new(
+    text: &mut Vec<u8>,
+    core: &Core,
+    address: Address,
+    entity: u32,
+) -> Result<(), AllocError>
+    ensures { OnOk result (text.new.items ≡ text.old.items ++ spec.new_text core.now address entity) }
+{
+    text.extend_from_slice(b"new ")?;
+    push_address(text, address)?;
+    text.push(b' ')?;
+    push_entity(text, core, entity)
 }
 
 // Puts what an event does at the end.
-fn push_deed(alloc: Global, text: &mut Vec<u8>, deed: &Deed) -> Result<(), AllocError>
-    ensures { OnOk result (text.new.items ≡ text.old.items ++ spec.deed_text deed.now) }
+fn push_deed(text: &mut Vec<u8>, core: &Core, deed: &Deed) -> Result<(), AllocError>
+    ensures { OnOk result (text.new.items ≡ text.old.items ++ spec.deed_text core.now deed.now) }
 {
     match deed {
-        Deed::Take(sent) => {
-            text.extend_from_slice(b"take - ")?;
-            push_number(text, *sent)
-        }
-        Deed::Send(receiver) => {
+        Deed::Take { method, sent } => push_take(text, core, *method, *sent),
+        Deed::Send { receiver, method } => {
             text.extend_from_slice(b"send ")?;
-            push_number(text, u64::from(*receiver))?;
-            text.extend_from_slice(b" -")
+            push_message(text, core, *receiver, *method)
         }
-        Deed::Make(actor) => {
+        Deed::Make { actor, method } => {
             text.extend_from_slice(b"make ")?;
-            push_number(text, u64::from(*actor))?;
-            text.extend_from_slice(b" -")
+            push_message(text, core, *actor, *method)
         }
-        Deed::Touch(access) => push_access(alloc, text, access),
+        Deed::New { address, entity } => push_new(text, core, *address, *entity),
+        Deed::Touch(access) => push_access(text, access),
     }
 }
 
@@ -92,22 +134,32 @@ fn push_words(alloc: Global, text: &mut Vec<u8>, event: &RunEvent) -> Result<(),
 }
 
 // Puts the line of an event at the end.
-fn push_event(alloc: Global, text: &mut Vec<u8>, event: &RunEvent) -> Result<(), AllocError>
-    ensures { OnOk result (text.new.items ≡ text.old.items ++ spec.event_line event.now) }
+fn push_event(
+    alloc: Global,
+    text: &mut Vec<u8>,
+    core: &Core,
+    event: &RunEvent,
+) -> Result<(), AllocError>
+    ensures { OnOk result (text.new.items ≡ text.old.items ++ spec.event_line core.now event.now) }
 {
     push_words(alloc, text, event)?;
-    push_deed(alloc, text, &event.deed)?;
+    push_deed(text, core, &event.deed)?;
     text.extend_from_slice(b" clock ")?;
     push_clock(text, event.clock.as_slice())?;
     text.extend_from_slice(b"\n")
 }
 
 // Puts the lines of events at the end.
-fn push_events(alloc: Global, text: &mut Vec<u8>, events: &[RunEvent]) -> Result<(), AllocError>
-    ensures { OnOk result (text.new.items ≡ text.old.items ++ spec.events_text events.now) }
+fn push_events(
+    alloc: Global,
+    text: &mut Vec<u8>,
+    core: &Core,
+    events: &[RunEvent],
+) -> Result<(), AllocError>
+    ensures { OnOk result (text.new.items ≡ text.old.items ++ spec.events_text core.now events.now) }
 {
     for event in events {
-        push_event(alloc, text, event)?;
+        push_event(alloc, text, core, event)?;
     }
     Ok(())
 }
@@ -118,11 +170,11 @@ fn is_access(deed: &Deed) -> bool
 {
     match deed {
         Deed::Touch(_) => true,
-        Deed::Take(_) | Deed::Send(_) | Deed::Make(_) => false,
+        Deed::Take { .. } | Deed::Send { .. } | Deed::Make { .. } | Deed::New { .. } => false,
     }
 }
 
-// How many of these events read or write a field.
+// The number of these events that read or write a field.
 fn count_accesses(events: &[RunEvent]) -> usize
     ensures { result ≡ length (touches_in events.now) }
 {
@@ -148,12 +200,12 @@ fn push_counts(
     text.extend_from_slice(words.as_bytes())
 }
 
-/// The lines of the events of a run, and then `events N accesses M ordered`.
-pub fn write_events(alloc: Global, events: &[RunEvent]) -> Result<List<u8>, AllocError>
-    ensures { IfOk result (λ text. text ≡ spec.run_text events.now) }
+/// The lines of the events of a run of a core, and then `events N accesses M ordered`.
+pub fn write_events(alloc: Global, core: &Core, events: &[RunEvent]) -> Result<List<u8>, AllocError>
+    ensures { IfOk result (λ text. text ≡ spec.run_text core.now events.now) }
 {
     let mut text: Vec<u8> = Vec::new(alloc);
-    push_events(alloc, &mut text, events)?;
+    push_events(alloc, &mut text, core, events)?;
     push_counts(alloc, &mut text, events.len(), count_accesses(events))?;
     Ok(List::from_vec(text))
 }

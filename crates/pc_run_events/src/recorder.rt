@@ -4,20 +4,22 @@ ghost use Rattle.pc_clocks.specs.Seats.{clock_of};
 ghost use Rattle.pc_machine.specs.Limits.{list_limit};
 ghost use Rattle.pc_run_events.specs.Kept.{Recorded, Under, first_posts as posts_at_start};
 ghost use Rattle.pc_run_events.specs.Events.{touches_in};
-ghost use Rattle.pc_run_events.specs.Turns.{HasRow, Posted, deed_by, noted_with};
+ghost use Rattle.pc_run_events.specs.Turns.{HasRow, Posted, noted_with, sent_by};
 ghost use Rattle.pc_trace.specs.Keeps.{first_seats as seats_at_start};
 ghost use Rattle.pc_trace.specs.Noted.{Noted};
 ghost use Rattle.pc_trace.specs.Traces.{RanOn, TraceStops, actor_limit};
 ghost use Rattle.pc_trace.specs.Turns.{Room, Says};
 
+use crate::deeds::deed_after;
 use crate::events::{Deed, RunEvent};
 use crate::follow::follow;
 use crate::posts::Posts;
+use crate::sight::look;
 use pc_caps::List;
 use pc_clocks::Seats;
 use pc_core::Core;
 use pc_machine::{Machine, start};
-use pc_semantics::{Access, Ahead, Outcome};
+use pc_semantics::{Ahead, Outcome};
 use pc_trace::{ACTOR_LIMIT, TraceFault};
 use std::alloc::{AllocError, Global};
 
@@ -79,35 +81,30 @@ fn moved(outcome: Outcome, place: u64) -> Result<bool, TraceFault>
     }
 }
 
-// What an event did by what it was, and what becomes of the places at which waiting messages were sent. There were this many actors.
-fn deed_of(
+// What becomes of the places at which waiting messages were sent, after a step of this kind at this place. Answers the place at which
+// the message was sent that the step took, and 0 if it took none.
+fn post(
     alloc: Global,
     posts: &mut Posts,
     ahead: Ahead,
-    access: Option<Access>,
     actor: u32,
-    actors: u32,
     place: u64,
-) -> Result<Option<Deed>, AllocError>
+) -> Result<u64, AllocError>
     requires { HasRow ahead actor posts.old }
-    ensures deed { IfOk result (λ deed. deed ≡ deed_by ahead access actor actors posts.old) }
+    ensures sent { IfOk result (λ sent. sent ≡ sent_by ahead actor posts.old) }
     ensures posts { OnOk result (Posted ahead actor place posts.old posts.new) }
 {
     match ahead {
-        Ahead::Take => Ok(Some(Deed::Take(posts.take(actor as usize)))),
+        Ahead::Take => Ok(posts.take(actor as usize)),
         Ahead::Send(receiver) => {
             posts.put(receiver as usize, place)?;
-            Ok(Some(Deed::Send(receiver)))
+            Ok(0)
         }
         Ahead::Spawn => {
             posts.add_waiting(alloc, place)?;
-            Ok(Some(Deed::Make(actors)))
+            Ok(0)
         }
-        Ahead::Task => match access {
-            Some(access) => Ok(Some(Deed::Touch(access))),
-            None => Ok(None),
-        },
-        Ahead::Skipped | Ahead::Lacks | Ahead::TooLong => Ok(None),
+        Ahead::Task | Ahead::Skipped | Ahead::Lacks | Ahead::TooLong => Ok(0),
     }
 }
 
@@ -155,10 +152,8 @@ fn turn(
 {
     let actor = list[at];
     let place = at as u64 + 1;
-    let ahead = machine.ahead(actor);
-    let actors = machine.actors();
-    let access = machine.access(actor);
-    match room(ahead, actors, place) {
+    let seen = look(machine, actor);
+    match room(seen.ahead, seen.actors, place) {
         Ok(()) => {}
         Err(fault) => return Err(fault),
     }
@@ -168,8 +163,15 @@ fn turn(
         Ok(false) => return Ok(()),
         Err(fault) => return Err(fault),
     }
-    follow(alloc, seats, ahead, actors as usize, actor as usize)?;
-    let deed = deed_of(alloc, posts, ahead, access, actor, actors, place)?;
+    follow(
+        alloc,
+        seats,
+        seen.ahead,
+        seen.actors as usize,
+        actor as usize,
+    )?;
+    let sent = post(alloc, posts, seen.ahead, actor, place)?;
+    let deed = deed_after(machine, actor, &seen, sent);
     note(alloc, seats, events, deed, actor, place)?;
     Ok(())
 }

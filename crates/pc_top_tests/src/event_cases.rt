@@ -19,31 +19,32 @@ actor Main
 ";
 
 const KEEPER_TOLD: &[u8] = b"\
-1 1 take - 0 clock 0,1
+1 1 take Main.create 0 clock 0,1
+7 1 new 1.1 Cell clock 0,7
 13 1 write 1.1 0 clock 0,13
-17 1 make 2 - clock 0,17
-18 1 send 2 - clock 0,18,0
-41 2 take - 17 clock 0,17,1
+17 1 make 2 Keeper.create clock 0,17
+18 1 send 2 Keeper.bump clock 0,18,0
+41 2 take Keeper.create 17 clock 0,17,1
 47 2 write 2.0 0 clock 0,17,7
-49 2 take - 18 clock 0,18,9
+49 2 take Keeper.bump 18 clock 0,18,9
 56 2 read 2.0 0 clock 0,18,16
 57 2 write 1.1 0 clock 0,18,17
-events 9 accesses 4 ordered
+events 10 accesses 4 ordered
 ";
 
 const HELLO_TOLD: &[u8] = b"\
-1 1 take - 0 clock 0,1
+1 1 take Main.create 0 clock 0,1
 8 1 read 0.1 0 clock 0,8
-9 1 send 0 - clock 0,9
-11 0 take - 9 clock 1,9
+9 1 send 0 OutStream.print clock 0,9
+11 0 take OutStream.print 9 clock 1,9
 events 4 accesses 1 ordered
 ";
 
 const LATER_TOLD: &[u8] = b"\
-3 1 take - 0 clock 0,1
+3 1 take Main.create 0 clock 0,1
 10 1 read 0.1 0 clock 0,8
-11 1 send 0 - clock 0,9
-13 0 take - 11 clock 1,9
+11 1 send 0 OutStream.print clock 0,9
+13 0 take OutStream.print 11 clock 1,9
 events 4 accesses 1 ordered
 ";
 
@@ -64,7 +65,7 @@ const RUNS: &[Told<'_>] = &[
     (
         HELLO,
         b"1*9",
-        b"1 1 take - 0 clock 0,1\n8 1 read 0.1 0 clock 0,8\n9 1 send 0 - clock 0,9\nevents 3 accesses 1 ordered\n",
+        b"1 1 take Main.create 0 clock 0,1\n8 1 read 0.1 0 clock 0,8\n9 1 send 0 OutStream.print clock 0,9\nevents 3 accesses 1 ordered\n",
     ),
     (HELLO, b"", b"events 0 accesses 0 ordered\n"),
 ];

@@ -38,7 +38,7 @@ told_late name core list = ends_status (λ text. text) (Telling name core list) 
 
 -- ---- what is on out
 
-told_by : {name : Text} {core : CoreData} {list : List ℕ} {text : Text} → Telling name core list (Ok text) → (events : List RunEvent) × Told core list events × (text ≡ run_text events)
+told_by : {name : Text} {core : CoreData} {list : List ℕ} {text : Text} → Telling name core list (Ok text) → (events : List RunEvent) × Told core list events × (text ≡ run_text core events)
 told_by (tells list text h is) = (list, h, is)
 
 eight_refuses : IsAccepting 8 → ⊥
@@ -55,7 +55,7 @@ abbrev Wrote : Change → ℕ → Text → Text → Type 0
 Wrote out status source schedule = WritesEvents out source schedule ⊎ ((status ≡ 12) × Appends out.before out.now [])
 
 wrote_by : (out : Change) (v : Verdict) (name : Text) (core : CoreData) (list : List ℕ) (source schedule : Text) → IsAccepting v.status → Appends out.before out.now v.out
-    → ((events : List RunEvent) → Told core list events → Appends out.before out.now (run_text events) → WritesEvents out source schedule)
+    → ((events : List RunEvent) → Told core list events → Appends out.before out.now (run_text core events) → WritesEvents out source schedule)
     → ((text : Text) × Telling name core list (Ok text) × (v ≡ done text)) ⊎ Telling name core list (Err v) → Wrote out v.status source schedule
 wrote_by out v name core list source schedule e o by (inl (text, h, is)) =
     let t = told_by h in

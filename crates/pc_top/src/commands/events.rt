@@ -31,7 +31,7 @@ fn tell_list(alloc: Global, name: &str, core: &Core, list: &[u32]) -> Result<Lis
     ensures { StageEnds (Telling name.now core.now list.now) result }
 {
     match accepted_events(alloc, core, list) {
-        Ok(events) => Ok(write_events(alloc, events.as_slice())?),
+        Ok(events) => Ok(write_events(alloc, core, events.as_slice())?),
         Err(AcceptedFault::TooLong(step)) => Err(Stop::Refused {
             status: 12,
             line: make_too_long_line(alloc, name, step)?,
@@ -54,8 +54,8 @@ fn tell_turns(alloc: Global, name: &str, core: &Core, turns: &[Turn]) -> Result<
     tell_list(alloc, name, core, list.as_slice())
 }
 
-/// Runs a source by a schedule, and answers each event of the run that takes or sends a message, makes an actor, or reads or writes a
-/// field, with its clock.
+/// Runs a source by a schedule, and answers each event of the run that takes or sends a message, makes an actor or an object, or reads
+/// or writes a field, with its clock.
 pub fn tell_events<F: Files>(
     alloc: Global,
     files: &mut F,

@@ -35,7 +35,7 @@ one_event : (core : CoreData) (list : List ℕ) (p : ℕ) (t u : RunEvent) → t
 one_event core list p t u e a b =
     let actor : t.actor ≡ u.actor = same_Some t.actor u.actor (sym a.event.actor ∙ b.event.actor) in
     let does : Does core list p t.actor u.deed = subst (λ (i : ℕ). Does core list p i u.deed) (sym actor) b.does in
-    event_same t u e actor (one_deed core list p t.actor t.deed u.deed a.does does) (one_clock core list p t.clock u.clock a.clock b.clock)
+    event_same t u e actor (one_deed core list p t.actor a.event t.deed u.deed a.does does) (one_clock core list p t.clock u.clock a.clock b.clock)
 
 module _ (core : CoreData) (list : List ℕ) where
   within : (xs ys : List RunEvent) → AllEvents core list xs → AllEvents core list ys → (t : RunEvent) → Has xs t → Has ys t
@@ -59,7 +59,7 @@ module _ (core : CoreData) (list : List ℕ) where
   one_list xs ys a b = order_one (λ (t u : RunEvent). t.place < u.place) apart xs ys a.order b.order (within xs ys a b) (within ys xs b a)
 
   pub one_telling : (name : Text) → IsOne (Telling name core list)
-  one_telling name _ _ (tells xs x h e) (tells ys y k f) = ap (λ (text : Text). Ok text) (e ∙ ap run_text (one_list xs ys h.1 k.1) ∙ sym f)
+  one_telling name _ _ (tells xs x h e) (tells ys y k f) = ap (λ (text : Text). Ok text) (e ∙ ap (run_text core) (one_list xs ys h.1 k.1) ∙ sym f)
   one_telling name _ _ (tells xs x h e) (too_long n k) = absurd (none-some (n, outcome.TooLong) (sym h.0.goes_on ∙ k.0))
   one_telling name _ _ (tells xs x h e) (too_many n k) = absurd (crowd_apart core list n k h.0.few)
   one_telling name _ _ (too_long n h) (tells ys y k f) = absurd (none-some (n, outcome.TooLong) (sym k.0.goes_on ∙ h.0))

@@ -2,6 +2,7 @@
 ghost use Rattle.std.specs.Prelude.{◌≤◌, MatchResult, length};
 ghost use Rattle.pc_machine.specs.Limits.{list_limit};
 ghost use Rattle.pc_run_events.specs.Events.{AllEvents, touches_in};
+ghost use Rattle.pc_run_events.specs.Names.{AllNamed};
 ghost use Rattle.pc_semantics.specs.Safety.{Safe};
 ghost use Rattle.pc_trace.specs.Traces.{AcceptedStops, AllTouches, RanOn, VerdictIs};
 ghost use Rattle.pc_trace.specs.declared.touch.Verdict.TheVariants.{Ordered};
@@ -14,7 +15,8 @@ use pc_trace::{AcceptedFault, TraceFault};
 use std::alloc::Global;
 
 /// The events of a run of a safe core that are no plain steps, in order, each with its clock. The accesses among them are those that
-/// `pc_trace` reports, and those that conflict are ordered. The list has at most 4,000,000 places.
+/// `pc_trace` reports, and those that conflict are ordered. The methods and entities that they name are there, with their names. The
+/// list has at most 4,000,000 places.
 ///
 /// # Errors
 /// - `TooLong` iff a step of the list would make a text that is too long, with its place, counted from 1.
@@ -28,9 +30,10 @@ pub fn accepted_events(
     requires safe { Safe core.now }
     requires few { length list.now ≤ list_limit }
     ensures { MatchResult result
-        (λ events. RanOn core.now list.now × AllEvents core.now list.now events × AllTouches core.now list.now (touches_in events) × VerdictIs core.now list.now Ordered)
+        (λ events. RanOn core.now list.now × AllEvents core.now list.now events × AllTouches core.now list.now (touches_in events) × VerdictIs core.now list.now Ordered × AllNamed core.now events)
         (AcceptedStops core.now list.now) }
 {
+    core.formed();
     match recorded(alloc, core, list) {
         Ok(events) => Ok(events),
         Err(TraceFault::TooLong(place)) => Err(AcceptedFault::TooLong(place)),
