@@ -17,13 +17,9 @@ OWN_SERIAL = "0"
 WORDS = ("take", "send", "make", "new", "read", "write")
 
 
-# The number of a message whose method is not reported.
-NO_MESSAGE = -1
-
-
 def entity_of(message):
-    """The entity of a message's method, if that is reported."""
-    return message.split(".", 1)[0] if message else ""
+    """The entity of a message's method."""
+    return message.split(".", 1)[0]
 
 
 class Clocks:
@@ -46,49 +42,43 @@ class Clocks:
         self.last[actor] = clock
 
 
-def only_made(places, kind):
-    """The entity of which alone the nodes of a kind, `new` or `spawn`, make anything; or nothing, if there are several."""
-    made = {int(row[0].removeprefix(f"{kind}:")) for row in places.nodes if row[0].startswith(f"{kind}:")}
-    names = {places.entities[places.methods[it][0]][4] for it in made}
-    return names.pop() if len(names) == 1 else ""
-
-
 class Objects:
-    """Objects by their addresses, in the order of their first events, each with the name of its entity if that is known:
-    of an actor's own object it is the actor's, and of others that of the line that makes it, or the only one."""
+    """Objects by their addresses, in the order of their first events, each with the name of its entity: of an actor's own
+    object it is the actor's, and of others that of the line that makes it."""
 
-    def __init__(self, only):
+    def __init__(self):
         self.table = Table()
-        self.only = only
         self.entities = dict([ENVIRONMENT])
 
     def number(self, address, actors):
         maker, serial = address.split(".")
-        self.entities.setdefault(address, actors[int(maker)] if serial == OWN_SERIAL else self.only)
+        if serial == OWN_SERIAL:
+            self.entities.setdefault(address, actors[int(maker)])
+        elif address not in self.entities:
+            raise program.Failed(f"events: no line makes object {address}")
         return self.table.number(address)
 
     def rows(self):
         return [[address, self.entities[address]] for address in self.table.values]
 
 
-def columns(events, places_of_core):
+def columns(events):
     """The columns of the events, with the actors, the messages and the objects that they name."""
-    actors, messages, clocks = [STREAM, MAIN], Table(), Clocks()
-    objects, only_actor = Objects(only_made(places_of_core, "new")), only_made(places_of_core, "spawn")
+    actors, messages, objects, clocks = [STREAM, MAIN], Table(), Objects(), Clocks()
     numbers, places, rows = {}, [], []
     for number, event in enumerate(events):
         numbers[event.place] = number
         places.append(event.place)
         what = companion = 0
         if event.word in ("take", "send", "make"):
-            what = messages.number(event.message) if event.message else NO_MESSAGE
+            what = messages.number(event.message)
             companion = event.other
         if event.word == "take":
             if event.other and event.other not in numbers:
                 raise program.Failed(f"events: nothing was sent at step {event.other}")
             companion = number - numbers[event.other] if event.other else 0
         elif event.word == "make":
-            actors.append(entity_of(event.message) or only_actor)
+            actors.append(entity_of(event.message))
         elif event.word == "new":
             objects.entities[event.address] = event.of
             what = objects.number(event.address, actors)
@@ -121,7 +111,7 @@ def field_names(places, wanted):
 
 def data(name, by, events, accesses, printed, numbers, places):
     """The page's data."""
-    actors, messages, objects, rows = columns(events, places)
+    actors, messages, objects, rows = columns(events)
     reads_and_writes = sum(WORDS[it] in ("read", "write") for it in rows["word"])
     if reads_and_writes != accesses:
         raise program.Failed(f"{name}: events and trace have different numbers of accesses")

@@ -131,8 +131,7 @@ class Event:
     """A step: its place, its actor, what it does, and its clock.
 
     `word` is take, send, make, new, read or write. `other` is the actor that is sent to or made, and of a take the place of
-    the sending. `message` is E.m, or nothing if it is not reported. `address` is an object M.S, `of` the entity of a new
-    object, `field` an index."""
+    the sending. `message` is E.m. `address` is an object M.S, `of` the entity of a new object, `field` an index."""
 
     place: int
     actor: int
@@ -149,8 +148,11 @@ def numbers(clock):
     return [int(it) for it in clock.split(",")]
 
 
-def reported(name):
-    return None if name == NONE else name
+def method(word):
+    """The word of a method, an entity's name and its own."""
+    if not re.fullmatch(r"[^.]+\.[^.]+", word):
+        raise ValueError
+    return word
 
 
 def event(words):
@@ -161,10 +163,10 @@ def event(words):
     found = Event(int(place), int(actor), word, numbers(clock))
     if word == "take":
         message, other = rest
-        found.message, found.other = reported(message), int(other)
+        found.message, found.other = method(message), int(other)
     elif word in ("send", "make"):
         other, message = rest
-        found.message, found.other = reported(message), int(other)
+        found.message, found.other = method(message), int(other)
     elif word == "new":
         found.address, found.of = rest
     elif word in ("read", "write"):

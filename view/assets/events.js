@@ -68,12 +68,11 @@ if (data.lines_are_texts) {
   for (let i = 0; i < size; i++) if (word[i] === TAKE && actorOf[i] === 0) printedAt.set(i, data.printed[k++]);
 }
 
-/* Names, if the texts of the program have them. */
-function isNamed(a) { return Boolean(data.actors[a]); }
-function actorName(a) { return isNamed(a) ? data.actors[a] : `actor ${a}`; }
-function actorWords(a) { return a === 0 ? `${actorName(a)} (the stream)` : isNamed(a) ? `${actorName(a)} (actor ${a})` : `actor ${a}`; }
-function methodOf(i) { return events.what[i] < 0 ? "" : data.messages[events.what[i]].split(".")[1]; }
-function objectWords(number) { return `${data.objects[number][1] || "object"} ${data.objects[number][0]}`; }
+/* Names. */
+function actorName(a) { return data.actors[a]; }
+function actorWords(a) { return a === 0 ? `${actorName(a)} (the stream)` : `${actorName(a)} (actor ${a})`; }
+function methodOf(i) { return data.messages[events.what[i]].split(".")[1]; }
+function objectWords(number) { return `${data.objects[number][1]} ${data.objects[number][0]}`; }
 function objectOf(i) { return data.objects[events.what[i]]; }
 function objectColour(number) { return `var(--object-${number % COLOURS})`; }
 function fieldName(i) { return data.fields[objectOf(i)[1]]?.[events.with[i]] ?? `field ${events.with[i]}`; }

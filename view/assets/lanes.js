@@ -179,7 +179,7 @@ function drawMessages() {
 function drawLabels() {
   labels.replaceChildren();
   for (let lane = 0; lane < lanes; lane++) {
-    const more = lane === 0 ? "the stream" : isNamed(lane) ? `actor ${lane}` : "";
+    const more = lane === 0 ? "the stream" : `actor ${lane}`;
     const label = element("div", "lane-label", element("b", "", actorName(lane)), element("small", "", more));
     label.title = actorWords(lane);
     label.style.height = `${laneHeight}px`;

@@ -5,8 +5,8 @@ const MOST_OBJECTS = 24, MOST_LINES = 500, MOST_CLOCK = 70;
 /* The panel. */
 function does(i) {
   switch (word[i]) {
-    case TAKE: return `takes ${methodOf(i) || "a message"}`;
-    case SEND: return methodOf(i) ? `sends ${actorWords(events.with[i])} ${methodOf(i)}` : `sends a message to ${actorWords(events.with[i])}`;
+    case TAKE: return `takes ${methodOf(i)}`;
+    case SEND: return `sends ${actorWords(events.with[i])} ${methodOf(i)}`;
     case MAKE: return `makes ${actorWords(events.with[i])}`;
     case NEW: return `makes an object of ${objectOf(i)[1]}`;
     case READ: return `reads ${fieldName(i)}`;
@@ -48,7 +48,7 @@ function clock(i) {
     const bar = element("i");
     bar.style.width = `${clockAt(i, a) / most * 100}%`;
     bar.style.background = objectColour(a);
-    const name = element("code", "", a > 0 && isNamed(a) ? `${actorName(a)} ${a}` : actorName(a));
+    const name = element("code", "", a > 0 ? `${actorName(a)} ${a}` : actorName(a));
     name.title = actorWords(a);
     made.append(element("span", "", name), element("span", "grow", bar), element("b", "", String(clockAt(i, a))));
     bar.parentNode.style.alignItems = "center";

@@ -39,9 +39,6 @@ class ByHand(unittest.TestCase):
     def test_a_run(self):
         self.check("run", "keeper.pony", "keeper.sched")
 
-    def test_a_run_whose_messages_and_objects_are_named(self):
-        self.check("run", "named.pony", "named.sched")
-
     def test_who_sends_what(self):
         self.check("sends", "stops.pony")
 
@@ -93,15 +90,23 @@ class Refused(unittest.TestCase):
         self.refused("places:11: bad line", "derivation", "cell.pony")
 
     def test_a_line_of_events(self):
-        self.edit("keeper.events", "49 2 take - 18 clock 0,18,9", "49 2 take 18 clock 0,18,9")
-        self.refused("events:7: bad line", "run", "keeper.pony", "keeper.sched")
+        self.edit("keeper.events", "49 2 take Keeper.bump 18 clock 0,18,9", "49 2 take 18 clock 0,18,9")
+        self.refused("events:8: bad line", "run", "keeper.pony", "keeper.sched")
+
+    def test_a_message_without_a_method(self):
+        self.edit("keeper.events", "18 1 send 2 Keeper.bump", "18 1 send 2 -")
+        self.refused("events:5: bad line", "run", "keeper.pony", "keeper.sched")
+
+    def test_an_object_that_nothing_made(self):
+        self.edit("keeper.events", "7 1 new 1.1 Cell", "7 1 new 1.2 Cell")
+        self.refused("events: no line makes object 1.1", "run", "keeper.pony", "keeper.sched")
 
     def test_events_without_their_last_line(self):
-        self.edit("keeper.events", "events 9 accesses 4 ordered\n", "")
-        self.refused("events:9: bad line", "run", "keeper.pony", "keeper.sched")
+        self.edit("keeper.events", "events 10 accesses 4 ordered\n", "")
+        self.refused("events:10: bad line", "run", "keeper.pony", "keeper.sched")
 
     def test_a_message_that_nobody_sent(self):
-        self.edit("keeper.events", "take - 18", "take - 19")
+        self.edit("keeper.events", "take Keeper.bump 18", "take Keeper.bump 19")
         self.refused("events: nothing was sent at step 19", "run", "keeper.pony", "keeper.sched")
 
     def test_a_trace_of_other_accesses(self):

@@ -23,14 +23,9 @@ def long_run(folder):
         file = folder / f"keeper.{name}"
         *lines, _ = file.read_text().splitlines()
         lines += [f"{57 + more} 2 read 2.0 0 clock 0,18,{17 + more}" for more in range(1, MORE_READS + 1)]
-        last = f"events {9 + MORE_READS} accesses {4 + MORE_READS} ordered" if name == "events" else f"accesses {4 + MORE_READS} ordered"
+        last = f"events {10 + MORE_READS} accesses {4 + MORE_READS} ordered" if name == "events" else f"accesses {4 + MORE_READS} ordered"
         file.write_text("\n".join([*lines, last]) + "\n")
     return "run", "keeper.pony", "keeper.sched"
-
-
-def named_run(_):
-    """A run whose messages and objects are named."""
-    return "run", "named.pony", "named.sched"
 
 
 def empty_run(folder):
@@ -111,7 +106,7 @@ def too_long(folder):
     return "derivation", "alias.pony"
 
 
-ALL = [long_run, named_run, empty_run, ended_run, many_boxes, empty_table, control_bytes, long_line, many_lines, unexplained, no_tree, too_long]
+ALL = [long_run, empty_run, ended_run, many_boxes, empty_table, control_bytes, long_line, many_lines, unexplained, no_tree, too_long]
 
 
 def made(folder):

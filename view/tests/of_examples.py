@@ -199,7 +199,7 @@ def event_of(data, places, number, word, what, companion):
     """The words of an event between its actor and its clock."""
     name = data["words"][word]
     if name in ("take", "send", "make"):
-        message = data["messages"][what] if what >= 0 else "-"
+        message = data["messages"][what]
         sent = places[number - companion] if companion else 0
         return f"take {message} {sent}" if name == "take" else f"{name} {companion} {message}"
     address, entity = data["objects"][what]
