@@ -8,18 +8,22 @@ use Rattle.pc_deriv.specs.Limits.{slot_limit, node_limit}
 use Rattle.pc_deriv.specs.Text.{deriv_text}
 use Rattle.pc_deriv.specs.declared.version.Version.TheVariants as version
 use Rattle.pc_elab.specs.Cores.{CoresAreFormed as FilesAreFormed}
+use Rattle.pc_grammar.specs.FileAnswers.{IsFileAnswer, spelled}
+use Rattle.pc_lex.specs.Answers.{TokenList}
 use Rattle.pc_text_order.specs.Laws.{TokensAscend}
 use Rattle.pc_regions.specs.Laws.{ValidIsSafe}
 use Rattle.pc_rules.specs.Valid.{Valid}
 use Rattle.pc_run.specs.Ends.{NeverLacks}
 use Rattle.pc_semantics.specs.Safety.{Safe}
 use Rattle.pc_types.specs.Laws.{AcceptedNeverLacks}
+use Rattle.pc_token.specs.declared.kinds.Token.{Token}
+use Rattle.pc_tree.specs.Tree as t
 use Rattle.pc_lists.specs.Texts.{Text}
 use Rattle.pc_refusals.specs.Accepting.{AcceptedStage, Typing}
 use Rattle.pc_refusals.specs.Accepting.Typing.{typed}
 use Rattle.pc_refusals.specs.After.After.{goes}
 use Rattle.pc_refusals.specs.Named.{Reading, whole, longer}
-use Rattle.pc_refusals.specs.Source.{SourceStage}
+use Rattle.pc_refusals.specs.Source.{FileStage, SourceStage, source_limit}
 use Rattle.pc_refusals.specs.Source.Length.{fits}
 use Rattle.pc_refusals.specs.Source.Lexing.{lexed}
 use Rattle.pc_refusals.specs.Source.Parsing.{parsed}
@@ -34,6 +38,11 @@ use Rattle.pc_top.specs.CoresFormed.{CoresAreFormed, IsSmall}
 pub source_says : {name : Text} {r : Reading} {s : Source} → SourceStage name r (Ok s) → (r ≡ whole s.bytes) × CoreOf s.bytes s.core
 source_says (goes (fits {bytes = b} short) (has_core (goes (lexed {ts = t} l) (goes (parsed {file = f} tree) (elaborated stands))))) =
     (refl, record { short = short; tokens = t; file = f; lexed = l; parsed = tree; stands = stands })
+
+-- one whose tree alone is asked for: it was read whole, and its tokens spell this file
+pub file_says : {name : Text} {r : Reading} {f : t.File} → FileStage name r (Ok f)
+    → (bytes : Text) × (r ≡ whole bytes) × (length bytes ≤ source_limit) × (tokens : List Token) × TokenList bytes tokens × IsFileAnswer tokens (spelled f)
+file_says (goes (fits {bytes = b} short) (goes (lexed {ts = ts} l) (parsed p))) = (b, refl, short, ts, l, p)
 
 pub core_passes : (name : Text) (bytes : List ℕ) (core : CoreData) → CoreOf bytes core → SourceStage name (whole bytes) (Ok (record { bytes = bytes; core = core }))
 core_passes name bytes core c = goes (fits c.short) (has_core (goes (lexed c.lexed) (goes (parsed c.parsed) (elaborated c.stands))))

@@ -48,7 +48,7 @@ tree_spelled name bytes ts shown f law (lexed l) e (parsed p) = (ts, subst (Spel
 pub names_stop : (name bytes : Text) (file : t.File) (f : NameFault) (s : Stop) → IsNameFault file f → IsNameStop name bytes f s → StageStops (Elaborating name bytes file) s
 names_stop name bytes file f s r h = name_stops (Elaborating name bytes file) name bytes f s (λ o. misnamed f o r) h
 
-member_fault : (file : t.File) (f : NameFault) → OfFile f → IsFirstFault file f → IsElabFault file f
+pub member_fault : (file : t.File) (f : NameFault) → OfFile f → IsFirstFault file f → IsElabFault file f
 member_fault file (names.Double s) o r = r
 member_fault file (names.Unknown s) o r = r
 member_fault file names.NoMain o r = r

@@ -1,6 +1,7 @@
 -- What the laws of the crates below say, which the laws of verdicts rest on.
 use Rattle.pc_choose.specs.Laws.{ListsAreOne}
 use Rattle.pc_check.specs.Laws.{NoneWithoutRule, NoneWithUnset, NoneWithFault, OneNode, OneConstructor, OneKindOfFault}
+use Rattle.pc_explain.specs.Laws.{AcceptedHasNone, ExplanationsAreOne}
 use Rattle.pc_deriv.specs.Laws.{OneAnnotation, NoFaultOfText, OneFault as OneTextFault}
 use Rattle.pc_judge.specs.Faults.{OneFirst, NotValid}
 use Rattle.pc_outcome_laws.specs.Laws.{AnswersAreOne}
@@ -40,3 +41,5 @@ pub record Laws : Type 0 where
   pub line : LinesAreOne
   pub chosen : ListsAreOne
   pub outcomes : AnswersAreOne
+  pub explanation : ExplanationsAreOne
+  pub unexplained : AcceptedHasNone

@@ -1,9 +1,10 @@
 -- The rooms, one for each command.
-use Rattle.pc_args.specs.Asked.{Asked, check, events, judge, make, outcomes, places, play, run, schedule_of, sends, show, swap, trace, upgrade}
+use Rattle.pc_args.specs.Asked.{Asked, check, events, explain, judge, make, outcomes, places, play, run, schedule_of, sends, show, swap, trace, upgrade}
 use Rattle.pc_refusals.specs.Named.{Files}
 use Rattle.pc_top.proofs.Room.{Room}
 use Rattle.pc_top.proofs.Rooms.Check.{check_room}
 use Rattle.pc_top.proofs.Rooms.Events.{events_room}
+use Rattle.pc_top.proofs.Rooms.Explain.{explain_room}
 use Rattle.pc_top.proofs.Rooms.Judge.{judge_room}
 use Rattle.pc_top.proofs.Rooms.Make.{make_room}
 use Rattle.pc_top.proofs.Rooms.Outcomes.{outcomes_room}
@@ -18,6 +19,7 @@ use Rattle.pc_top.proofs.Rooms.Trace.{trace_room}
 use Rattle.pc_top.proofs.Rooms.Upgrade.{upgrade_room}
 pub mod Check
 pub mod Events
+pub mod Explain
 pub mod Judge
 pub mod Make
 pub mod Outcomes
@@ -41,6 +43,7 @@ room_of files (swap source schedule place) = swap_room files source schedule pla
 room_of files (trace source schedule) = trace_room files source schedule
 room_of files (events source schedule) = events_room files source schedule
 room_of files (places source) = places_room files source
+room_of files (explain source) = explain_room files source
 room_of files (sends source) = sends_room files source
 room_of files (upgrade source derivation) = upgrade_room files source derivation
 room_of files (schedule_of source seed) = schedule_room files source seed

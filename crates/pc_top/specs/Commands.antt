@@ -2,7 +2,7 @@
 use Rattle.std.specs.Prelude.{ℕ, ◌≡◌, ◌⊎◌, Bool, true, false, List, [], ◌∷◌, Option, Some, None, IfSome}
 use Rattle.std.specs.Io.KnownBytes.{Appends}
 use Rattle.pc_lists.specs.Texts.{Text}
-use Rattle.pc_args.specs.Asked.{Asked, check, events, judge, make, outcomes, places, play, run, schedule_of, sends, show, swap, trace, upgrade}
+use Rattle.pc_args.specs.Asked.{Asked, check, events, explain, judge, make, outcomes, places, play, run, schedule_of, sends, show, swap, trace, upgrade}
 use Rattle.pc_args.specs.Numbers.{IsSeed, IsSize}
 use Rattle.pc_io.specs.Change.{Change}
 use Rattle.pc_refusals.specs.Lines.{usage_line}
@@ -10,6 +10,7 @@ use Rattle.pc_refusals.specs.Named.{FailedAt, Files, named}
 use Rattle.pc_refusals.specs.Verdict.{Verdict, refused}
 use Rattle.pc_top.specs.Commands.Check.{IsCheck, WritesDerivation}
 use Rattle.pc_top.specs.Commands.Events.{IsEvents, WritesEvents}
+use Rattle.pc_top.specs.Commands.Explain.{IsExplain, WritesExplained}
 use Rattle.pc_top.specs.Commands.Judge.{IsJudge, accepted_text}
 use Rattle.pc_top.specs.Commands.Make.{IsMake, WritesMade}
 use Rattle.pc_top.specs.Commands.Outcomes.{IsCount, IsOutcomes, WritesOutcomes}
@@ -25,6 +26,7 @@ use Rattle.pc_top.specs.Commands.Upgrade.{IsUpgrade, WritesUpgraded}
 use Rattle.pc_top.specs.Shapes.{UnreadDerivation, UnreadNumbered, UnreadScheduled}
 pub mod Check
 pub mod Events
+pub mod Explain
 pub mod Judge
 pub mod Make
 pub mod Outcomes
@@ -50,6 +52,7 @@ IsVerdictOf files (Some (swap source schedule place)) v = IsSwap (named files so
 IsVerdictOf files (Some (trace source schedule)) v = IsTrace (named files source) (named files schedule) v
 IsVerdictOf files (Some (events source schedule)) v = IsEvents (named files source) (named files schedule) v
 IsVerdictOf files (Some (places source)) v = IsPlaces (named files source) v
+IsVerdictOf files (Some (explain source)) v = IsExplain (named files source) v
 IsVerdictOf files (Some (sends source)) v = IsSends (named files source) v
 IsVerdictOf files (Some (upgrade source derivation)) v = IsUpgrade (named files source) (named files derivation) v
 IsVerdictOf files (Some (schedule_of source seed)) v = IsSchedule (named files source) seed v
@@ -73,6 +76,7 @@ FailedOf files (Some (schedule_of source seed)) name = UnreadNumbered (IsSeed se
 FailedOf files (Some (play source seed)) name = UnreadNumbered (IsSeed seed) (named files source) name
 FailedOf files (Some (outcomes source count)) name = UnreadNumbered (IsCount count) (named files source) name
 FailedOf files (Some (places source)) name = FailedAt (named files source) name
+FailedOf files (Some (explain source)) name = FailedAt (named files source) name
 FailedOf files (Some (events source schedule)) name = UnreadScheduled (named files source) (named files schedule) name
 
 -- The files that a command reads, in this order.
@@ -86,6 +90,7 @@ files_of (swap source schedule place) = source ∷ schedule ∷ []
 files_of (trace source schedule) = source ∷ schedule ∷ []
 files_of (events source schedule) = source ∷ schedule ∷ []
 files_of (places source) = source ∷ []
+files_of (explain source) = source ∷ []
 files_of (sends source) = source ∷ []
 files_of (upgrade source derivation) = source ∷ derivation ∷ []
 files_of (schedule_of source seed) = source ∷ []
@@ -103,6 +108,7 @@ source_of (swap source schedule place) = Some source
 source_of (trace source schedule) = Some source
 source_of (events source schedule) = Some source
 source_of (places source) = None
+source_of (explain source) = None
 source_of (sends source) = Some source
 source_of (upgrade source derivation) = Some source
 source_of (schedule_of source seed) = Some source
@@ -120,6 +126,7 @@ infers (swap source schedule place) = true
 infers (trace source schedule) = true
 infers (events source schedule) = true
 infers (places source) = false
+infers (explain source) = false
 infers (sends source) = true
 infers (upgrade source derivation) = false
 infers (schedule_of source seed) = true
@@ -141,6 +148,7 @@ HasNumber (schedule_of source seed) = (n : ℕ) × IsSeed seed n
 HasNumber (play source seed) = (n : ℕ) × IsSeed seed n
 HasNumber (outcomes source count) = (n : ℕ) × IsCount count n
 HasNumber (places source) = Unit {0}
+HasNumber (explain source) = Unit {0}
 HasNumber (events source schedule) = Unit {0}
 
 -- What stands on out where it went through all its stages, of files that tell their bytes. `swap` and `trace` write nothing where a
@@ -159,6 +167,7 @@ OnOutOf told (Some (trace source schedule)) out =
 OnOutOf told (Some (events source schedule)) out =
     IfSome (told source) (λ bytes. IfSome (told schedule) (λ text. WritesEvents out bytes text ⊎ Appends out.before out.now []))
 OnOutOf told (Some (places source)) out = IfSome (told source) (WritesPlaces out)
+OnOutOf told (Some (explain source)) out = IfSome (told source) (WritesExplained out source)
 OnOutOf told (Some (sends source)) out = IfSome (told source) (WritesSends out)
 OnOutOf told (Some (upgrade source derivation)) out = IfSome (told source) (λ bytes. IfSome (told derivation) (WritesUpgraded out bytes))
 OnOutOf told (Some (schedule_of source seed)) out = IfSome (told source) (λ bytes. (n : ℕ) × IsSeed seed n × WritesSchedule out n bytes)

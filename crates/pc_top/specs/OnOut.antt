@@ -11,12 +11,12 @@ use Rattle.pc_top.specs.Commands.Judge.{accepted_text}
 use Rattle.pc_top.specs.Commands.Swap.{IsPlace, WritesSwap}
 use Rattle.pc_top.specs.Commands.Trace.{WritesTrace}
 
--- What the command of the words writes: the source's derivation, `accepted`, the text of the run or the printed tree, where
--- the files that say it are told; or the numbers of the program that it makes, and the text of its run; or the schedule with two
--- turns exchanged or why they stay, and nothing where a step before them would make a text that is too long; or the accesses
--- of the run with their clocks, and nothing where a step would make a text that is too long; or the lines of who sends what, which
--- are true of every run; or a derivation in version 2 of its text; or the schedule that a seed chooses, the text of its run, or the
--- table of the outcomes of the seeds below a count.
+-- What the command of the words writes: the source's derivation, `accepted`, the text of the run or the printed tree, where the
+-- files that say it are told; or why the source is refused; or the numbers of the program that it makes, and the text of its
+-- run; or the schedule with two turns exchanged or why they stay, and nothing where a step before them would make a text that is
+-- too long; or the accesses of the run with their clocks, and nothing where a step would make a text that is too long; or the
+-- lines of who sends what, which are true of every run; or a derivation in version 2 of its text; or the schedule that a seed
+-- chooses, the text of its run, or the table of the outcomes of the seeds below a count.
 abbrev pub OnOut : (Text → Option Text) → List Text → Change → Type 0
 OnOut told words out = OnOutOf told (command_of words) out
 

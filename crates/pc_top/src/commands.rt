@@ -10,6 +10,7 @@ ghost use Rattle.pc_top.specs.Inner.Asking.{AsksSo};
 
 mod check;
 mod events;
+mod explain;
 mod judge;
 mod make;
 mod outcomes;
@@ -27,6 +28,7 @@ mod upgrade;
 
 use check::check_source;
 use events::tell_events;
+use explain::explain_source;
 use judge::judge_source;
 use make::make_program;
 use outcomes::tell_outcomes;
@@ -82,6 +84,7 @@ pub fn run_command<F: Files, O: Sink, R: Referee>(
             put_answer(out, tell_events(alloc, files, source, schedule))
         }
         Command::Places { source } => put_answer(out, tell_places(alloc, files, source)),
+        Command::Explain { source } => put_answer(out, explain_source(alloc, files, source)),
         Command::Sends { source } => put_answer(out, tell_sends(alloc, files, source)),
         Command::Upgrade { source, derivation } => {
             put_answer(out, upgrade_derivation(alloc, files, source, derivation))

@@ -16,6 +16,7 @@ use pc_check::{
 use pc_choose::lists_are_one;
 use pc_deriv::annotations_are_one;
 use pc_elab::cores_are_formed;
+use pc_explain::{accepted_has_none, explanations_are_one};
 use pc_file_spec::cores_are_one;
 use pc_grammar::files_are_read;
 use pc_isolation::{valid_is_isolated, valid_is_passed_whole};
@@ -69,6 +70,8 @@ pub fn verdict_is_one()
     lines_are_one();
     lists_are_one();
     answers_are_one();
+    explanations_are_one();
+    accepted_has_none();
 }
 
 /// `check` answers 0 exactly when the source has a core with a derivation, and what looks for a derivation answers 1

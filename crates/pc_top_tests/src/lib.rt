@@ -15,6 +15,8 @@ mod counted_sink;
 #[cfg(test)]
 mod event_cases;
 #[cfg(test)]
+mod explain_cases;
+#[cfg(test)]
 mod failing_cases;
 #[cfg(test)]
 mod field_cases;

@@ -41,6 +41,12 @@ const RUN: &[&str] = &["run", "a.pony", "other"];
 
 const PRINTED: &[u8] = b"class C\n\nactor Main\n  new create(env: Env) =>\n    let a: C iso = C\n";
 
+const NO_MAIN: &[u8] = b"\
+a.pony: no Main
+rule main: a program has one actor `Main` with `new create(env: Env)`, and this file has no entity of that name
+hint: add `actor Main` with `new create(env: Env) => None`
+";
+
 const CASES: &[Writing<'_>] = &[
     Writing {
         words: CHECK,
@@ -72,6 +78,14 @@ const CASES: &[Writing<'_>] = &[
         other: b"",
         status: 0,
         pieces: &[PRINTED],
+        line: b"",
+    },
+    Writing {
+        words: &["explain", "a.pony"],
+        source: b"class C\n",
+        other: b"",
+        status: 0,
+        pieces: &[NO_MAIN],
         line: b"",
     },
     Writing {

@@ -62,8 +62,8 @@ fn add_nested(source: &mut Vec<u8>, opened: usize) -> Result<(), AllocError> {
     add_repeated(source, b"", b")", opened, b"\n")
 }
 
-// A Main whose body is so many `(`, a number, and as many `)`.
-fn nested(alloc: Global, opened: usize) -> Result<Vec<u8>, AllocError> {
+/// A Main whose body is so many `(`, a number, and as many `)`.
+pub(crate) fn nested(alloc: Global, opened: usize) -> Result<Vec<u8>, AllocError> {
     let mut source: Vec<u8> = Vec::new(alloc);
     add_nested(&mut source, opened)?;
     Ok(source)

@@ -1,27 +1,20 @@
 -- The room of `show`, whose source is not asked for a derivation.
-use Rattle.std.proofs.Common.{◌≡◌, ℕ, List, Ok, refl, sym, ap, subst, ◌∙◌}
+use Rattle.std.proofs.Common.{◌≡◌, ℕ, refl, sym, ap, subst, ◌∙◌}
 use Rattle.std.specs.Prelude.{IfSome}
 use Rattle.std.specs.Io.KnownBytes.{Appends}
 use Rattle.pc_lists.specs.Texts.{Text}
 use Rattle.pc_args.specs.Asked.{make, show}
-use Rattle.pc_grammar.specs.FileAnswers.{IsFileAnswer, spelled}
 use Rattle.pc_io.specs.Change.{Change}
-use Rattle.pc_lex.specs.Answers.{TokenList}
 use Rattle.pc_print.specs.Printing.{printed}
-use Rattle.pc_token.specs.declared.kinds.Token.{Token}
-use Rattle.pc_tree.specs.Tree as t
-use Rattle.pc_refusals.specs.After.After.{goes}
-use Rattle.pc_refusals.specs.Named.{Files, Named, Reading, IsReadingOf, named, whole}
+use Rattle.pc_refusals.specs.Named.{Files, IsReadingOf, Named, Reading, named, whole}
 use Rattle.pc_refusals.specs.Source.{FileStage, source_limit}
-use Rattle.pc_refusals.specs.Source.Length.{fits}
-use Rattle.pc_refusals.specs.Source.Lexing.{lexed}
-use Rattle.pc_refusals.specs.Source.Parsing.{parsed}
 use Rattle.pc_refusals.specs.Verdict.{Verdict, IsAccepting}
 use Rattle.pc_refusals.proofs.LastStages.{from_status, passed}
 use Rattle.pc_refusals.proofs.OneSource.{one_file, one_from}
 use Rattle.pc_refusals.proofs.Statuses.{IsOther, IsOwn, file_other, other_not_one, other_own, other_refuses}
 use Rattle.pc_top.specs.Commands.Show.{IsShow, Shown, WritesTree}
 use Rattle.pc_top.proofs.Accepted.{of_told}
+use Rattle.pc_top.proofs.Deriving.{file_says}
 use Rattle.pc_top.proofs.Room.{NotOne, Room, looks_for_none, zero_not_one, zero_own}
 
 -- Which statuses its verdicts have.
@@ -29,18 +22,13 @@ statuses : (P : ℕ → Type 0) → ((status : ℕ) → IsOther status → P sta
 statuses P other zero file =
     from_status file source_limit (FileStage file.name) Shown P (λ r w h. other w.status (file_other h)) (λ tree w l. subst P (sym (ap (λ (x : Verdict). x.status) l)) zero)
 
--- the source was read whole, and its tokens spell this file
-tree_says : {name : Text} {r : Reading} {f : t.File} → FileStage name r (Ok f)
-    → (bytes : Text) × (r ≡ whole bytes) × (tokens : List Token) × TokenList bytes tokens × IsFileAnswer tokens (spelled f)
-tree_says (goes (fits {bytes = b} l) (goes (lexed {ts = ts} h) (parsed p))) = (b, refl, ts, h, p)
-
 show_on_out : (file : Named) (v : Verdict) (out : Change) → IsShow file v → IsAccepting v.status → Appends out.before out.now v.out → IfSome file.told (WritesTree out)
 show_on_out file v out is e o =
     let p = passed file source_limit (FileStage file.name) Shown v (λ r h. other_refuses v.status (file_other h) e) is in
-    let s = tree_says p.3 in
+    let s = file_says p.3 in
     let grew : Appends out.before out.now (printed p.1) = subst (λ (w : Verdict). Appends out.before out.now w.out) p.4 o in
     let read : IsReadingOf file source_limit (whole s.0) = subst (λ (x : Reading). IsReadingOf file source_limit x) s.1 p.2 in
-    of_told (WritesTree out) file.told s.0 (s.2, s.3, p.1, s.4, grew) read.1
+    of_told (WritesTree out) file.told s.0 (s.3, s.4, p.1, s.5, grew) read.1
 
 no_make : (source seed size : Text) → show source ≡ make seed size → ⊥
 no_make source seed size e = cc

@@ -1,5 +1,5 @@
 use Rattle.std.proofs.Common.{ap}
-use Rattle.pc_args.specs.Asked.{asked_by, check, events, judge, make, outcomes, places, play, run, schedule_of, sends, show, swap, trace, upgrade}
+use Rattle.pc_args.specs.Asked.{asked_by, check, events, explain, judge, make, outcomes, places, play, run, schedule_of, sends, show, swap, trace, upgrade}
 use Rattle.pc_io.specs.Change.{change}
 use Rattle.pc_refusals.specs.Named.{files_change}
 use Rattle.pc_top.proofs.Asking.{asks_judge, asks_other}
@@ -75,6 +75,15 @@ returns-in-Places-clause-ends g c =
 
 pub returns-in-Places-clause-asks : goal.returns-in-Places-clause-asks
 returns-in-Places-clause-asks g c = asks_other _ _ (places c.in-Places.source.now) _ _ (ap asked_by c.in-Places.is) (λ s d e. cc)
+
+pub returns-in-Explain-clause-ends : goal.returns-in-Explain-clause-ends
+returns-in-Explain-clause-ends g c =
+    let files = files_change (g.F.Files.bytes c.args.files.now) (g.F.Files.faults c.args.files.now) (g.F.Files.faults c.explain_source.new.files) (g.F.Files.taken c.explain_source.new.files) in
+    let out = change (g.O.Sink.written c.args.out.now) (g.O.Sink.written c.put_answer-in-Explain.new.out) (g.O.Sink.faults c.args.out.now) (g.O.Sink.faults c.put_answer-in-Explain.new.out) in
+    command_puts files out _ (explain c.in-Explain.source.now) _ _ (ap asked_by c.in-Explain.is) c.explain_source.ensures.answers c.put_answer-in-Explain.ensures.puts
+
+pub returns-in-Explain-clause-asks : goal.returns-in-Explain-clause-asks
+returns-in-Explain-clause-asks g c = asks_other _ _ (explain c.in-Explain.source.now) _ _ (ap asked_by c.in-Explain.is) (λ s d e. cc)
 
 pub returns-in-Sends-clause-ends : goal.returns-in-Sends-clause-ends
 returns-in-Sends-clause-ends g c =

@@ -38,4 +38,6 @@ returns c =
       line = c.lines_are_one.ensures;
       chosen = c.lists_are_one.ensures;
       outcomes = c.answers_are_one.ensures;
+      explanation = c.explanations_are_one.ensures;
+      unexplained = c.accepted_has_none.ensures;
     })

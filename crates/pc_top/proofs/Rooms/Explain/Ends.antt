@@ -1,0 +1,87 @@
+-- From what the parts of `explain` answer to how it ends.
+use Rattle.std.proofs.Common.{◌≡◌, ◌≤◌, List, length, Ok, Err, inr, true, false, refl, ap, subst}
+use Rattle.std.specs.Prelude.{IfErr, Result}
+use Rattle.pc_elab.specs.Cores.{IsFirstFault}
+use Rattle.pc_explain_names.specs.Names.{names_text}
+use Rattle.pc_lex.specs.Answers.{TokenList}
+use Rattle.pc_lists.specs.Texts.{Text}
+use Rattle.pc_names.specs.Laws.{OfFile}
+use Rattle.pc_names.specs.declared.fault.NameFault.{NameFault}
+use Rattle.pc_names.specs.declared.fault.NameFault.TheVariants as fault
+use Rattle.pc_token.specs.declared.kinds.Token.{Token}
+use Rattle.pc_tree.specs.Tree as t
+use Rattle.pc_refusals.specs.After.After.{goes, stops}
+use Rattle.pc_refusals.specs.FromFile.FromFile.{goes_on, refuses}
+use Rattle.pc_refusals.specs.Inner.Answering.{AnswersText}
+use Rattle.pc_refusals.specs.Inner.Refusals.{IsNameStop}
+use Rattle.pc_refusals.specs.Inner.Stages.{StageEnds, StageStops}
+use Rattle.pc_refusals.specs.NameFaults.{name_line, name_status}
+use Rattle.pc_refusals.specs.Named.{FailedAt, IsReadingOf, Named, whole}
+use Rattle.pc_refusals.specs.Source.{Lexing, Parsing, source_limit}
+use Rattle.pc_refusals.specs.Source.Length.{fits}
+use Rattle.pc_refusals.specs.Source.Lexing.{lexed}
+use Rattle.pc_refusals.specs.Verdict.{Verdict, refused}
+use Rattle.pc_refusals.specs.declared.stop.Stop.{Stop}
+use Rattle.pc_refusals.specs.declared.stop.Stop.TheVariants.{File, Memory, Refused, Sink}
+use Rattle.pc_refusals.proofs.Stops.{name_stops, stops_as}
+use Rattle.pc_top.specs.Commands.Explain.{ExplainedStage, Explaining, IsExplain, IsFileFault, fault_end, is_refused}
+use Rattle.pc_top.specs.Commands.Explain.ExplainedStage.{has_none, has_tree}
+use Rattle.pc_top.specs.Commands.Explain.Explaining.{has_fault}
+use Rattle.pc_top.proofs.Facts.{member_fault}
+
+-- ---- a fault of a tree
+
+-- that of its members
+pub members_fault : {C : Type 0} (file : t.File) (r : Result C NameFault) → IfErr r (IsFirstFault file) → IfErr r (λ f. OfFile f → IsFileFault file f)
+members_fault file (Ok core) h = tt
+members_fault file (Err f) h = λ o. inr (member_fault file f o h)
+
+module _ (name bytes : Text) (file : t.File) (f : NameFault) (of : OfFile f → IsFileFault file f) where
+  -- it is refused
+  refused_end : is_refused f ≡ true → fault_end name bytes file f ≡ Err (refused (name_status f) (name_line name bytes f))
+  refused_end e = rw e refl
+
+  pub fault_stops : (s : Stop) → is_refused f ≡ true → IsNameStop name bytes f s → StageStops (Explaining name bytes file) s
+  fault_stops s e h =
+      name_stops (Explaining name bytes file) name bytes f s (λ o. subst (λ (end : Result Text Verdict). Explaining name bytes file end) (refused_end e) (has_fault f o (of o))) h
+
+  -- it is explained
+  explained_end : is_refused f ≡ false → fault_end name bytes file f ≡ Ok (names_text name bytes file f)
+  explained_end e = rw e refl
+
+  is_of_file : is_refused f ≡ false → OfFile f
+  is_of_file e m = let yes : is_refused f ≡ true = ap is_refused m in cc
+
+  pub fault_says : (text : Text) → is_refused f ≡ false → text ≡ names_text name bytes file f → Explaining name bytes file (Ok text)
+  fault_says text e is =
+      let o = is_of_file e in
+      rw is (subst (λ (end : Result Text Verdict). Explaining name bytes file end) (explained_end e) (has_fault f o (of o)))
+
+-- ---- a source that was read
+
+pub lexed_list : {name bytes : Text} {ts : List Token} → Lexing name bytes (Ok ts) → TokenList bytes ts
+lexed_list (lexed l) = l
+
+module _ (name bytes : Text) (short : length bytes ≤ source_limit) where
+  pub tokens_stop : (s : Stop) → StageStops (Lexing name bytes) s → StageStops (ExplainedStage name (whole bytes)) s
+  tokens_stop s h = stops_as (Lexing name bytes) (ExplainedStage name (whole bytes)) (λ v e. has_none (goes (fits short) (stops e))) s h
+
+  module _ (ts shown : List Token) (same : shown ≡ ts) (l : Lexing name bytes (Ok ts)) where
+    pub tree_stops : (s : Stop) → StageStops (Parsing name bytes shown) s → StageStops (ExplainedStage name (whole bytes)) s
+    tree_stops s h =
+        stops_as (Parsing name bytes shown) (ExplainedStage name (whole bytes)) (λ v p. has_none (goes (fits short) (goes l (subst (λ (xs : List Token). Parsing name bytes xs (Err v)) same p)))) s h
+
+    pub tree_ends : (file : t.File) (r : Result Text Stop) → Parsing name bytes shown (Ok file) → StageEnds (Explaining name bytes file) r → StageEnds (ExplainedStage name (whole bytes)) r
+    tree_ends file (Ok text) p h = has_tree (goes (fits short) (goes l (subst (λ (xs : List Token). Parsing name bytes xs (Ok file)) same p))) h
+    tree_ends file (Err s) p h =
+        stops_as (Explaining name bytes file) (ExplainedStage name (whole bytes)) (λ v e. has_tree (goes (fits short) (goes l (subst (λ (xs : List Token). Parsing name bytes xs (Ok file)) same p))) e) s h
+
+-- ---- the command
+
+pub explain_answers : (file : Named) (bytes shown : Text) (r : Result Text Stop) → IsReadingOf file source_limit (whole bytes) → shown ≡ bytes → StageEnds (ExplainedStage file.name (whole shown)) r
+    → AnswersText (IsExplain file) (FailedAt file) r
+explain_answers file bytes shown (Ok text) g same h = goes_on (whole bytes) text g (subst (λ (b : Text). ExplainedStage file.name (whole b) (Ok text)) same h) refl
+explain_answers file bytes shown (Err (Refused status line)) g same h = refuses (whole bytes) g (subst (λ (b : Text). ExplainedStage file.name (whole b) (Err (refused status line))) same h)
+explain_answers file bytes shown (Err (File n)) g same h = absurd h
+explain_answers file bytes shown (Err Sink) g same h = absurd h
+explain_answers file bytes shown (Err Memory) g same h = tt

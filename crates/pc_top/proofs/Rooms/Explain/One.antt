@@ -1,0 +1,82 @@
+-- No two ends of the stages of `explain` differ.
+use Rattle.std.proofs.Common.{◌≡◌, List, Ok, Err, inl, inr, refl, ap, subst}
+use Rattle.std.specs.Prelude.{Result}
+use Rattle.pc_core.specs.CoreData.{CoreData}
+use Rattle.pc_core.specs.Formed.{Formed}
+use Rattle.pc_file_spec.specs.Cores.{Stands}
+use Rattle.pc_lex.specs.Answers.{TokenList}
+use Rattle.pc_lists.specs.Texts.{Text}
+use Rattle.pc_names.specs.Laws.{OfFile}
+use Rattle.pc_names.specs.declared.fault.NameFault.{NameFault}
+use Rattle.pc_token.specs.declared.kinds.Token.{Token}
+use Rattle.pc_tree.specs.Tree as t
+use Rattle.pc_refusals.specs.After.{IsOne}
+use Rattle.pc_refusals.specs.Named.{Reading, whole}
+use Rattle.pc_refusals.specs.Source.{FileStage}
+use Rattle.pc_refusals.specs.Verdict.{Verdict}
+use Rattle.pc_refusals.proofs.OneSource.{differ, ok_same, one_file}
+use Rattle.pc_top.specs.Commands.Explain.{CoreText, Explaining, ExplainedStage, IsFileFault, fault_end}
+use Rattle.pc_top.specs.Commands.Explain.CoreText.{accepted, explained}
+use Rattle.pc_top.specs.Commands.Explain.ExplainedStage.{has_none, has_tree}
+use Rattle.pc_top.specs.Commands.Explain.Explaining.{has_core, has_fault}
+use Rattle.pc_top.proofs.Deriving.{file_says}
+use Rattle.pc_top.proofs.Premises.{Laws}
+
+refusal_same : (v w : Verdict) (a b : Result t.File Verdict) → a ≡ Err v → b ≡ Err w → a ≡ b → v ≡ w
+refusal_same v w a b p q e = cc
+
+module _ (laws : Laws) (name : Text) where
+  -- ---- the text of a core
+
+  one_core_text : (bytes : Text) (tokens : List Token) (core : CoreData) → Formed core → (x y : Text) → CoreText name bytes tokens core x → CoreText name bytes tokens core y → x ≡ y
+  one_core_text bytes tokens core is _ _ (accepted d) (accepted e) = refl
+  one_core_text bytes tokens core is _ _ (accepted d) (explained {text = y} h) = absurd (laws.unexplained name bytes tokens core y is d h)
+  one_core_text bytes tokens core is _ _ (explained {text = x} h) (accepted d) = absurd (laws.unexplained name bytes tokens core x is d h)
+  one_core_text bytes tokens core is _ _ (explained {text = x} h) (explained {text = y} k) = laws.explanation name bytes tokens core x y is h k
+
+  -- ---- a tree
+
+  module _ (bytes : Text) (file : t.File) (read : FileStage name (whole bytes) (Ok file)) where
+    -- its core fits together
+    formed : (core : CoreData) → Stands file core → Formed core
+    formed core stands =
+        let says = file_says read in
+        (laws.refusing.formed says.0 core (record { short = says.2; tokens = says.3; file = file; lexed = says.4; parsed = says.5; stands = stands })).0
+
+    no_fault : {C : Type 0} (core : CoreData) (f : NameFault) → Stands file core → OfFile f → IsFileFault file f → C
+    no_fault core f s o (inl h) = absurd (laws.source.misnamed file f s.0 o h s.1)
+    no_fault core f s o (inr h) = absurd (laws.source.misused file core f s h)
+
+    one_fault : (f g : NameFault) → OfFile f → OfFile g → IsFileFault file f → IsFileFault file g → f ≡ g
+    one_fault f g o p (inl h) (inl i) = laws.source.name_fault file f g o p h i
+    one_fault f g o p (inl h) (inr i) = absurd (laws.source.misnamed file f i.0 o h i.1)
+    one_fault f g o p (inr h) (inl i) = absurd (laws.source.misnamed file g h.0 p i h.1)
+    one_fault f g o p (inr h) (inr i) = laws.source.body_fault file f g h i
+
+    one_text : (ts us : List Token) (c d : CoreData) (x y : Text) → TokenList bytes ts → TokenList bytes us → Stands file c → Stands file d
+        → CoreText name bytes ts c x → CoreText name bytes us d y → x ≡ y
+    one_text ts us c d x y l m s r h k =
+        let tokens : us ≡ ts = laws.source.list bytes us ts m.0 l.0 in
+        let cores : d ≡ c = laws.source.core file d c r s in
+        let same : CoreText name bytes ts c y = subst (λ (q : List Token). CoreText name bytes q c y) tokens (subst (λ (q : CoreData). CoreText name bytes us q y) cores k) in
+        one_core_text bytes ts c (formed c s) x y h same
+
+    one_explaining : IsOne (Explaining name bytes file)
+    one_explaining _ _ (has_core {tokens = t} {core = c} {text = x} l s h) (has_core {tokens = u} {core = d} {text = y} m r k) =
+        ap (λ (q : Text). Ok q) (one_text t u c d x y l m s r h k)
+    one_explaining _ _ (has_core {core = c} l s h) (has_fault f o g) = no_fault c f s o g
+    one_explaining _ _ (has_fault f o g) (has_core {core = c} l s h) = no_fault c f s o g
+    one_explaining _ _ (has_fault f o h) (has_fault g p i) = ap (fault_end name bytes file) (one_fault f g o p h i)
+
+  -- ---- a source
+
+  pub one_explained : (r : Reading) → IsOne (ExplainedStage name r)
+  one_explained _ x y (has_tree {bytes = b} {file = f} a h) (has_tree {file = g} c k) =
+      let same : g ≡ f = ok_same g f (Ok g) (Ok f) refl refl (one_file laws.source name (whole b) (Ok g) (Ok f) c a) in
+      one_explaining b f a x y h (subst (λ (q : t.File). Explaining name b q y) same k)
+  one_explained _ x _ (has_tree {bytes = b} {file = f} a h) (has_none {v = v} c) =
+      differ f v (Ok f) (Err v) refl refl (one_file laws.source name (whole b) (Ok f) (Err v) a c)
+  one_explained _ _ y (has_none {v = v} c) (has_tree {bytes = b} {file = f} a h) =
+      differ f v (Ok f) (Err v) refl refl (one_file laws.source name (whole b) (Ok f) (Err v) a c)
+  one_explained _ _ _ (has_none {reading = r} {v = v} a) (has_none {v = w} c) =
+      ap (λ (q : Verdict). Err q) (refusal_same v w (Err v) (Err w) refl refl (one_file laws.source name r (Err v) (Err w) a c))

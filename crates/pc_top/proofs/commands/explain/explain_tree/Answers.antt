@@ -1,0 +1,5 @@
+use Rattle.pc_top.specs.Commands.Explain.Explaining.{has_core}
+use Rattle.pc_top.proofs.commands.explain.explain_tree.Goals as goal
+
+pub returns-in_ok-write_core-in-Ok : goal.returns-in_ok-write_core-in-Ok
+returns-in_ok-write_core-in-Ok c = has_core c.requires.lexed c.in-Ok.ensures.core c.in_ok-write_core-in-Ok.ensures
