@@ -14,9 +14,13 @@ abbrev pub last_of : {A : Type 0} → ℕ → List A → Option A
 last_of zero xs = None
 last_of (suc n) xs = slice_get xs n
 
+-- How many entities begin at or before a byte.
+unfoldable pub place_at : t.File → ℕ → ℕ
+place_at file at = count_by (begins_by at) (map entity_span file.entities)
+
 -- The entity in whose text a byte stands: the last whose name begins at or before it.
 unfoldable pub entity_at : t.File → ℕ → Option t.Entity
-entity_at file at = last_of (count_by (begins_by at) (map entity_span file.entities)) file.entities
+entity_at file at = last_of (place_at file at) file.entities
 
 -- The same of an entity's methods. Before the first there are the fields.
 unfoldable pub method_at : t.Entity → ℕ → Option t.Method

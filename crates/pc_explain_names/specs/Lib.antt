@@ -4,3 +4,4 @@ pub mod Lists
 pub mod Marks
 pub mod NameLines
 pub mod Names
+pub mod Rows

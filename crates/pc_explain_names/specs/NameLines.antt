@@ -4,6 +4,7 @@ use Rattle.std.specs.List.{find, list_any}
 use Rattle.pc_caps.specs.declared.span.Span.{Span}
 use Rattle.pc_lists.specs.Texts.{Text, line_end}
 use Rattle.pc_tree.specs.Tree as t
+use Rattle.pc_members.specs.Members.{Member}
 use Rattle.pc_tree.specs.declared.kinds.EntityKind.{EntityKind}
 use Rattle.pc_tree.specs.declared.kinds.EntityKind.TheVariants as kind
 use Rattle.pc_window.specs.Places.{place, piece_of}
@@ -13,8 +14,9 @@ use Rattle.pc_explain_names.specs.declared.marks.Mark.{Mark}
 use Rattle.pc_explain_names.specs.declared.marks.Mark.TheVariants as mark
 use Rattle.pc_explain_names.specs.Bearers.{bearer_of, create_bearer, is_built_in, kind_word, known_kind, word}
 use Rattle.pc_explain_names.specs.Homes.{marks_at, visible_at}
-use Rattle.pc_explain_names.specs.Lists.{field_span, is_named, is_other, method_span, name_span, names}
+use Rattle.pc_explain_names.specs.Lists.{field_span, is_named, is_other, name_span, names}
 use Rattle.pc_explain_names.specs.Marks.{use_in}
+use Rattle.pc_explain_names.specs.Rows.{has_member, member_names}
 
 -- ---- the name
 
@@ -34,17 +36,14 @@ node_line name e m = codes "node: the name " ++ (quoted name ++ (home e m ++ lin
 unfoldable pub fields_part : Text → t.Entity → Text
 fields_part bytes e = codes "), a field of " ++ (piece e.name.text ++ (codes " (" ++ names bytes (map field_span e.fields)))
 
-unfoldable pub method_names : Text → List Span → Text
-method_names bytes spans = codes "), or directly before arguments one of its methods (" ++ (names bytes spans ++ (codes ")" ++ line_end))
+unfoldable pub methods_part : List Member → Text
+methods_part ms = codes "), or directly before arguments one of its methods (" ++ (member_names ms ++ (codes ")" ++ line_end))
 
-unfoldable pub methods_part : Text → t.Entity → Text
-methods_part bytes e = method_names bytes (map method_span e.methods)
+unfoldable pub members_part : Text → t.Entity → List Member → Text
+members_part bytes e ms = fields_part bytes e ++ methods_part ms
 
-unfoldable pub members : Text → t.Entity → Text
-members bytes e = fields_part bytes e ++ methods_part bytes e
-
-unfoldable pub bare_line : Text → t.Entity → List Span → Text
-bare_line bytes e visible = codes "rule name: a bare name is a visible local or parameter (here " ++ (names bytes visible ++ members bytes e)
+unfoldable pub bare_line : Text → t.Entity → List Member → List Span → Text
+bare_line bytes e ms visible = codes "rule name: a bare name is a visible local or parameter (here " ++ (names bytes visible ++ members_part bytes e ms)
 
 unfoldable pub call_line : Text → Text
 call_line name = codes "hint: write `" ++ (piece name ++ (codes "(..)`" ++ line_end))
@@ -52,14 +51,11 @@ call_line name = codes "hint: write `" ++ (piece name ++ (codes "(..)`" ++ line_
 abbrev pub call_hint : Bool → Text → Text
 call_hint named name = if named then call_line name else []
 
-unfoldable pub has_method : Text → Text → t.Entity → Bool
-has_method bytes name e = list_any (is_named bytes name) (map method_span e.methods)
-
 unfoldable pub has_field : Text → Text → t.Entity → Bool
 has_field bytes name e = list_any (is_named bytes name) (map field_span e.fields)
 
-unfoldable pub bare_lines : Text → Text → t.Entity → List Span → Text
-bare_lines bytes name e visible = bare_line bytes e visible ++ call_hint (has_method bytes name e) name
+unfoldable pub bare_lines : Text → Text → t.Entity → List Member → List Span → Text
+bare_lines bytes name e ms visible = bare_line bytes e ms visible ++ call_hint (has_member name ms) name
 
 unfoldable pub consumed_line : Text → List Span → Text
 consumed_line bytes visible = codes "rule name: a visible local or parameter is consumed; here are " ++ (names bytes visible ++ line_end)
@@ -106,17 +102,18 @@ unfoldable pub outside_line : Text → t.File → t.Entity → ℕ → Text
 outside_line name file e at = type_line (is_provided e at) name (known_kind name file.entities)
 
 -- By how the name is used.
-unfoldable pub use_lines : Text → t.File → Span → t.Entity → List Span → Option Mark → Text
-use_lines bytes file span e visible (Some mark.Bare) = bare_lines bytes (piece_of bytes span) e visible
-use_lines bytes file span e visible (Some mark.Consumed) = consumed_lines bytes (piece_of bytes span) e visible
-use_lines bytes file span e visible (Some (mark.Constructor head)) = constructor_line (piece_of bytes head) (piece_of bytes span)
-use_lines bytes file span e visible (Some mark.Type) = type_line false (piece_of bytes span) (known_kind (piece_of bytes span) file.entities)
-use_lines bytes file span e visible (Some (mark.Local s)) = []
-use_lines bytes file span e visible None = outside_line (piece_of bytes span) file e span.start
+unfoldable pub use_lines : Text → t.File → Span → t.Entity → List Member → List Span → Option Mark → Text
+use_lines bytes file span e ms visible (Some mark.Bare) = bare_lines bytes (piece_of bytes span) e ms visible
+use_lines bytes file span e ms visible (Some mark.Consumed) = consumed_lines bytes (piece_of bytes span) e visible
+use_lines bytes file span e ms visible (Some (mark.Constructor head)) = constructor_line (piece_of bytes head) (piece_of bytes span)
+use_lines bytes file span e ms visible (Some mark.Type) = type_line false (piece_of bytes span) (known_kind (piece_of bytes span) file.entities)
+use_lines bytes file span e ms visible (Some (mark.Local s)) = []
+use_lines bytes file span e ms visible None = outside_line (piece_of bytes span) file e span.start
 
-unfoldable pub unknown_lines : Text → t.File → Span → t.Entity → Option t.Method → Text
-unknown_lines bytes file span e m =
-    node_line (piece_of bytes span) e m ++ use_lines bytes file span e (visible_at span.start e m) (use_in (marks_at span.start e m))
+-- In an entity with these members.
+unfoldable pub unknown_lines : Text → t.File → Span → t.Entity → List Member → Option t.Method → Text
+unknown_lines bytes file span e ms m =
+    node_line (piece_of bytes span) e m ++ use_lines bytes file span e ms (visible_at span.start e m) (use_in (marks_at span.start e m))
 
 -- ---- a name that stands already
 

@@ -9,12 +9,13 @@ use Rattle.pc_tree.specs.Tree as t
 use Rattle.pc_window.specs.Head.{head}
 use Rattle.pc_window.specs.Places.{piece_of}
 use Rattle.pc_explain_names.specs.Homes.{entity_at, method_at}
+use Rattle.pc_explain_names.specs.Rows.{members_at}
 use Rattle.pc_explain_names.specs.NameLines.{cycle_lines, double_lines, main_lines, no_main_lines, unknown_lines}
 
 -- In the entity in whose text the name stands, and in its method.
 abbrev pub unknown_in : Text → t.File → Span → Option t.Entity → Text
 unknown_in bytes file span None = []
-unknown_in bytes file span (Some e) = unknown_lines bytes file span e (method_at e span.start)
+unknown_in bytes file span (Some e) = unknown_lines bytes file span e (members_at file span.start) (method_at e span.start)
 
 abbrev pub double_in : Text → t.File → Span → Option t.Entity → Text
 double_in bytes file span None = []

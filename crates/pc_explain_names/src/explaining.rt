@@ -1,16 +1,19 @@
 //! The explanation of a fault of a file's names.
 ghost use Rattle.std.specs.Prelude.{◌≡◌, ◌++◌, IfOk, OnOk, Some};
-ghost use Rattle.pc_explain_names.specs.Homes.{entity_at as entity_is};
+ghost use Rattle.pc_explain_names.specs.Homes.{entity_at as entity_is, method_at as method_is};
 ghost use Rattle.pc_explain_names.specs.NameLines as lines;
 ghost use Rattle.pc_explain_names.specs.Names as spec;
+ghost use Rattle.pc_members.specs.Views.{members_view};
 ghost use Rattle.pc_refusals.specs.Lines.{no_main_line};
 ghost use Rattle.pc_tree.specs.View.{entity_view, file_view};
 
 use crate::bearers::kind_word;
 use crate::double::push_double_lines;
-use crate::homes::{entity_at, method_at};
+use crate::homes::{entity_at, method_at, place_at};
+use crate::rows::{last_row, list_rows};
 use crate::unknown::push_unknown_lines;
 use pc_caps::{List, Span};
+use pc_members::Member;
 use pc_names::NameFault;
 use pc_tree::{Entity, EntityKind, File};
 use pc_window::{piece_of, push_bytes, push_head, push_piece};
@@ -114,7 +117,24 @@ fn push_unknown_in(
     }
 }
 
+// Appends the lines on a name that nothing has, in an entity with these members.
+fn push_unknown_with(
+    alloc: Global,
+    out: &mut Vec<u8>,
+    bytes: &[u8],
+    file: &File,
+    span: Span,
+    entity: &Entity,
+    members: &[Member],
+) -> Result<(), AllocError>
+    ensures { OnOk result (out.new.items ≡ out.old.items ++ lines.unknown_lines bytes.now (file_view file.now) span (entity_view entity.now) (members_view members.now) (method_is (entity_view entity.now) span.start)) }
+{
+    let method = method_at(alloc, entity, span.start)?;
+    push_unknown_lines(alloc, out, bytes, file, span, entity, members, method)
+}
+
 // Appends the lines on a name that nothing has, in an entity.
+#[tactic(auto, unfolding(crate::specs::Rows::members_at))]
 fn push_unknown_of(
     alloc: Global,
     out: &mut Vec<u8>,
@@ -125,8 +145,12 @@ fn push_unknown_of(
 ) -> Result<(), AllocError>
     ensures { OnOk result (out.new.items ≡ out.old.items ++ spec.unknown_in bytes.now (file_view file.now) span (Some (entity_view entity.now))) }
 {
-    let method = method_at(alloc, entity, span.start)?;
-    push_unknown_lines(alloc, out, bytes, file, span, entity, method)
+    let rows = list_rows(alloc, file)?;
+    let place = place_at(alloc, file, span.start)?;
+    match last_row(&rows, place) {
+        Some(row) => push_unknown_with(alloc, out, bytes, file, span, entity, row.as_slice()),
+        None => push_unknown_with(alloc, out, bytes, file, span, entity, &[]),
+    }
 }
 
 // Appends the lines on a name that stands already, if it stands in an entity.

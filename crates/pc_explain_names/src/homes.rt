@@ -46,13 +46,22 @@ fn last_method(methods: &List<MethodDef>, count: usize) -> Option<&MethodDef>
     }
 }
 
+/// How many entities begin at or before a byte.
+#[tactic(auto, unfolding(crate::specs::Homes::place_at))]
+pub(crate) fn place_at(alloc: Global, file: &File, at: u32) -> Result<usize, AllocError>
+    ensures { IfOk result (λ place. place ≡ spec.place_at (file_view file.now) at) }
+{
+    let spans = entity_spans(alloc, file.entities.as_slice())?;
+    Ok(count_before(&spans, at))
+}
+
 /// The entity in whose text a byte stands.
 #[tactic(auto, unfolding(crate::specs::Homes::entity_at))]
 pub(crate) fn entity_at(alloc: Global, file: &File, at: u32) -> Result<Option<&Entity>, AllocError>
     ensures { IfOk result (λ found. option_map (λ e. entity_view e.now) found ≡ spec.entity_at (file_view file.now) at) }
 {
-    let spans = entity_spans(alloc, file.entities.as_slice())?;
-    Ok(last_entity(&file.entities, count_before(&spans, at)))
+    let place = place_at(alloc, file, at)?;
+    Ok(last_entity(&file.entities, place))
 }
 
 /// The method of an entity in whose text a byte stands.

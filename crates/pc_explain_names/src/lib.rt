@@ -2,7 +2,8 @@
 //!
 //! Proved: `explain_names` writes exactly the explanation of a fault, or memory ran out: the refusal's line, the source's line
 //! with carets, the entity and the method in which the name stands, and the rule: for a name that nothing has, the locals,
-//! parameters, fields and methods that could stand there; for one that stands already, the first thing that has it.
+//! parameters, fields and methods that could stand there, with an added `create` and the methods that the entity takes over; for
+//! one that stands already, the first thing that has it.
 #![tactic(auto)]
 
 mod bearers;
@@ -11,6 +12,7 @@ mod explaining;
 mod homes;
 mod lists;
 mod marks;
+mod rows;
 mod spans;
 mod unknown;
 

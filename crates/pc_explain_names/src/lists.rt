@@ -7,8 +7,8 @@ use pc_caps::Span;
 use pc_window::{piece_of, push_bytes, push_number, push_quoted};
 use std::alloc::{AllocError, Global};
 
-// How many names of a list are written.
-const MOST: usize = 8;
+/// How many names of a list are written.
+pub(crate) const MOST: usize = 8;
 
 // Whether the name at the place is this one.
 pub(crate) fn is_named(bytes: &[u8], name: &[u8], span: Span) -> bool
@@ -43,8 +43,8 @@ pub(crate) fn first_other(bytes: &[u8], name: &[u8], at: u32, spans: &[Span]) ->
     None
 }
 
-// A comma, unless the first name comes.
-fn between(first: bool) -> &'static [u8]
+/// A comma, unless the first name comes.
+pub(crate) fn between(first: bool) -> &'static [u8]
     ensures { result.now ≡ spec.between first }
 {
     if first { b"" } else { b", " }
@@ -81,8 +81,8 @@ fn push_listed(
     Ok(())
 }
 
-// Appends how many names are not written.
-fn push_rest(alloc: Global, out: &mut Vec<u8>, count: usize) -> Result<(), AllocError>
+/// Appends how many names are not written.
+pub(crate) fn push_rest(alloc: Global, out: &mut Vec<u8>, count: usize) -> Result<(), AllocError>
     ensures { OnOk result (out.new.items ≡ out.old.items ++ spec.rest count) }
 {
     if count > MOST {

@@ -3,14 +3,17 @@ ghost use Rattle.std.specs.Prelude.{◌≡◌, ◌++◌, false, true, IfOk, OnOk
 ghost use Rattle.std.specs.List.{list_any};
 ghost use Rattle.std.specs.Option.{option_map};
 ghost use Rattle.pc_explain_names.specs.NameLines as spec;
+ghost use Rattle.pc_members.specs.Views.{members_view};
 ghost use Rattle.pc_tree.specs.View.{entity_view, file_view, method_view};
 
 use crate::bearers::{kind_word, known_kind};
 use crate::homes::{marks_at, visible_at};
 use crate::lists::{one_is_named, push_names};
 use crate::marks::{Mark, use_in};
-use crate::spans::{field_spans, method_spans, name_spans};
+use crate::rows::{has_member, push_member_names};
+use crate::spans::{field_spans, name_spans};
 use pc_caps::Span;
+use pc_members::Member;
 use pc_tree::{Entity, EntityKind, File, MethodDef};
 use pc_window::{piece_of, push_bytes, push_piece, push_quoted};
 use std::alloc::{AllocError, Global};
@@ -82,46 +85,28 @@ fn push_fields_part(
 }
 
 // Appends the names of the methods that a bare name may be.
-#[tactic(auto, unfolding(crate::specs::NameLines::method_names))]
-fn push_method_names(
-    alloc: Global,
-    out: &mut Vec<u8>,
-    bytes: &[u8],
-    spans: &[Span],
-) -> Result<(), AllocError>
-    ensures { OnOk result (out.new.items ≡ out.old.items ++ spec.method_names bytes.now spans.now) }
+#[tactic(auto, unfolding(crate::specs::NameLines::methods_part))]
+fn push_methods_part(alloc: Global, out: &mut Vec<u8>, members: &[Member]) -> Result<(), AllocError>
+    ensures { OnOk result (out.new.items ≡ out.old.items ++ spec.methods_part (members_view members.now)) }
 {
     push_bytes(out, b"), or directly before arguments one of its methods (")?;
-    push_names(alloc, out, bytes, spans)?;
+    push_member_names(alloc, out, members)?;
     push_bytes(out, b")\n")
 }
 
-// Appends the methods that a bare name may be.
-#[tactic(auto, unfolding(crate::specs::NameLines::methods_part))]
-fn push_methods_part(
-    alloc: Global,
-    out: &mut Vec<u8>,
-    bytes: &[u8],
-    entity: &Entity,
-) -> Result<(), AllocError>
-    ensures { OnOk result (out.new.items ≡ out.old.items ++ spec.methods_part bytes.now (entity_view entity.now)) }
-{
-    let methods = method_spans(alloc, entity.methods.as_slice())?;
-    push_method_names(alloc, out, bytes, &methods)
-}
-
 // Appends the fields and the methods that a bare name may be.
-#[tactic(auto, unfolding(crate::specs::NameLines::members))]
-fn push_members(
+#[tactic(auto, unfolding(crate::specs::NameLines::members_part))]
+fn push_members_part(
     alloc: Global,
     out: &mut Vec<u8>,
     bytes: &[u8],
     entity: &Entity,
+    members: &[Member],
 ) -> Result<(), AllocError>
-    ensures { OnOk result (out.new.items ≡ out.old.items ++ spec.members bytes.now (entity_view entity.now)) }
+    ensures { OnOk result (out.new.items ≡ out.old.items ++ spec.members_part bytes.now (entity_view entity.now) (members_view members.now)) }
 {
     push_fields_part(alloc, out, bytes, entity)?;
-    push_methods_part(alloc, out, bytes, entity)
+    push_methods_part(alloc, out, members)
 }
 
 // Appends what a bare name may be.
@@ -131,25 +116,17 @@ fn push_bare_line(
     out: &mut Vec<u8>,
     bytes: &[u8],
     entity: &Entity,
+    members: &[Member],
     visible: &[Span],
 ) -> Result<(), AllocError>
-    ensures { OnOk result (out.new.items ≡ out.old.items ++ spec.bare_line bytes.now (entity_view entity.now) visible.now) }
+    ensures { OnOk result (out.new.items ≡ out.old.items ++ spec.bare_line bytes.now (entity_view entity.now) (members_view members.now) visible.now) }
 {
     push_bytes(
         out,
         b"rule name: a bare name is a visible local or parameter (here ",
     )?;
     push_names(alloc, out, bytes, visible)?;
-    push_members(alloc, out, bytes, entity)
-}
-
-// Whether the entity has a method of this name.
-#[tactic(auto, unfolding(crate::specs::NameLines::has_method))]
-fn has_method(alloc: Global, bytes: &[u8], name: &[u8], entity: &Entity) -> Result<bool, AllocError>
-    ensures { IfOk result (λ has. has ≡ spec.has_method bytes.now name.now (entity_view entity.now)) }
-{
-    let spans = method_spans(alloc, entity.methods.as_slice())?;
-    Ok(one_is_named(bytes, name, &spans))
+    push_members_part(alloc, out, bytes, entity, members)
 }
 
 // Whether the entity has a field of this name.
@@ -221,13 +198,13 @@ fn push_bare_lines(
     bytes: &[u8],
     name: &[u8],
     entity: &Entity,
+    members: &[Member],
     visible: &[Span],
 ) -> Result<(), AllocError>
-    ensures { OnOk result (out.new.items ≡ out.old.items ++ spec.bare_lines bytes.now name.now (entity_view entity.now) visible.now) }
+    ensures { OnOk result (out.new.items ≡ out.old.items ++ spec.bare_lines bytes.now name.now (entity_view entity.now) (members_view members.now) visible.now) }
 {
-    let named = has_method(alloc, bytes, name, entity)?;
-    push_bare_line(alloc, out, bytes, entity, visible)?;
-    push_call_hint(alloc, out, named, name)
+    push_bare_line(alloc, out, bytes, entity, members, visible)?;
+    push_call_hint(alloc, out, has_member(name, members), name)
 }
 
 // Appends what may be consumed.
@@ -415,14 +392,15 @@ fn push_use_lines(
     file: &File,
     span: Span,
     entity: &Entity,
+    members: &[Member],
     visible: &[Span],
     used: Option<Mark>,
 ) -> Result<(), AllocError>
-    ensures { OnOk result (out.new.items ≡ out.old.items ++ spec.use_lines bytes.now (file_view file.now) span (entity_view entity.now) visible.now used) }
+    ensures { OnOk result (out.new.items ≡ out.old.items ++ spec.use_lines bytes.now (file_view file.now) span (entity_view entity.now) (members_view members.now) visible.now used) }
 {
     let name = piece_of(bytes, span);
     match used {
-        Some(Mark::Bare) => push_bare_lines(alloc, out, bytes, name, entity, visible),
+        Some(Mark::Bare) => push_bare_lines(alloc, out, bytes, name, entity, members, visible),
         Some(Mark::Consumed) => push_consumed_lines(alloc, out, bytes, name, entity, visible),
         Some(Mark::Constructor(head)) => {
             push_constructor_line(alloc, out, piece_of(bytes, head), name)
@@ -436,7 +414,7 @@ fn push_use_lines(
     }
 }
 
-/// Appends the lines on a name that nothing has, in an entity and its method.
+/// Appends the lines on a name that nothing has, in an entity with these members and its method.
 #[tactic(auto, unfolding(crate::specs::NameLines::unknown_lines))]
 pub(crate) fn push_unknown_lines(
     alloc: Global,
@@ -445,9 +423,10 @@ pub(crate) fn push_unknown_lines(
     file: &File,
     span: Span,
     entity: &Entity,
+    members: &[Member],
     method: Option<&MethodDef>,
 ) -> Result<(), AllocError>
-    ensures { OnOk result (out.new.items ≡ out.old.items ++ spec.unknown_lines bytes.now (file_view file.now) span (entity_view entity.now) (option_map (λ m. method_view m.now) method.entry)) }
+    ensures { OnOk result (out.new.items ≡ out.old.items ++ spec.unknown_lines bytes.now (file_view file.now) span (entity_view entity.now) (members_view members.now) (option_map (λ m. method_view m.now) method.entry)) }
 {
     let marks = marks_at(alloc, span.start, entity, method)?;
     let visible = visible_at(alloc, method, &marks)?;
@@ -459,6 +438,7 @@ pub(crate) fn push_unknown_lines(
         file,
         span,
         entity,
+        members,
         &visible,
         use_in(&marks),
     )

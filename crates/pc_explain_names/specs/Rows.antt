@@ -1,0 +1,52 @@
+-- The members of a file's entities, and their names in words.
+use Rattle.std.specs.Prelude.{ℕ, Bool, true, false, List, [], ◌∷◌, ◌++◌, length, map, take}
+use Rattle.std.specs.List.{list_any}
+use Rattle.std.specs.Str.{bytes_eq}
+use Rattle.pc_lists.specs.Texts.{Text}
+use Rattle.pc_tree.specs.Tree as t
+use Rattle.pc_members.specs.Chains.{edges_of}
+use Rattle.pc_members.specs.Members.{Member, member_text, members}
+use Rattle.pc_members.specs.Reach.{above_all}
+use Rattle.pc_members.specs.Rounds.{or_none}
+use Rattle.pc_names.specs.Names.{name_faults}
+use Rattle.pc_names.specs.declared.fault.NameFault.{NameFault}
+use Rattle.pc_window.specs.Quoting.{quoted}
+use Rattle.pc_explain_names.specs.Homes.{last_of, place_at}
+use Rattle.pc_explain_names.specs.Lists.{between, most, none_at_all, rest}
+
+abbrev pub all_faults : t.File → List NameFault
+all_faults file = name_faults file (above_all (edges_of file))
+
+abbrev pub rows_if : List NameFault → t.File → List (List Member)
+rows_if [] file = map (members file.entities) file.entities
+rows_if (f ∷ fs) file = []
+
+-- The members of each entity: its own methods, an added `create`, and the methods that it takes over. Of a file whose names have a
+-- fault none are known: its bodies are not looked at.
+unfoldable pub rows : t.File → List (List Member)
+rows file = rows_if (all_faults file) file
+
+-- Those of the entity in whose text a byte stands.
+unfoldable pub members_at : t.File → ℕ → List Member
+members_at file at = or_none (last_of (place_at file at) (rows file))
+
+abbrev pub is_called : Text → Member → Bool
+is_called name m = bytes_eq (member_text m) name
+
+-- One of the members has the name.
+unfoldable pub has_member : Text → List Member → Bool
+has_member name ms = list_any (is_called name) ms
+
+-- ---- in words
+
+abbrev pub one_member : (first : Bool) → Member → Text
+one_member first m = between first ++ quoted (member_text m)
+
+abbrev pub listed_members : (first : Bool) → List Member → Text
+listed_members first [] = []
+listed_members first (m ∷ ms) = one_member first m ++ listed_members false ms
+
+-- The first eight names, and how many more there are; or `none`.
+unfoldable pub member_names : List Member → Text
+member_names [] = none_at_all
+member_names (m ∷ ms) = listed_members true (take most (m ∷ ms)) ++ rest (length (m ∷ ms))
