@@ -1,0 +1,4 @@
+actor Main
+  new create(env: Env) =>
+    var n: U64 = 1
+    n = "two"

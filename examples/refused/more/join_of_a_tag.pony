@@ -1,0 +1,4 @@
+actor Main
+  new create(env: Env) =>
+    let s: String tag = "one"
+    s + "two"

@@ -1,0 +1,3 @@
+actor Main
+  new create(env: Env) =>
+    1 and true

@@ -1,0 +1,3 @@
+actor Main
+  new create(env: Env) =>
+    false or (let b: Bool = true)

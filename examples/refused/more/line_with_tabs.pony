@@ -1,0 +1,3 @@
+actor Main
+	new create(env: Env) =>
+		let n: U64 =	true

@@ -1,0 +1,2 @@
+class Main
+  new create(env: Env) => None

@@ -1,0 +1,4 @@
+class D
+class C is D
+actor Main
+  new create(env: Env) => None

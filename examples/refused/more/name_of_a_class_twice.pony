@@ -1,0 +1,4 @@
+class C
+class C
+actor Main
+  new create(env: Env) => None

@@ -1,0 +1,4 @@
+actor Main
+  new create(env: Env) =>
+    m
+  fun m() => None

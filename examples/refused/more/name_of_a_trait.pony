@@ -1,0 +1,4 @@
+trait T
+actor Main
+  new create(env: Env) =>
+    T

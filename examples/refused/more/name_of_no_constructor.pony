@@ -1,0 +1,4 @@
+class C
+actor Main
+  new create(env: Env) =>
+    let c: C ref = C.make()

@@ -1,0 +1,3 @@
+class U64
+actor Main
+  new create(env: Env) => None

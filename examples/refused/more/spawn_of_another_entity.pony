@@ -1,0 +1,5 @@
+actor Keeper
+  new create(n: U64) => None
+actor Main
+  new create(env: Env) =>
+    Keeper(true)

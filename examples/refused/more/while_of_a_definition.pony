@@ -1,0 +1,3 @@
+actor Main
+  new create(env: Env) =>
+    while let b: Bool = true do None end

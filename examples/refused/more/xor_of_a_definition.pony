@@ -1,0 +1,3 @@
+actor Main
+  new create(env: Env) =>
+    (let b: Bool = true) xor false
