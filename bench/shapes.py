@@ -17,6 +17,9 @@ NO_TOKENS = 3
 WRONG_NAMES = 4
 LIMIT = 8
 
+# The refusals that are explained.
+EXPLAINED = (NO_RULE, WRONG_NAMES)
+
 SHAPES = []
 
 
@@ -28,6 +31,10 @@ class Shape:
     pieces: typing.Callable
     checked: int
     shown: int
+
+    def explained(self):
+        """The status of `explain`: what it says why is done, and other refusals are as those of `check`."""
+        return ACCEPTED if self.checked in EXPLAINED else self.checked
 
 
 def shape(title, checked=ACCEPTED, shown=ACCEPTED):
@@ -804,3 +811,65 @@ def bad_name(part):
 def bad_call(part):
     yield from main_with(lines(int(part * 199_900), "0"))
     yield "0.a()"
+
+
+# Sources of nearly the greatest size that are refused, for their explanations.
+
+
+@shape("a program whose last call is refused", NO_RULE)
+def refused_program(part):
+    yield from program(part)
+    yield "    teller.deposit(true)\n"
+
+
+@shape("a field that 38,000 ifs may set", NO_RULE)
+def may_be_set(part):
+    yield "class C\n  var f: U64\n  new create(b: Bool) =>\n"
+    yield from lines(int(part * 38_000), "if b then f = 1 end")
+    yield from main_with(["0\n"])
+
+
+@shape("64 fields that 590 ifs may set each", NO_RULE)
+def may_all_be_set(part):
+    fields = [f"f{n}" for n in range(64)]
+    yield "class C\n" + "".join(f"  var {name}: U64\n" for name in fields) + "  new create(b: Bool) =>\n"
+    yield from ("".join(f"if b then {name} = 1 end\n" for name in fields) for _ in numbered(part, 590))
+    yield from main_with(["0\n"])
+
+
+@shape("a name that is not there, where 30,000 parameters are", WRONG_NAMES)
+def bad_name_among_parameters(part):
+    yield "actor Main\n  new create(env: Env) => None\n  fun m("
+    yield from (f"p{n}: U64, " for n in numbered(part, 30_000))
+    yield "q: U64) =>\n    a\n"
+
+
+@shape("a class that is not below an interface of 4,990 methods, for the last of them", NO_RULE)
+def not_below_an_interface(part):
+    count = int(part * 4_990)
+    yield "interface I\n"
+    yield from (f"  fun m{n}()\n" for n in range(count))
+    yield "class C\n"
+    yield from (f"  fun m{n}() => None\n" for n in range(count - 1))
+    yield from main_with(["    let c: C ref = C\n", "    let i: I box = c\n"])
+
+
+@shape("a local that is not live, after 60,000 consumes", NO_RULE)
+def not_live(part):
+    yield from main_with(["    var a: U64 = 0\n"])
+    yield from lines(int(part * 30_000), "    a = consume a")
+    yield "    let b: U64 = consume a\n    a\n"
+
+
+@shape("a call of 30,000 arguments", NO_RULE)
+def too_many_arguments(part):
+    yield from main_with(["    let c: Main = Main.create("])
+    yield from lines(int(part * 30_000), "0,")
+    yield "0)\n"
+
+
+@shape("a line of 1,040,000 bytes, refused at its end", NO_RULE)
+def long_line(part):
+    yield "actor Main\n  new create(env: Env) => "
+    yield from joined(int(part * 99_000), "; ", "\"aaaaaa\"")
+    yield "; not 1"
