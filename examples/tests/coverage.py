@@ -4,8 +4,8 @@ import re
 
 import kinds
 import pages
+import refused
 
-RULE_LINE = re.compile(r"rules? ([a-z]+(?:, [a-z]+)*): (.*)")
 REASON = re.compile(r".*? has (?:no type|none): (.*)")
 REFUSAL = re.compile(r"`SRC(?::L:C)?: ([^`]+)`")
 
@@ -67,7 +67,7 @@ def said_in(explanation):
     yield "refusal", explanation.fault(), ""
     rule = ""
     for line in explanation.lines():
-        said = RULE_LINE.match(line)
+        said = refused.RULE_LINE.match(line)
         if said is None:
             group, words = line.split(": ", 1)
             yield group, words, rule

@@ -18,6 +18,8 @@ PAGE = "docs/explaining.md"
 # What the launcher says before the program's own line.
 LAUNCHER_LINE = re.compile(rb"^rcap: .*\n", re.MULTILINE)
 
+RULE_LINE = re.compile(r"rules? ([a-z]+(?:, [a-z]+)*): (.*)")
+
 SECONDS = 600
 NAMED_FAULTS = ("name unknown", "name twice", "trait in a cycle", "no Main", "Main is of another form")
 
@@ -40,6 +42,10 @@ class Explanation:
     def lines(self):
         """The lines after the window."""
         return [line for line in self.text.decode(errors="replace").splitlines()[1:] if re.match(r"(node|part|rules?|hint)\b", line)]
+
+    def rules(self):
+        """The rules that the lines name, in order."""
+        return [rule for said in map(RULE_LINE.match, self.lines()) if said for rule in said[1].split(", ")]
 
     def fault(self):
         """What is refused, as the first line says it."""
@@ -72,17 +78,17 @@ def answer(command, source):
     return ended.returncode, ended.stdout, LAUNCHER_LINE.sub(b"", ended.stderr)
 
 
-def look_at_page(results):
-    """The page lists the sources of the first folder, in order."""
+def look_at_page(explanations, results):
+    """The page lists the sources of the first folder, in order, with what is refused and the rules."""
     page = pages.Page(PAGE, (pages.TOP / PAGE).read_text().splitlines())
-    listed = [row.cells["Source"].strip("`") for row in pages.table(page, "Source", "`check` says")]
-    found = sorted(it.name for it in REFUSED.glob("*.pony"))
+    listed = [tuple(row.cells.values()) for row in pages.table(page, "Source", "`check` says", "Rules")]
+    found = [(f"`{it.name()}`", it.fault(), ", ".join(it.rules())) for it in explanations if it.source.parent == REFUSED]
     results.check(listed == found, f"{PAGE} lists the sources", sorted(set(listed) ^ set(found)))
 
 
 def look(explanations, results):
     """Compares the program's answers with the explanations."""
-    look_at_page(results)
+    look_at_page(explanations, results)
     for it in explanations:
         explained = answer("explain", it.source)
         results.check(explained == (0, it.text, b""), f"explain {it.name()}", explained)
