@@ -1,13 +1,8 @@
-//! Tests of explanations: each source of `examples/refused`, byte for byte, and how others end.
+//! Tests of explanations: a source of each class of fault of names has its explanation byte for byte, and one without a fault has
+//! none. `examples/test` tries the built program on all kinds, also on those of cores.
 #![tactic(auto)]
 
 #[cfg(test)]
 mod cases;
 #[cfg(test)]
-mod endings;
-#[cfg(test)]
-mod explaining;
-#[cfg(test)]
 mod names;
-#[cfg(test)]
-mod naming;
