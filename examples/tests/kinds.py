@@ -171,6 +171,9 @@ OTHERS = {
         "a method twice": "`NAME` is the name of the method at PLACE, which is visible here",
         "an entity twice": "`NAME` is the name of the class at PLACE, which is visible here",
         "a name that is built in": "ENTITY is built in",
+        "a constructor that is added": "`create` is the name of the (?:field|method) at PLACE, and a constructor `create` is added to ENTITY, which has none",
+        "a name twice after is": "`ENTITY` stands after `is` already, at PLACE",
+        "a field of an entity that takes a method over": "`NAME` is the name of a field of an entity that takes this method over",
     },
     "main": {
         "no Main": r"a program has one actor `Main` with `new create\(env: Env\)`, and this file has no entity of that name",
@@ -225,6 +228,7 @@ OTHER_HINTS = {
     "call the method": ("name", r"write `NAME\(\.\.\)`"),
     "the old value": ("name", r"its old value is what `NAME = \.\.` gives"),
     "another name": ("name", "give one of the two another name"),
+    "name one once": ("name", "take one of the two away"),
     "add Main": ("main", r"add `actor Main` with `new create\(env: Env\) => None`"),
     "the form of Main": ("main", r"write `actor Main` with `new create\(env: Env\) => \.\.`"),
 }
@@ -263,6 +267,7 @@ OTHER_NODES = {
     "a method": "the method METHOD",
     "a constructor": "the constructor METHOD",
     "a trait": "the trait ENTITY",
+    "an interface": "the interface ENTITY",
     "a name in a method": r"the name `NAME` in ENTITY\.NAME",
     "a name in an entity": "the name `NAME` in ENTITY",
     "Main": "the name `Main`",

@@ -7,12 +7,11 @@ import subprocess
 
 import pages
 
-RCAP = pages.TOP / "rcap"
 REFUSED = pages.TOP / "examples" / "refused"
 MORE = REFUSED / "more"
 
 # The folders, and how many sources each has. Those of the first are listed on the page; in the second are the other kinds.
-SOURCES = {REFUSED: 37, MORE: 132}
+SOURCES = {REFUSED: 37, MORE: 138}
 PAGE = "docs/explaining.md"
 
 # What the launcher says before the program's own line.
@@ -71,9 +70,9 @@ def explanations(results):
     return [it for folder, count in SOURCES.items() for it in explanations_in(folder, count, results)]
 
 
-def answer(command, source):
+def answer(program, command, source):
     """What the program answers in the source's folder: the status, the output and the line on standard error."""
-    words = [RCAP, command, source.name]
+    words = [program, command, source.name]
     ended = subprocess.run(words, cwd=source.parent, stdin=subprocess.DEVNULL, capture_output=True, timeout=SECONDS, check=False)
     return ended.returncode, ended.stdout, LAUNCHER_LINE.sub(b"", ended.stderr)
 
@@ -86,11 +85,11 @@ def look_at_page(explanations, results):
     results.check(listed == found, f"{PAGE} lists the sources", sorted(set(listed) ^ set(found)))
 
 
-def look(explanations, results):
+def look(program, explanations, results):
     """Compares the program's answers with the explanations."""
     look_at_page(explanations, results)
     for it in explanations:
-        explained = answer("explain", it.source)
+        explained = answer(program, "explain", it.source)
         results.check(explained == (0, it.text, b""), f"explain {it.name()}", explained)
-        checked = answer("check", it.source)
+        checked = answer(program, "check", it.source)
         results.check(checked == (it.status(), b"", it.head()), f"check {it.name()}", checked)

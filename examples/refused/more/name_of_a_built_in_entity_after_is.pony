@@ -1,0 +1,3 @@
+class C is Env
+actor Main
+  new create(env: Env) => None
