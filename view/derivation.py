@@ -130,7 +130,7 @@ def page(path):
     places = empty()
     if checked.status == program.NO_DERIVATION:
         places = texts.places(program.must("places", path))
-    refused = refusal.data(path, source, checked, places)
+    refused = refusal.data(path, source, checked)
     if refused["place"] is None and checked.status == program.LIMIT_PASSED:
         source = Source(b"")
     return f"Derivation of {name}", data(name, source, None, places, refused)

@@ -10,7 +10,6 @@ TOP = pathlib.Path(__file__).resolve().parent.parent
 # Statuses of the program (docs/commands.md).
 DONE = 0
 NO_DERIVATION = 1
-NO_COMMAND = 2
 BAD_TREE = 3
 BAD_NAMES = 4
 LIMIT_PASSED = 8

@@ -271,7 +271,7 @@ testItself(() => {
     looked++;
   }
   if (data.refusal) {
-    if (!document.querySelector(".card")) fail("there is no card");
+    if (document.querySelector(".card")?.children.length !== 1 + data.refusal.lines.length) fail("the card has other lines");
     if (data.refusal.place && text && !source.querySelector(".wrong")) fail("the place is not marked");
     looked++;
   }

@@ -59,9 +59,9 @@ class Refused(unittest.TestCase):
 
     def edit(self, name, old, new):
         file = self.folder / name
-        text = file.read_text()
-        self.assertEqual(text.count(old), 1)
-        file.write_text(text.replace(old, new))
+        data = file.read_bytes()
+        self.assertEqual(data.count(old.encode()), 1)
+        file.write_bytes(data.replace(old.encode(), new.encode()))
 
     def test_a_line_of_a_derivation(self):
         self.edit("cell.check", "n put 1 val 7 0 7 0", "n put 1 val 7 0 7")
@@ -125,6 +125,18 @@ class Refused(unittest.TestCase):
         self.edit("alias.check.refused", "4:34", "4:33")
         self.refused("alias.pony: explain and check name different faults", "derivation", "alias.pony")
 
+    def test_a_refusal_without_an_explanation(self):
+        (self.folder / "alias.explain.refused").write_text("11\nalias.pony: out of memory\n")
+        self.refused("alias.pony: out of memory", "derivation", "alias.pony")
+
+    def test_a_line_of_an_explanation(self):
+        self.edit("alias.explain", "part: the value", "part the value")
+        self.refused("explain:5: bad line", "derivation", "alias.pony")
+
+    def test_carets_that_are_none(self):
+        self.edit("alias.explain", "^^^^^^^^^^^^^^^^", "~~~~~~~~~~~~~~~~")
+        self.refused("explain:3: bad line", "derivation", "alias.pony")
+
     def test_a_refused_source_has_no_run_and_no_sends(self):
         for command in ("events", "sends"):
             shutil.copy(self.folder / "alias.check.refused", self.folder / f"alias.{command}.refused")
@@ -161,18 +173,6 @@ class OddPages(unittest.TestCase):
         status, out, err = pages.make(*words, stand_in=pages.STAND_IN, folder=self.folder)
         self.assertEqual((status, err), (0, ""))
         return out
-
-    def test_a_refusal_without_an_explanation_has_its_line_and_its_one_node(self):
-        (self.folder / "alias.explain").unlink()
-        found = pages.data_of(self.made("derivation", "alias.pony"))
-        self.assertEqual(found["refusal"], {"head": "alias.pony:4:34: no rule", "place": [77, 93], "lines": []})
-
-    def test_a_refusal_at_which_two_nodes_begin_has_its_word(self):
-        (self.folder / "alias.explain").unlink()
-        file = self.folder / "alias.places"
-        file.write_text(file.read_text().replace("n local:2 2 0 93 94", "n local:2 2 0 78 79"))
-        found = pages.data_of(self.made("derivation", "alias.pony"))
-        self.assertEqual(found["refusal"]["place"], [77, 80])
 
     def test_a_fault_of_the_tree_has_no_nodes(self):
         (self.folder / "alias.check.refused").write_text("3\nalias.pony:4:11: bad byte\n")

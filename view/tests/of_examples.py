@@ -17,6 +17,10 @@ NAMES = {"http://www.w3.org/2000/svg", "http://www.w3.org/1999/xhtml"}
 # Runs of examples that have no schedule are those of this seed.
 SEED = "1"
 
+# Statuses of `check` at which `explain` says why, and the line of an explanation after the source's line and its carets.
+EXPLAINED = (1, 4)
+WINDOW = 3
+
 # Fewer pages than this are a mistake: 8 accepted examples with three pages each, and 22 refused ones.
 LEAST_PAGES = 46
 
@@ -114,6 +118,22 @@ class Derivations(unittest.TestCase):
             with self.subTest(words[1]):
                 self.assertEqual((before.count("\n") + 1, len(before) - before.rfind("\n")), (line, column))
                 self.assertGreater(place[1], place[0])
+
+    def test_each_explanation_is_that_of_the_program(self):
+        looked = 0
+        for words, data in each("derivation"):
+            if pages.ask("check", words[1])[0] not in EXPLAINED:
+                continue
+            lines = pages.ask("explain", words[1])[1].splitlines()
+            with self.subTest(words[1]):
+                self.assertEqual(explanation_of(data), [lines[0], *lines[WINDOW if data["refusal"]["place"] else 1 :]])
+                looked += 1
+        self.assertGreater(looked, 40)
+
+
+def explanation_of(data):
+    """The lines of an explanation that a page's data says: all but the source's line and its carets."""
+    return [data["refusal"]["head"], *(f"{word}: {words}" for word, words in data["refusal"]["lines"])]
 
 
 def derivation_of(data):
