@@ -16,7 +16,7 @@ class Results:
             self.failed += 1
             print(f"failed: {what}: {otherwise}", flush=True)
 
-    def close(self, more=""):
-        """Writes the closing line, with what is said after it, and returns the status."""
-        print(f"{self.passed} passed, {self.failed} failed{more}")
+    def close(self):
+        """Writes the closing line, and returns the status."""
+        print(f"{self.passed} passed, {self.failed} failed")
         return 1 if self.failed else 0

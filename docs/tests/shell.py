@@ -87,9 +87,8 @@ def is_like(wanted, found):
     return bool(found) and wanted[0] == found[0] and is_like(wanted[1:], found[1:])
 
 
-def run_said(folder, said):
-    """Runs a command of a page, and returns what differs from what the page says, or nothing."""
-    status, output, error = folder.run(said.command)
+def differs(said, status, output, error):
+    """What differs from what a page says of a command, or nothing."""
     if status != said.status:
         return f"status {status} and not {said.status}: {error}"
     if said.error is not None and error != said.error:
@@ -97,3 +96,8 @@ def run_said(folder, said):
     if said.output is not None and not is_like(said.output, output.splitlines()):
         return f"writes {output[:400]}"
     return None
+
+
+def run_said(folder, said):
+    """Runs a command of a page, and returns what differs from what the page says, or nothing."""
+    return differs(said, *folder.run(said.command))

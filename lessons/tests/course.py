@@ -13,26 +13,20 @@ from shell import Folder
 
 LESSONS = pages.TOP / "lessons"
 
-# Commands that a lesson may show before the program has them: words that are answered with status 2 as long as it has not.
-LATER = {
-    "explain": "explain hello.pony",
-    "schedule": "schedule hello.pony 0",
-    "play": "play hello.pony 0",
-    "outcomes": "outcomes hello.pony 1",
-}
-
-STATUS_NO_COMMAND = 2
-FIRST = "01-a-program-that-prints"
-COMMAND = re.compile(r"\./rcap (\w+) ")
-
 
 @dataclasses.dataclass
 class Lesson:
-    """A lesson: its name, its page, and the folder in which its commands run."""
+    """A lesson: its name, its page, the folder in which its commands run, and the explanations that the program has written
+    in it in this run, by the program that they are of."""
 
     name: str
     page: pages.Page
     folder: Folder
+    written: dict = dataclasses.field(default_factory=dict)
+
+    def number(self):
+        """Its place in the course."""
+        return int(self.name[:2])
 
     def source(self, name):
         """A file as it is in the repository."""
@@ -50,9 +44,6 @@ class Copy:
         self.home = home
         self.course_page = page_of("README.md")
         self.set_up = self.make()
-        first = self.folder(FIRST)
-        self.missing = {word for word, words in LATER.items() if first.run(f"./rcap {words}")[0] == STATUS_NO_COMMAND}
-        self.not_looked_at = 0
 
     def make(self):
         """Copies the course by the commands of its page, and returns what went wrong."""
@@ -68,14 +59,6 @@ class Copy:
         """The lessons in order."""
         names = sorted(it.name for it in LESSONS.iterdir() if re.match(r"\d\d-", it.name))
         return [Lesson(name, page_of(f"{name}/README.md"), self.folder(name)) for name in names]
-
-    def is_looked_at(self, command):
-        """Whether the program has a command of this line; if not, it is counted."""
-        word = COMMAND.search(command)
-        if word and word[1] in self.missing:
-            self.not_looked_at += 1
-            return False
-        return True
 
 
 def page_of(name):

@@ -4,7 +4,7 @@ import difflib
 import re
 
 import pages
-from shell import run_said, said_of, session
+from shell import differs, said_of, session
 
 LINES = 80
 SECTIONS = ["Why it must be so", "What it rules out", "Try", "Exercises"]
@@ -12,7 +12,7 @@ SECTIONS = ["Why it must be so", "What it rules out", "Try", "Exercises"]
 # The lesson on the theorem has sections of its own before the last two.
 LAST = "20-what-is-guaranteed"
 NEIGHBOURS = range(1, 4)
-EXERCISES = (1, 2)
+EXERCISES = range(2, 4)
 
 SHOWN = re.compile(r"(?:whole|lines (\d+) to (\d+)) of (\S+)")
 CHECKED = re.compile(r"\./rcap check (\w+\.pony)\b")
@@ -20,6 +20,7 @@ EXPLAINED = re.compile(r"\./rcap explain (\w+\.pony)$")
 PLACE = re.compile(r"(\w+\.pony):(\d+):(\d+): ")
 WINDOW = re.compile(r"(\d+) \| (.*)")
 EXERCISE = re.compile(r"(mend|solved)_\d\.pony")
+NUMBERED = re.compile(r"(\d+)\. ")
 
 
 def shown_lines(lesson, said):
@@ -36,7 +37,17 @@ def commands_of(block):
     return [said_of(line) for line in block.lines if line]
 
 
-def run_page(lesson, copy, results):
+def run(lesson, said):
+    """Runs a command in the folder of a lesson, notes the explanation that it writes, if it writes one, and returns what
+    differs from what is said of it, or nothing."""
+    status, output, error = lesson.folder.run(said.command)
+    name = EXPLAINED.search(said.command)
+    if name:
+        lesson.written[name[1]] = output.splitlines()
+    return differs(said, status, output, error)
+
+
+def run_page(lesson, results):
     """Compares what the page shows with the files, and runs its commands from the first to the last."""
     for block in pages.blocks(lesson.page):
         where = f"{lesson.page.name}:{block.line}"
@@ -44,9 +55,8 @@ def run_page(lesson, copy, results):
             results.check(block.lines == shown_lines(lesson, block.said), f"{where}: {block.said}", "the file is another")
             continue
         for said in commands_of(block):
-            if copy.is_looked_at(said.command):
-                wrong = run_said(lesson.folder, said)
-                results.check(wrong is None, f"{where}: {said.command}", wrong)
+            wrong = run(lesson, said)
+            results.check(wrong is None, f"{where}: {said.command}", wrong)
 
 
 def said_on(page):
@@ -61,14 +71,6 @@ def explanations_on(page):
         name = EXPLAINED.search(said.command)
         if name:
             found[name[1]] = said.output
-    return found
-
-
-def explanations(lesson):
-    """All explanations of a lesson, by the program: those on its page, and those of its exercises."""
-    found = explanations_on(lesson.page)
-    for name in lesson.files("*.explained"):
-        found[name.replace(".explained", ".pony")] = lesson.source(name).splitlines()
     return found
 
 
@@ -109,30 +111,45 @@ def look_at_programs(lesson, results):
         results.check(is_right, f"{page}: {name}: the place is that of check", explanation[0])
 
 
-def look_at_exercise(lesson, number, copy, results):
-    """Looks at an exercise: its program is refused, as its explanation says, and its solution is accepted."""
+def exercises_of(lesson):
+    """The numbers of the exercises that the page asks for."""
+    start = lesson.page.lines.index("## Exercises") if "## Exercises" in lesson.page.lines else len(lesson.page.lines)
+    return [int(said[1]) for said in map(NUMBERED.match, lesson.page.lines[start:]) if said]
+
+
+def look_at_exercises(lesson, results):
+    """Looks at the exercises: the page asks for each that has a program."""
+    numbers, programs = exercises_of(lesson), lesson.files("mend_*.pony")
+    results.check(len(numbers) in EXERCISES, f"{lesson.page.name}: two exercises or three", numbers)
+    results.check(programs == [f"mend_{number}.pony" for number in numbers], f"{lesson.page.name}: asks for each exercise", programs)
+    for number in numbers:
+        look_at_exercise(lesson, number, results)
+
+
+def look_at_exercise(lesson, number, results):
+    """Looks at an exercise: its program is refused, as its explanation says byte for byte, and its solution is accepted."""
     name, where = f"mend_{number}.pony", f"{lesson.name}: exercise {number}"
-    explanation = lesson.source(f"mend_{number}.explained").splitlines()
+    text = lesson.source(f"mend_{number}.explained")
+    explanation = text.splitlines()
     status, _, error = lesson.folder.run(f"./rcap check {name}")
     results.check(status in (1, 4) and error == explanation[0], f"{where}: is refused", f"status {status}: {error}")
     results.check(line_is_that_of(lesson, name, explanation), f"{where}: the line that is explained", explanation[1])
     status, _, error = lesson.folder.run(f"./rcap check solved_{number}.pony")
     results.check(status == 0 and error == "", f"{where}: its solution is accepted", f"status {status}: {error}")
-    command = f"./rcap explain {name}"
-    if copy.is_looked_at(command):
-        _, output, error = lesson.folder.run(command)
-        results.check(output.splitlines() == explanation, f"{where}: its explanation", error or output)
+    status, output, error = lesson.folder.run(f"./rcap explain {name}")
+    results.check((status, output, error) == (0, text, ""), f"{where}: its explanation", f"status {status}: {error}{output}")
+    lesson.written[name] = output.splitlines()
 
 
-def look(lesson, copy, results):
+def look(lesson, results):
     """Looks at all of a lesson."""
     page = lesson.page
     results.check(len(page.lines) <= LINES, f"{page.name}: at most {LINES} lines", len(page.lines))
     missing = [title for title in SECTIONS if f"## {title}" not in page.lines]
     results.check(not missing or lesson.name == LAST and missing == SECTIONS[:2], f"{page.name}: has its sections", missing)
-    run_page(lesson, copy, results)
+    run_page(lesson, results)
     look_at_programs(lesson, results)
     for name, explanation in explanations_on(page).items():
         results.check(line_is_that_of(lesson, name, explanation), f"{page.name}: {name}: its line", explanation[:2])
-    for number in EXERCISES:
-        look_at_exercise(lesson, number, copy, results)
+        results.check(lesson.written.get(name) == explanation, f"{page.name}: {name}: its explanation", lesson.written.get(name))
+    look_at_exercises(lesson, results)

@@ -1,9 +1,8 @@
-"""The course as a whole: its page, the table of rules on it, and the card."""
+"""The course as a whole: its page, and the card."""
 
 import re
 import subprocess
 
-import coverage
 import forms
 import pages
 
@@ -26,16 +25,6 @@ def look_at_page(copy, results):
     forms.look([page], results)
 
 
-def look_at_rules(copy, results):
-    """Compares the table of rules with the explanations of the course."""
-    page = copy.course_page
-    rows = pages.table(page, "Rule", "Refuses in lesson")
-    listed = {row.cells["Rule"].strip("`"): row.cells["Refuses in lesson"] for row in rows}
-    met = {name: ", ".join(map(str, sorted(numbers))) for name, numbers in coverage.rules_met(copy.lessons()).items()}
-    wrong = {name: met.get(name) for name in listed.keys() | met.keys() if listed.get(name) != met.get(name)}
-    results.check(not wrong, f"{page.name}: where each rule is met", wrong)
-
-
 def look_at_card(results):
     """Compares the card with what its script writes."""
     ran = subprocess.run([pages.TOP / "lessons" / "card"], capture_output=True, check=False)
@@ -46,5 +35,4 @@ def look_at_card(results):
 def look(copy, results):
     """Looks at all of these."""
     look_at_page(copy, results)
-    look_at_rules(copy, results)
     look_at_card(results)
