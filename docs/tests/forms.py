@@ -144,7 +144,7 @@ def prose(page):
     lines = list(page.lines)
     for block in pages.blocks(page):
         for at, line in enumerate(block.lines, block.line - 1):
-            if session(block.lines) and not line.startswith(PROMPT):
+            if block.mark == "output" or session(block.lines) and not line.startswith(PROMPT):
                 lines[at] = ""
     return "\n".join(lines)
 
