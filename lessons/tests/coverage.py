@@ -15,10 +15,6 @@ NO_RULE = "no rule"
 HINTS_OF_RULES = "crates/pc_hints/src/hint.rt"
 VARIANT = re.compile(r"^    ([A-Z]\w*)[(,]", re.MULTILINE)
 
-# A hint that no source has: in a constructor that has not set all fields, a field of `this` is read by `getown` and written by
-# `putown`, which do not look at the form of `this`.
-NEVER = {"TagUntilSet"}
-
 
 @dataclasses.dataclass
 class Kind:
@@ -62,6 +58,7 @@ HINTS = {
     "it is a method: call it": Kind("CallMethod", r"`\w+` is a method: call it, `\w+\(\.\.\)`"),
     "it is a field": Kind("CallValue", r"`\w+` is a field; `\(e\.\w+\)\(\.\.\)` calls `apply` of its value"),
     "in a `recover` `this` is a tag": Kind("TagInRecover", r"in a recover `this` is seen as tag, since \w+ is not sendable"),
+    "until all fields are set `this` is a tag": Kind("TagUntilSet", r"until all fields are set `this` is a tag"),
     "set the field before this": Kind("SetBefore", r"set `\w+` before this"),
     "write `C.create(..)`": Kind("CallConstructor", r"write `\w+\.\w+\(\.\.\)`"),
     "make the argument in a `recover`": Kind("SendArgument", r"make the argument in a `recover`, or let the parameter be iso, val or tag"),
@@ -169,7 +166,7 @@ def look_at_refusals(lessons, results):
 def look_at_hints(lessons, course_page, results):
     """Looks for each kind of hint."""
     met, named = hints_met(lessons), [kind.name for kind in HINTS.values() if kind.name]
-    results.check(sorted(named) == sorted(hints_of_rules() - NEVER), "the kinds of hint are those of the code", set(named) ^ hints_of_rules())
+    results.check(sorted(named) == sorted(hints_of_rules()), "the kinds of hint are those of the code", set(named) ^ hints_of_rules())
     for name in HINTS:
         results.check(name in met, f"the hint {name!r} is given for a program of the course", "for none")
     results.check(met.keys() <= HINTS.keys(), "each hint is of one kind", sorted(met.keys() - HINTS.keys()))
