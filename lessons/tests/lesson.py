@@ -20,6 +20,8 @@ EXPLAINED = re.compile(r"\./rcap explain (\w+\.pony)$")
 PLACE = re.compile(r"(\w+\.pony):(\d+):(\d+): ")
 WINDOW = re.compile(r"(\d+) \| (.*)")
 EXERCISE = re.compile(r"(mend|solved)_\d\.pony")
+EXERCISE_FILES = [("mend", "pony"), ("mend", "explained"), ("solved", "pony")]
+EXERCISE_FILE = re.compile(r"(mend|solved)_\d+\.\w+")
 NUMBERED = re.compile(r"(\d+)\. ")
 
 
@@ -119,10 +121,12 @@ def exercises_of(lesson):
 
 def look_at_exercises(lesson, results):
     """Looks at the exercises: the page asks for each that has a program."""
-    numbers, programs = exercises_of(lesson), lesson.files("mend_*.pony")
+    numbers = exercises_of(lesson)
+    files = sorted(f"{name}_{number}.{ending}" for number in numbers for name, ending in EXERCISE_FILES)
+    found = [name for name in lesson.files("*") if EXERCISE_FILE.fullmatch(name)]
     results.check(len(numbers) in EXERCISES, f"{lesson.page.name}: two exercises or three", numbers)
-    results.check(programs == [f"mend_{number}.pony" for number in numbers], f"{lesson.page.name}: asks for each exercise", programs)
-    for number in numbers:
+    results.check(found == files, f"{lesson.page.name}: each exercise has its files", sorted(set(found) ^ set(files)))
+    for number in numbers if found == files else []:
         look_at_exercise(lesson, number, results)
 
 
