@@ -88,9 +88,10 @@ def many_lines(folder):
     return "derivation", "cell.pony"
 
 
-def unexplained(folder):
-    """A refusal without an explanation."""
-    (folder / "alias.explain").unlink()
+def tags_in_an_explanation(folder):
+    """A refusal whose explanation has tags."""
+    file = folder / "alias.explain"
+    file.write_bytes(file.read_bytes().replace(b"the value `a`", b"the value `</script><b>a`"))
     return "derivation", "alias.pony"
 
 
@@ -106,7 +107,7 @@ def too_long(folder):
     return "derivation", "alias.pony"
 
 
-ALL = [long_run, empty_run, ended_run, many_boxes, empty_table, control_bytes, long_line, many_lines, unexplained, no_tree, too_long]
+ALL = [long_run, empty_run, ended_run, many_boxes, empty_table, control_bytes, long_line, many_lines, tags_in_an_explanation, no_tree, too_long]
 
 
 def made(folder):
