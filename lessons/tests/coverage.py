@@ -1,9 +1,9 @@
 """What the whole course has to have, in the explanations that the program wrote in this run: each rule that can refuse, each
 text of a refusal, and each kind of hint; and that the tables of the course's page say where."""
 
-import dataclasses
 import re
 
+import kinds
 import pages
 
 RULE_LINE = re.compile(r"rules? ([\w, ]+): ")
@@ -11,70 +11,48 @@ HINT_LINE = "hint: "
 REFUSAL = re.compile(r"`SRC(?::L:C)?: ([^`]+)`")
 NO_RULE = "no rule"
 
-# The hints about conditions of rules, in the code.
-HINTS_OF_RULES = "crates/pc_hints/src/hint.rt"
-VARIANT = re.compile(r"^    ([A-Z]\w*)[(,]", re.MULTILINE)
-
-
-@dataclasses.dataclass
-class Kind:
-    """A kind of hint: its name in the code, if it is about a condition of a rule; what is the same in each of its kind; and
-    the rule after whose line it is, if other kinds have the same words."""
-
-    name: str | None
-    form: str
-    rule: str | None = None
-
-    def is_that_of(self, hint, rule):
-        """Whether a hint after the line of a rule is of this kind."""
-        return re.fullmatch(self.form, hint) is not None and self.rule in (None, rule)
-
-
-HAT = r"(iso|trn)\^"
-USED_UP = rf"it has the form {HAT}, and after it the name cannot be used"
-
-# The kinds of hint, by what the course's page calls them.
+# What the course's page calls each kind of hint of examples/tests/kinds.py.
 HINTS = {
-    "write `consume x`": Kind("Consume", rf"write `consume \w+`: {USED_UP}"),
-    "write `(consume x).m(..)`": Kind("ConsumeReceiver", rf"write `\(consume \w+\)\.\w+\(\.\.\)`: {USED_UP}"),
-    "an assignment gives the old value": Kind("OldValue", rf"an assignment gives the old value: `.* = \.\.` has the form {HAT}"),
-    "declare `fun ref m`": Kind("DeclareFunction", r"declare `fun (ref|val) \w+`: in a function without a capability `this` is box"),
-    "write `recover C end`": Kind("RecoverNew", r"write `recover .* end`, which has the form iso\^; or declare the constructor `new iso`"),
-    "make the object in a `recover`": Kind("RecoverObject", r"make the object in a `recover`: what a recover gives of a ref is iso\^"),
-    "a value goes to these": Kind("GoesTo", r"a value of \S+ goes to .*"),
-    "declare it `fun box m`": Kind("DeclareBox", r"where `\w+` writes nothing, declare it `fun box \w+`"),
-    "declare the result": Kind("DeclareResult", r"declare the result \w+ \w+"),
-    "`=` assigns, `==` compares": Kind("Compare", r"`=` assigns and gives the old value; `==` compares"),
-    "`string()` of it is a String": Kind("ToString", r"`string\(\)` of it is a String"),
-    "compare objects with `is`": Kind("CompareObjects", r"compare objects with `is` or `isnt`"),
-    "let C say `is T`": Kind("SayIs", r"let \w+ say `is \w+`"),
-    "use it before it is consumed": Kind("UseBefore", r"use it before it is consumed(, or assign to `\w+` again after that)?"),
-    "make inside the `recover` what it needs": Kind("MakeInside", r"make inside the recover what it needs, or hand it in as iso, val or tag"),
-    "let the `recover` give the value": Kind("GiveOut", r"let the recover give the value, and assign it outside"),
-    "copy the parameter to a `var`": Kind("CopyFirst", r"copy it to a `var` first"),
-    "declare the local `var`": Kind("DeclareSlot", r"declare it `var \w+`", "assign"),
-    "declare the field `var`": Kind("DeclareField", r"declare it `var \w+`", "put"),
-    "declare the field `var`, in a constructor": Kind("DeclareOwnField", r"declare it `var \w+`", "putown"),
-    "it is a method: call it": Kind("CallMethod", r"`\w+` is a method: call it, `\w+\(\.\.\)`"),
-    "it is a field": Kind("CallValue", r"`\w+` is a field; `\(e\.\w+\)\(\.\.\)` calls `apply` of its value"),
-    "in a `recover` `this` is a tag": Kind("TagInRecover", r"in a recover `this` is seen as tag, since \w+ is not sendable"),
-    "until all fields are set `this` is a tag": Kind("TagUntilSet", r"until all fields are set `this` is a tag"),
-    "set the field before this": Kind("SetBefore", r"set `\w+` before this"),
-    "write `C.create(..)`": Kind("CallConstructor", r"write `\w+\.\w+\(\.\.\)`"),
-    "make the argument in a `recover`": Kind("SendArgument", r"make the argument in a `recover`, or let the parameter be iso, val or tag"),
-    "consume it after the loop": Kind("ConsumeAfter", r"consume it after the loop(, or assign to `\w+` again in the body)?"),
-    "set it before the loop": Kind("SetBeforeLoop", r"set it before the loop"),
-    "write `recover val`": Kind("RecoverValue", r"write `recover val`, or let the body end with a ref, which is lifted to iso\^"),
-    "declare it C iso, C val or C tag": Kind(None, r"declare it \w+ iso, \w+ val or \w+ tag"),
-    "add the method": Kind(None, r"add `fun .* => \.\.`"),
-    "it is not a function": Kind(None, r"\w+\.\w+ is not a function"),
-    "give the field an initial value": Kind(None, r"give `\w+` an initial value, or set it on every path"),
-    "write `m(..)`": Kind(None, r"write `\w+\(\.\.\)`"),
-    "`f = ..` gives its old value": Kind(None, r"its old value is what `\w+ = \.\.` gives"),
-    "give one of the two another name": Kind(None, r"give one of the two another name"),
-    "take one `is` of the chain away": Kind(None, r"take one `is` of the chain away"),
-    "add `actor Main`": Kind(None, r"add `actor Main` with `new create\(env: Env\) => None`"),
-    "write `actor Main`": Kind(None, r"write `actor Main` with `new create\(env: Env\) => \.\.`"),
+    "write `consume x`": "Consume",
+    "write `(consume x).m(..)`": "ConsumeReceiver",
+    "an assignment gives the old value": "OldValue",
+    "declare `fun ref m`": "DeclareFunction",
+    "write `recover C end`": "RecoverNew",
+    "make the object in a `recover`": "RecoverObject",
+    "a value goes to these": "GoesTo",
+    "declare it `fun box m`": "DeclareBox",
+    "declare the result": "DeclareResult",
+    "`=` assigns, `==` compares": "Compare",
+    "`string()` of it is a String": "ToString",
+    "compare objects with `is`": "CompareObjects",
+    "let C say `is T`": "SayIs",
+    "use it before it is consumed": "UseBefore",
+    "make inside the `recover` what it needs": "MakeInside",
+    "let the `recover` give the value": "GiveOut",
+    "copy the parameter to a `var`": "CopyFirst",
+    "declare the local `var`": "DeclareSlot",
+    "declare the field `var`": "DeclareField",
+    "declare the field `var`, in a constructor": "DeclareOwnField",
+    "it is a method: call it": "CallMethod",
+    "it is a field": "CallValue",
+    "in a `recover` `this` is a tag": "TagInRecover",
+    "until all fields are set `this` is a tag": "TagUntilSet",
+    "set the field before this": "SetBefore",
+    "write `C.create(..)`": "CallConstructor",
+    "make the argument in a `recover`": "SendArgument",
+    "consume it after the loop": "ConsumeAfter",
+    "set it before the loop": "SetBeforeLoop",
+    "write `recover val`": "RecoverValue",
+    "declare it C iso, C val or C tag": "a sendable parameter",
+    "add the method": "add the method",
+    "it is not a function": "it is no function",
+    "give the field an initial value": "set the field",
+    "write `m(..)`": "call the method",
+    "`f = ..` gives its old value": "the old value",
+    "give one of the two another name": "another name",
+    "take one `is` of the chain away": "take an is away",
+    "add `actor Main`": "add Main",
+    "write `actor Main`": "the form of Main",
 }
 
 
@@ -92,12 +70,6 @@ def refusals():
     """The texts at the statuses 1 and 4, as the table of docs/commands.md lists them."""
     rows = pages.table(page("docs/commands.md"), "Status", "Meaning")
     return {text for row in rows if row.cells["Status"] in ("1", "4") for text in REFUSAL.findall(row.cells["Line on standard error"])}
-
-
-def hints_of_rules():
-    """The names of the hints about conditions of rules, as the code lists them."""
-    text = (pages.TOP / HINTS_OF_RULES).read_text()
-    return set(VARIANT.findall(text[text.index("pub enum Hint") :]))
 
 
 def hints_in(explanation):
@@ -121,14 +93,20 @@ def rules_met(lessons):
     return found
 
 
+def is_of_kind(kind, hint, rule):
+    """Whether a hint after the line of a rule is of a kind."""
+    wanted, form = kinds.OTHER_HINTS[kind] if kind in kinds.OTHER_HINTS else (kinds.HINT_RULES.get(kind), kinds.HINTS[kind])
+    return wanted in (None, rule) and kinds.is_of(form, hint)
+
+
 def hints_met(lessons):
     """The kinds of the hints that were given, each with the numbers of the lessons that have one; what is of no kind, or of two,
     has its own words."""
     found = {}
     for lesson in lessons:
-        for hint, rules in (it for explanation in lesson.written.values() for it in hints_in(explanation)):
-            kinds = [name for name, kind in HINTS.items() if kind.is_that_of(hint, rules)]
-            found.setdefault(kinds[0] if len(kinds) == 1 else hint, set()).add(lesson.number())
+        for hint, rule in (it for explanation in lesson.written.values() for it in hints_in(explanation)):
+            names = [name for name, kind in HINTS.items() if is_of_kind(kind, hint, rule)]
+            found.setdefault(names[0] if len(names) == 1 else hint, set()).add(lesson.number())
     return found
 
 
@@ -165,8 +143,8 @@ def look_at_refusals(lessons, results):
 
 def look_at_hints(lessons, course_page, results):
     """Looks for each kind of hint."""
-    met, named = hints_met(lessons), [kind.name for kind in HINTS.values() if kind.name]
-    results.check(sorted(named) == sorted(hints_of_rules()), "the kinds of hint are those of the code", set(named) ^ hints_of_rules())
+    met, known = hints_met(lessons), kinds.HINTS.keys() | kinds.OTHER_HINTS.keys()
+    results.check(known == set(HINTS.values()), "the kinds of hint are those of examples/tests", known ^ set(HINTS.values()))
     for name in HINTS:
         results.check(name in met, f"the hint {name!r} is given for a program of the course", "for none")
     results.check(met.keys() <= HINTS.keys(), "each hint is of one kind", sorted(met.keys() - HINTS.keys()))
