@@ -10,7 +10,7 @@ ghost use Rattle.pc_top.specs.CoreOf.{HasIsolatedCore, HasSafeCore, IsDerivable,
 ghost use Rattle.pc_top.specs.Exact.{IsDerivationOf};
 ghost use Rattle.pc_call.specs.Answers.{Answers, buffer};
 ghost use Rattle.pc_call.specs.Points.{PointsIntoBoth, PointsIntoSource};
-ghost use Rattle.pc_call.specs.Verdicts.{IsChecked, IsEventsOf, IsJudged, IsOutcomesOf, IsPlacesOf, IsPlayed, IsRunOf, IsScheduleOf, IsSendsOf, IsShown, IsSwapped, IsTraced, IsUpgraded, MayBeCount, MayBePlace};
+ghost use Rattle.pc_call.specs.Verdicts.{IsChecked, IsEventsOf, IsExplained, IsJudged, IsOutcomesOf, IsPlacesOf, IsPlayed, IsRunOf, IsScheduleOf, IsSendsOf, IsShown, IsSwapped, IsTraced, IsUpgraded, MayBeCount, MayBePlace};
 
 use pc_call::Answer;
 use std::alloc::Global;
@@ -250,4 +250,18 @@ pub extern "C" fn rcap_events(
     ensures isolated { IsAccepting result → HasIsolatedCore source.now }
 {
     pc_call::events(alloc, source, schedule, out, err, answer)
+}
+
+/// Explains why the source is refused with 1 or 4 by `check`, or says that it is accepted; what `check` refuses otherwise is refused.
+#[unsafe(no_mangle)]
+pub extern "C" fn rcap_explain(
+    alloc: Global,
+    source: &[u8],
+    out: &mut [u8],
+    err: &mut [u8],
+    answer: &mut Answer,
+) -> u8
+    ensures { Answers (IsExplained source.now) (PointsIntoSource source.now) result (buffer out.old out.new answer.new.out_length) (buffer err.old err.new answer.new.err_length) answer.new.place }
+{
+    pc_call::explain(alloc, source, out, err, answer)
 }

@@ -2,7 +2,7 @@
 use Rattle.std.proofs.Common.{◌≡◌, ℕ, List, [], Option, Some, None, inl, inr, refl, subst, arith}
 use Rattle.std.specs.Prelude.{◌⊎◌, Result, length}
 use Rattle.std.specs.Io.KnownBytes.{Appends}
-use Rattle.pc_args.specs.Asked.{Asked, check, command_of, events, judge, make, outcomes, places, play, run, schedule_of, sends, show, swap, trace, upgrade}
+use Rattle.pc_args.specs.Asked.{Asked, check, command_of, events, explain, judge, make, outcomes, places, play, run, schedule_of, sends, show, swap, trace, upgrade}
 use Rattle.pc_buffers.specs.Laying.{laid}
 use Rattle.pc_buffers.specs.Places.{no_place}
 use Rattle.pc_buffers.specs.declared.place.Place.{Place}
@@ -48,6 +48,7 @@ never_fails entries taken (Some (play source seed)) name (p, f) = never_at entri
 never_fails entries taken (Some (outcomes source count)) name (p, f) = never_at entries taken source name f
 never_fails entries taken (Some (places source)) name f = never_at entries taken source name f
 never_fails entries taken (Some (events source schedule)) name f = never_in_turn entries taken source schedule source_limit (AcceptedStage source) name f
+never_fails entries taken (Some (explain source)) name f = never_at entries taken source name f
 
 -- a count that stands did not rise
 never_rose : Rose 0 0 → ⊥

@@ -2,8 +2,8 @@
 use Rattle.std.proofs.Common.{◌≡◌, ◌<◌, ℕ, List, [], Option, Some, refl, subst, true}
 use Rattle.std.specs.Prelude.{◌^◌, codes, decimal, unwrap_or}
 use Rattle.std.specs.Borrow.{Bor}
-use Rattle.pc_args.specs.Asked.{Asked, check, command_of, events, judge, outcomes, places, play, run, schedule_of, sends, show, swap, trace, upgrade}
-use Rattle.pc_args.specs.Forms.{WrittenFormsAreTaken, check_words, events_words, is_plain, judge_words, outcomes_words, places_words, play_words, run_words, schedule_words, sends_words, show_words, swap_words, trace_words, upgrade_words}
+use Rattle.pc_args.specs.Asked.{Asked, check, command_of, events, explain, judge, outcomes, places, play, run, schedule_of, sends, show, swap, trace, upgrade}
+use Rattle.pc_args.specs.Forms.{WrittenFormsAreTaken, check_words, events_words, explain_words, is_plain, judge_words, outcomes_words, places_words, play_words, run_words, schedule_words, sends_words, show_words, swap_words, trace_words, upgrade_words}
 use Rattle.pc_args.specs.Numbers.{IsSeed}
 use Rattle.pc_deriv.specs.Text.{deriv_text}
 use Rattle.pc_deriv.specs.declared.version.Version.TheVariants as version
@@ -17,6 +17,7 @@ use Rattle.pc_refusals.specs.Verdict.{EndsWith, Verdict}
 use Rattle.pc_top.specs.Commands.{IsVerdictOf}
 use Rattle.pc_top.specs.Commands.Check.{Derived, IsCheck}
 use Rattle.pc_top.specs.Commands.Events.{IsEvents, Telling}
+use Rattle.pc_top.specs.Commands.Explain.{Explained, ExplainedStage, IsExplain}
 use Rattle.pc_top.specs.Commands.Judge.{IsJudge, accepted_text}
 use Rattle.pc_top.specs.Commands.Outcomes.{IsCount, IsOutcomes, Tabled}
 use Rattle.pc_top.specs.Commands.Places.{IsPlaces, Placed}
@@ -29,7 +30,7 @@ use Rattle.pc_top.specs.Commands.Swap.{IsSwap}
 use Rattle.pc_top.specs.Commands.Trace.{IsTrace, Tracing}
 use Rattle.pc_top.specs.Commands.Upgrade.{IsUpgrade}
 use Rattle.pc_call.specs.Inner.Shelves.{HoldsBeside, IsVerdictOn, shelf}
-use Rattle.pc_call.specs.Verdicts.{IsChecked, IsEventsOf, IsJudged, IsOutcomesOf, IsPlacesOf, IsPlayed, IsRunOf, IsScheduleOf, IsSendsOf, IsShown, IsSwapped, IsTraced, IsUpgraded, schedule_file, source_file}
+use Rattle.pc_call.specs.Verdicts.{IsChecked, IsEventsOf, IsExplained, IsJudged, IsOutcomesOf, IsPlacesOf, IsPlayed, IsRunOf, IsScheduleOf, IsSendsOf, IsShown, IsSwapped, IsTraced, IsUpgraded, schedule_file, source_file}
 use Rattle.pc_call.specs.declared.beside.Beside.{Beside}
 use Rattle.pc_call.specs.declared.beside.Beside.TheVariants.{Nothing, Derivation, Schedule}
 use Rattle.pc_call.proofs.Exactly.{plain}
@@ -76,6 +77,9 @@ module _ (forms : WrittenFormsAreTaken) (source : Text) where
   pub places_asks : command_of (places_words (codes "source")) ≡ Some (places (codes "source"))
   places_asks = (forms.placings (codes "source") refl).1
 
+  pub explain_asks : command_of (explain_words (codes "source")) ≡ Some (explain (codes "source"))
+  explain_asks = (forms.explanations (codes "source") refl).1
+
   pub checked : (v : Verdict) → IsVerdictOn source Nothing (check_words (codes "source")) v → IsChecked source v
   checked v h =
       let t = alone IsCheck (check (codes "source")) (check_words (codes "source")) source check_asks (λ files w k. k) v h in
@@ -95,6 +99,11 @@ module _ (forms : WrittenFormsAreTaken) (source : Text) where
   sent v h =
       let t = alone IsSends (sends (codes "source")) (sends_words (codes "source")) source sends_asks (λ files w k. k) v h in
       source_as (AcceptedStage (codes "source")) Sent source t.0 v t.1
+
+  pub explained : (v : Verdict) → IsVerdictOn source Nothing (explain_words (codes "source")) v → IsExplained source v
+  explained v h =
+      let t = alone IsExplain (explain (codes "source")) (explain_words (codes "source")) source explain_asks (λ files w k. k) v h in
+      source_as (ExplainedStage (codes "source")) Explained source t.0 v t.1
 
   -- ---- a source and a derivation
 

@@ -15,7 +15,7 @@ use Rattle.pc_lists.specs.Texts.{Text}
 use Rattle.pc_refusals.specs.Verdict.{Verdict}
 use Rattle.pc_top.specs.Asked.{OfFile, OfSource}
 use Rattle.pc_top.specs.Commands.{HasNumber, infers, source_of}
-use Rattle.pc_top.specs.Commands.Outcomes.{IsCount}
+use Rattle.pc_top.specs.Commands.Outcomes.{IsCount, seeds_limit}
 use Rattle.pc_top.specs.Commands.Swap.{IsPlace}
 use Rattle.pc_top.specs.CoreOf.{IsDerivable, IsUnderivable}
 use Rattle.pc_top.specs.Exact.{IsDerivationOf, JudgedAreExact, ReadsBoth, ReadsSource, StatusesAreExact}
@@ -105,7 +105,7 @@ seed_number n text is fits =
     let numeral = decimal_is_IsNumeral n fits in
     (n, subst (λ (q : Text). IsSeed q n) (sym is) ((length-decimal-le 20 n (omega arith) few fits, numeral.0, sym numeral.1), fits))
 
-pub count_number : (n : ℕ) (text : Text) → text ≡ decimal n → 1 ≤ n → n ≤ 10000 → (m : ℕ) × IsCount text m
+pub count_number : (n : ℕ) (text : Text) → text ≡ decimal n → 1 ≤ n → n ≤ seeds_limit → (m : ℕ) × IsCount text m
 count_number n text is one most =
     let few : n < 10 ^ 5 = omega (arith, most) in
     let fits : n < 2 ^ 64 = omega (arith, most) in

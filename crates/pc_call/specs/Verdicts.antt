@@ -5,8 +5,9 @@ use Rattle.pc_refusals.specs.Named.{Named, text_as}
 use Rattle.pc_refusals.specs.Verdict.{Verdict}
 use Rattle.pc_top.specs.Commands.Check.{IsCheck}
 use Rattle.pc_top.specs.Commands.Events.{IsEvents}
+use Rattle.pc_top.specs.Commands.Explain.{IsExplain}
 use Rattle.pc_top.specs.Commands.Judge.{IsJudge}
-use Rattle.pc_top.specs.Commands.Outcomes.{IsOutcomes}
+use Rattle.pc_top.specs.Commands.Outcomes.{IsOutcomes, seeds_limit}
 use Rattle.pc_top.specs.Commands.Places.{IsPlaces}
 use Rattle.pc_top.specs.Commands.Play.{IsPlay}
 use Rattle.pc_top.specs.Commands.Run.{IsRun}
@@ -39,6 +40,9 @@ IsPlacesOf source = IsPlaces (source_file source)
 
 abbrev pub IsSendsOf : Text → Verdict → Type 0
 IsSendsOf source = IsSends (source_file source)
+
+abbrev pub IsExplained : Text → Verdict → Type 0
+IsExplained source = IsExplain (source_file source)
 
 -- ---- of a source and a derivation
 
@@ -77,7 +81,7 @@ IsPlayed source seed = IsPlay (source_file source) (decimal seed)
 
 -- What may be a count of seeds: others are refused with 2.
 abbrev pub MayBeCount : ℕ → Type 0
-MayBeCount count = (1 ≤ count) × (count ≤ 10000)
+MayBeCount count = (1 ≤ count) × (count ≤ seeds_limit)
 
 abbrev pub IsOutcomesOf : Text → (count : ℕ) → Verdict → Type 0
 IsOutcomesOf source count = IsOutcomes (source_file source) (decimal count)

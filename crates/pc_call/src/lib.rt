@@ -21,4 +21,4 @@ pub use answer::Answer;
 pub use choices::{outcomes, play, schedule};
 pub use derivations::{judge, upgrade};
 pub use runs::{events, run, swap, trace};
-pub use sources::{check, places, sends, show};
+pub use sources::{check, explain, places, sends, show};

@@ -4,7 +4,7 @@ ghost use Rattle.pc_refusals.specs.Verdict.{IsAccepting};
 ghost use Rattle.pc_top.specs.CoreOf.{HasIsolatedCore, HasSafeCore, IsDerivable, IsUnderivable};
 ghost use Rattle.pc_call.specs.Answers.{Answers, buffer};
 ghost use Rattle.pc_call.specs.Points.{PointsIntoSource};
-ghost use Rattle.pc_call.specs.Verdicts.{IsChecked, IsPlacesOf, IsSendsOf, IsShown};
+ghost use Rattle.pc_call.specs.Verdicts.{IsChecked, IsExplained, IsPlacesOf, IsSendsOf, IsShown};
 
 use crate::Answer;
 use crate::asking::ask;
@@ -96,6 +96,28 @@ pub fn sends(
     ask(
         alloc,
         &["sends", "source"],
+        source,
+        Beside::Nothing,
+        out,
+        err,
+        answer,
+    )
+}
+
+/// Explains why the source is refused with 1 or 4 by `check`, or says that it is accepted; what `check` refuses otherwise is refused.
+pub fn explain(
+    alloc: Global,
+    source: &[u8],
+    out: &mut [u8],
+    err: &mut [u8],
+    answer: &mut Answer,
+) -> u8
+    ensures { Answers (IsExplained source.now) (PointsIntoSource source.now) result (buffer out.old out.new answer.new.out_length) (buffer err.old err.new answer.new.err_length) answer.new.place }
+{
+    written_forms_are_taken();
+    ask(
+        alloc,
+        &["explain", "source"],
         source,
         Beside::Nothing,
         out,
