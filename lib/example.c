@@ -1,4 +1,4 @@
-/* Checks a file, and prints its derivation, or the place at which it is refused with its line of source.
+/* Checks a file, and prints its derivation, or the place at which it is refused and why.
  *
  *   example FILE */
 #include "rcap.h"
@@ -44,38 +44,65 @@ static void print_place(const struct text *source, const struct rcap_place *plac
     printf("%.*s\n%*s^\n", (int)(end - start), (const char *)source->bytes + start, (int)(place->column - 1), "");
 }
 
+/* A call of a source alone. */
+typedef unsigned char source_call(const unsigned char *source, size_t source_length, unsigned char *out, size_t out_capacity,
+                                  unsigned char *err, size_t err_capacity, struct rcap_answer *answer);
+
+/* What a call answers. A line that is longer than the room for it is cut. */
+struct reply {
+    unsigned char status;
+    struct text out;
+    unsigned char line[LINE_ROOM];
+    struct rcap_answer answer;
+};
+
+/* Makes a call with as much room as its text takes. A first call, without room, asks how much that is. */
+static struct reply ask(source_call *call, const struct text *source) {
+    struct reply reply;
+    unsigned char none[1];
+    reply.status = call(source->bytes, source->length, none, 0, reply.line, sizeof reply.line, &reply.answer);
+    size_t room = reply.answer.out_length;
+    reply.out.bytes = malloc(room + 1);
+    if (reply.out.bytes == NULL)
+        reply.status = RCAP_OUT_OF_MEMORY;
+    else if (room > 0)
+        reply.status = call(source->bytes, source->length, reply.out.bytes, room, reply.line, sizeof reply.line, &reply.answer);
+    reply.out.length = reply.answer.out_length;
+    return reply;
+}
+
+/* Prints the place at which a source is refused, and its explanation. Bad syntax and a limit have none: then the line of the refusal is
+ * printed, and the line of the source that has the place. */
+static void print_refusal(const char *name, const struct text *source, const struct reply *checked) {
+    const struct rcap_place *place = &checked->answer.place;
+    struct reply explained = ask(rcap_explain, source);
+    printf("%s: status %u, line %zu, column %zu, byte %zu\n", name, checked->status, place->line, place->column, place->offset);
+    if (explained.status == RCAP_DONE) {
+        fwrite(explained.out.bytes, 1, explained.out.length, stdout);
+    } else {
+        size_t length = checked->answer.err_length;
+        fwrite(checked->line, 1, length < LINE_ROOM ? length : LINE_ROOM, stdout);
+        if (place->text == RCAP_SOURCE)
+            print_place(source, place);
+    }
+    free(explained.out.bytes);
+}
+
 int main(int count, char **words) {
     struct text source;
-    struct rcap_answer answer;
-    unsigned char line[LINE_ROOM];
     if (count != 2 || !read_file(words[1], &source)) {
         fprintf(stderr, "example FILE\n");
         return 2;
     }
 
-    /* The first call asks how much room the derivation takes. */
-    unsigned char none[1];
-    unsigned char status = rcap_check(source.bytes, source.length, none, 0, line, sizeof line, &answer);
-    size_t room = answer.out_length;
-    unsigned char *derivation = malloc(room + 1);
-    if (derivation == NULL)
-        status = RCAP_OUT_OF_MEMORY;
-    else if (status == RCAP_DONE)
-        status = rcap_check(source.bytes, source.length, derivation, room, line, sizeof line, &answer);
-
-    if (status == RCAP_DONE) {
-        fwrite(derivation, 1, answer.out_length, stdout);
-    } else if (status == RCAP_OUT_OF_MEMORY) {
+    struct reply checked = ask(rcap_check, &source);
+    if (checked.status == RCAP_DONE)
+        fwrite(checked.out.bytes, 1, checked.out.length, stdout);
+    else if (checked.status == RCAP_OUT_OF_MEMORY)
         puts("out of memory");
-    } else {
-        size_t length = answer.err_length < sizeof line ? answer.err_length : sizeof line;
-        printf("%s: status %u, line %zu, column %zu, byte %zu\n", words[1], status, answer.place.line,
-               answer.place.column, answer.place.offset);
-        fwrite(line, 1, length, stdout);
-        if (answer.place.text == RCAP_SOURCE)
-            print_place(&source, &answer.place);
-    }
-    free(derivation);
+    else
+        print_refusal(words[1], &source, &checked);
+    free(checked.out.bytes);
     free(source.bytes);
-    return status;
+    return checked.status;
 }

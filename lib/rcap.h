@@ -165,6 +165,14 @@ unsigned char rcap_events(const unsigned char *source, size_t source_length,
                           unsigned char *err, size_t err_capacity,
                           struct rcap_answer *answer);
 
+/* Explains why the source is refused with RCAP_NO_DERIVATION or RCAP_BAD_NAMES: writes the line of the refusal, the piece of the source at
+ * which it points, and the rule that refuses it. If the source is accepted, writes `accepted` and a line end. Both are RCAP_DONE, so the
+ * status says nothing of the source. What rcap_check refuses otherwise is refused as there. */
+unsigned char rcap_explain(const unsigned char *source, size_t source_length,
+                           unsigned char *out, size_t out_capacity,
+                           unsigned char *err, size_t err_capacity,
+                           struct rcap_answer *answer);
+
 #ifdef __cplusplus
 }
 #endif

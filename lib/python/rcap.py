@@ -4,7 +4,7 @@
     library = rcap.Library("out/lib/librcap.so")
     answer = library.check(source)
     if answer.status == rcap.NO_DERIVATION:
-        print(answer.place, answer.err.decode())
+        print(answer.place, library.explain(source).out.decode())
 
 Texts are bytes. A call is made once with room for a short text, and again if the text is longer. It takes up to a mebibyte of
 stack, and lets other threads of Python run meanwhile."""
@@ -104,6 +104,11 @@ class Library:
     def places(self, source):
         """Writes the entities, fields, methods, slots and nodes of the source's core, with their places in it."""
         return self._ask("rcap_places", source)
+
+    def explain(self, source):
+        """Explains why the source is refused with NO_DERIVATION or BAD_NAMES, or writes `accepted`. Both are DONE; what `check` refuses
+        otherwise is refused as there."""
+        return self._ask("rcap_explain", source)
 
     def events(self, source, schedule):
         """Checks the source, and writes each event of its run over the schedule, with its clock."""

@@ -55,7 +55,7 @@ static const struct {
     {"check", rcap_check, NULL, NULL},   {"show", rcap_show, NULL, NULL},       {"sends", rcap_sends, NULL, NULL},
     {"judge", NULL, rcap_judge, NULL},   {"upgrade", NULL, rcap_upgrade, NULL}, {"run", NULL, rcap_run, NULL},
     {"trace", NULL, rcap_trace, NULL},   {"schedule", NULL, NULL, rcap_schedule}, {"play", NULL, NULL, rcap_play},
-    {"places", rcap_places, NULL, NULL}, {"events", NULL, rcap_events, NULL},
+    {"places", rcap_places, NULL, NULL}, {"events", NULL, rcap_events, NULL},   {"explain", rcap_explain, NULL, NULL},
 };
 
 unsigned char call(const char *command, const struct texts *t, const struct buffers *b, struct rcap_answer *answer) {

@@ -12,7 +12,10 @@ import built
 # The names that the library has for its texts.
 SOURCE, DERIVATION, SCHEDULE = "source", "derivation", "schedule"
 
-OF_SOURCE = ("check", "show", "sends", "places")
+# The sources that are explained.
+EXPLAINED = built.TOP / "examples" / "refused"
+
+OF_SOURCE = ("check", "show", "sends", "places", "explain")
 OF_DERIVATION = ("judge", "upgrade")
 OF_SCHEDULE = ("run", "trace", "events")
 OF_SEED = ("schedule", "play")
@@ -98,8 +101,15 @@ def wanted(case):
 
 @functools.cache
 def sources():
-    """The sources of all examples, and more."""
-    return (*(it.read_bytes() for it in sorted((built.TOP / "examples").rglob("*.pony"))), *MORE_SOURCES)
+    """The sources of the examples but for those that are explained, and more."""
+    found = sorted(set((built.TOP / "examples").rglob("*.pony")) - set(EXPLAINED.rglob("*.pony")))
+    return (*(it.read_bytes() for it in found), *MORE_SOURCES)
+
+
+@functools.cache
+def explained_sources():
+    """The sources of the examples that are explained. Each is refused, whatever is beside it."""
+    return tuple(it.read_bytes() for it in sorted(EXPLAINED.rglob("*.pony")))
 
 
 def derivations(source):
@@ -125,6 +135,7 @@ def all_cases():
         found += [Case("swap", source, it, place) for it in schedules[:3] for place in PLACES]
         found += [Case(command, source, None, seed) for command in OF_SEED for seed in SEEDS]
         found += [Case("outcomes", source, None, count) for count in COUNTS]
+    found += [Case(command, source) for source in explained_sources() for command in OF_SOURCE]
     return tuple(dict.fromkeys(found))
 
 
@@ -148,6 +159,9 @@ def small_cases():
         Case("trace", readers, turns),
         Case("events", readers, turns),
         Case("places", bank),
+        Case("explain", first),
+        Case("explain", refused),
+        Case("explain", (EXPLAINED / "34_unknown.pony").read_bytes()),
         Case("swap", readers, turns, 88),
         Case("schedule", readers, None, 7),
         Case("play", readers, None, 7),

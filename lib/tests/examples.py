@@ -27,11 +27,15 @@ n define - 3 0 7 0
 n seq - 3 0 3 0
 n body - 3 0 3 0
 """
-REFUSAL = """b.pony: status 1, line 5, column 5, byte 70
-source:5:5: no rule
-    let b: C iso = a
-    ^
+EXPLANATION = """source:5:5: no rule
+5 |     let b: C iso = a
+  |     ^^^^^^^^^^^^^^^^
+node: the definition of `b`, C iso, in Main.create
+part: the value `a` is C iso
+rule define: the value has the form iso, an alias, and `b`, an iso, takes only iso^
+hint: write `consume a`: it has the form iso^, and after it the name cannot be used
 """
+REFUSAL = "b.pony: status 1, line 5, column 5, byte 70\n" + EXPLANATION
 
 ACCEPTED_LINE = f"a.pony: accepted, with a derivation of {len(DERIVATION)} bytes\n"
 

@@ -151,6 +151,12 @@ pub fn places(source: &[u8]) -> Answer {
     ask_source(calls::rcap_places, source)
 }
 
+/// Explains why the source is refused with `NoDerivation` or `BadNames`, or writes `accepted`. Both are `Done`; what `check` refuses
+/// otherwise is refused as there.
+pub fn explain(source: &[u8]) -> Answer {
+    ask_source(calls::rcap_explain, source)
+}
+
 /// Checks the source, and writes each event of its run over the schedule, with its clock.
 pub fn events(source: &[u8], schedule: &[u8]) -> Answer {
     ask_both(calls::rcap_events, source, schedule)
@@ -413,6 +419,15 @@ mod calls {
             err_capacity: usize,
             answer: *mut Answer,
         ) -> u8;
+        pub fn rcap_explain(
+            source: *const u8,
+            source_length: usize,
+            out: *mut u8,
+            out_capacity: usize,
+            err: *mut u8,
+            err_capacity: usize,
+            answer: *mut Answer,
+        ) -> u8;
         pub fn rcap_events(
             source: *const u8,
             source_length: usize,
@@ -458,6 +473,34 @@ mod tests {
                 offset: 70
             })
         );
+    }
+
+    #[test]
+    fn a_refusal_is_explained() {
+        let explained = explain(REFUSED);
+        assert_eq!((explained.status, explained.place), (Status::Done, None));
+        assert_eq!(
+            String::from_utf8_lossy(&explained.out),
+            "source:5:5: no rule\n\
+             5 |     let b: C iso = a\n  |     ^^^^^^^^^^^^^^^^\n\
+             node: the definition of `b`, C iso, in Main.create\n\
+             part: the value `a` is C iso\n\
+             rule define: the value has the form iso, an alias, and `b`, an iso, takes only iso^\n\
+             hint: write `consume a`: it has the form iso^, and after it the name cannot be used\n"
+        );
+    }
+
+    #[test]
+    fn an_accepted_source_has_no_explanation() {
+        let accepted = explain(ACCEPTED);
+        assert_eq!((accepted.status, accepted.out), (Status::Done, b"accepted\n".to_vec()));
+    }
+
+    #[test]
+    fn bad_syntax_is_refused_and_not_explained() {
+        let refused = explain(b"");
+        assert_eq!((refused.status, refused.out.len()), (Status::BadSyntax, 0));
+        assert_eq!(refused.to_string(), "source:1:1: unexpected");
     }
 
     #[test]
