@@ -1,3 +1,4 @@
+pub mod Holding
 pub mod Numbers
 pub mod Options
 pub mod Walk

@@ -8,11 +8,12 @@ ghost use Rattle.std.specs.Prelude.{◌≡◌, ◌≢◌, ◌↔◌};
 ghost use Rattle.pc_refusals.specs.Verdict.{IsAccepting};
 ghost use Rattle.pc_top.specs.CoreOf.{HasIsolatedCore, HasSafeCore, IsDerivable, IsUnderivable};
 ghost use Rattle.pc_top.specs.Exact.{IsDerivationOf};
-ghost use Rattle.pc_call.specs.Answers.{Answers, buffer};
-ghost use Rattle.pc_call.specs.Points.{PointsIntoBoth, PointsIntoSource};
+ghost use Rattle.pc_buffers.specs.Laying.{buffer};
+ghost use Rattle.pc_buffers.specs.Points.{PointsIntoBoth, PointsIntoSource};
+ghost use Rattle.pc_call.specs.Answers.{Answers};
 ghost use Rattle.pc_call.specs.Verdicts.{IsChecked, IsEventsOf, IsExplained, IsJudged, IsOutcomesOf, IsPlacesOf, IsPlayed, IsRunOf, IsScheduleOf, IsSendsOf, IsShown, IsSwapped, IsTraced, IsUpgraded, MayBeCount, MayBePlace};
 
-use pc_call::Answer;
+use pc_buffers::Answer;
 use std::alloc::Global;
 
 /// Looks for a derivation of the source, and writes it.

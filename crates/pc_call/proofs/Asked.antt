@@ -1,10 +1,14 @@
 -- From the answer of `rcap` over files in memory to that of a call.
-use Rattle.std.proofs.Common.{◌≡◌, ℕ, List, [], Option, Some, None, inl, inr, refl, subst, arith}
-use Rattle.std.specs.Prelude.{◌⊎◌, Result, length}
+use Rattle.std.proofs.Common.{◌≡◌, ◌∙◌, ℕ, Bool, true, false, List, [], Option, Some, None, inl, inr, refl, sym, ap, subst, true≢false, arith}
+use Rattle.std.specs.Prelude.{◌≢◌, ◌⊎◌, ◌==◌, Result}
+use Rattle.std.proofs.lemmas.Bool.{eqb-true}
 use Rattle.std.specs.Io.KnownBytes.{Appends}
 use Rattle.pc_args.specs.Asked.{Asked, check, command_of, events, explain, judge, make, outcomes, places, play, run, schedule_of, sends, show, swap, trace, upgrade}
-use Rattle.pc_buffers.specs.Laying.{laid}
+use Rattle.pc_buffers.specs.Holding.{HoldsTexts}
+use Rattle.pc_buffers.specs.Laying.{Buffer, Holds, IsUntouched, buffer}
 use Rattle.pc_buffers.specs.Places.{no_place}
+use Rattle.pc_buffers.specs.Points.{Pointing, Points}
+use Rattle.pc_buffers.specs.declared.beside.Beside.{Beside}
 use Rattle.pc_buffers.specs.declared.place.Place.{Place}
 use Rattle.pc_io.specs.Change.{change}
 use Rattle.pc_io.specs.Sink.{Rose}
@@ -18,10 +22,8 @@ use Rattle.pc_refusals.specs.Source.{SourceStage, source_limit}
 use Rattle.pc_refusals.specs.Verdict.{IsAccepting, Verdict}
 use Rattle.pc_top.specs.Asked.{FailedIn, IsVerdict}
 use Rattle.pc_top.specs.Commands.{FailedOf}
-use Rattle.pc_call.specs.Answers.{Answers, Buffer, Holds, buffer, no_memory, verdict}
-use Rattle.pc_call.specs.Inner.Shelves.{HoldsTexts, IsVerdictOn, shelf}
-use Rattle.pc_call.specs.Points.{Pointing, Points}
-use Rattle.pc_call.specs.declared.beside.Beside.{Beside}
+use Rattle.pc_call.specs.Answers.{Answers, no_memory, verdict}
+use Rattle.pc_call.specs.Inner.Shelves.{IsVerdictOn, shelf}
 
 -- no reading of a shelf fails
 never_at : (entries : List Entry) (taken : ℕ) (n name : Text) → FailedAt (named (shelf entries taken) n) name → ⊥
@@ -62,19 +64,32 @@ module _ (entries : List Entry) (taken : ℕ) (source : Text) (beside : Beside) 
   whole other l m p (inr h) =
       verdict h.0 (entries, holds, taken, h.1) h.2 (subst (Holds a) h.3 l) (subst (Holds b) h.4 m) (subst (λ (t : Text). Points source beside t place) h.4 p)
 
-  -- The sinks were empty, nothing failed, and memory did not run out.
+  -- What is handed over of a status.
+  by_status : (is_memory : Bool) → (status == 11) ≡ is_memory → (status ≢ 11 → Holds a out × Holds b err × Points source beside err place)
+      → (status ≡ 11 → IsUntouched a × IsUntouched b × (place ≡ no_place))
+      → ((status ≡ 11) ⊎ ((v : Verdict) × IsVerdict (shelf entries taken) words v × (status ≡ v.status) × Appends (Some []) (Some out) v.out × Appends (Some []) (Some err) v.err))
+      → Answers (IsVerdictOn source beside words) (Points source beside) status a b place
+  by_status true e handed untouched h = let u = untouched (eqb-true status 11 e) in no_memory (eqb-true status 11 e) u.0 u.1 u.2
+  by_status false e handed untouched h =
+      let other : status ≡ 11 → ⊥ = λ s. true≢false (sym (ap (λ (n : ℕ). n == 11) s) ∙ e) in
+      let p = handed other in whole other p.0 p.1 p.2 h
+
+  -- The sinks were empty, nothing failed, and what the command answered was handed over.
   pub answers : (old_out old_err : Text) → old_out ≡ [] → old_err ≡ []
       → Completes (IsVerdict (shelf entries taken) words) (FailedIn (shelf entries taken) words) (change (Some old_out) (Some out) 0 0) (change (Some old_err) (Some err) 0 0) status
-      → (status ≡ 11 → ⊥) → Holds a out → Holds b err → Points source beside err place → Answers (IsVerdictOn source beside words) (Points source beside) status a b place
-  answers old_out old_err e f done other l m p =
+      → (status ≢ 11 → Holds a out × Holds b err × Points source beside err place) → (status ≡ 11 → IsUntouched a × IsUntouched b × (place ≡ no_place))
+      → Answers (IsVerdictOn source beside words) (Points source beside) status a b place
+  answers old_out old_err e f done handed untouched =
       let begins : Completes (IsVerdict (shelf entries taken) words) (FailedIn (shelf entries taken) words) (change (Some []) (Some out) 0 0) (change (Some []) (Some err) 0 0) status =
       subst (λ (x : Text). Completes (IsVerdict (shelf entries taken) words) (FailedIn (shelf entries taken) words) (change (Some x) (Some out) 0 0) (change (Some []) (Some err) 0 0) status) e
       (subst (λ (x : Text). Completes (IsVerdict (shelf entries taken) words) (FailedIn (shelf entries taken) words) (change (Some old_out) (Some out) 0 0) (change (Some x) (Some err) 0 0) status) f done) in
-      whole other l m p (begins (λ name g. never_fails entries taken (command_of words) name g) never_rose never_rose)
+      by_status (status == 11) refl handed untouched (begins (λ name g. never_fails entries taken (command_of words) name g) never_rose never_rose)
 
--- A text that was laid is the one that a sink holds.
-pub holds_of : (b : Buffer) (text held : Text) → text ≡ held → b.answered ≡ length text → b.now ≡ laid text b.before → Holds b held
-holds_of b text held e s h = subst (Holds b) e (s, h)
+-- The texts that are handed over are those that the sinks hold.
+pub handed : (source : Text) (beside : Beside) (status : ℕ) (a b : Buffer) (place : Place) (written out line err : Text) → written ≡ out → line ≡ err
+    → (status ≢ 11 → Holds a written × Holds b line × Points source beside line place) → status ≢ 11 → Holds a out × Holds b err × Points source beside err place
+handed source beside status a b place written out line err e f h other =
+    let p = h other in (subst (Holds a) e p.0, subst (Holds b) f p.1, subst (λ (t : Text). Points source beside t place) f p.2)
 
 -- Memory ran out, and nothing was laid.
 pub refused : (V : Verdict → Type 0) (P : Pointing) (status : ℕ) (out err : Text) (n m : ℕ) (place : Place) → status ≡ 11 → n ≡ 0 → m ≡ 0 → place ≡ no_place

@@ -29,10 +29,11 @@ use Rattle.pc_top.specs.Commands.Show.{IsShow, Shown}
 use Rattle.pc_top.specs.Commands.Swap.{IsSwap}
 use Rattle.pc_top.specs.Commands.Trace.{IsTrace, Tracing}
 use Rattle.pc_top.specs.Commands.Upgrade.{IsUpgrade}
-use Rattle.pc_call.specs.Inner.Shelves.{HoldsBeside, IsVerdictOn, shelf}
+use Rattle.pc_buffers.specs.Holding.{HoldsBeside}
+use Rattle.pc_call.specs.Inner.Shelves.{IsVerdictOn, shelf}
 use Rattle.pc_call.specs.Verdicts.{IsChecked, IsEventsOf, IsExplained, IsJudged, IsOutcomesOf, IsPlacesOf, IsPlayed, IsRunOf, IsScheduleOf, IsSendsOf, IsShown, IsSwapped, IsTraced, IsUpgraded, schedule_file, source_file}
-use Rattle.pc_call.specs.declared.beside.Beside.{Beside}
-use Rattle.pc_call.specs.declared.beside.Beside.TheVariants.{Nothing, Derivation, Schedule}
+use Rattle.pc_buffers.specs.declared.beside.Beside.{Beside}
+use Rattle.pc_buffers.specs.declared.beside.Beside.TheVariants.{Nothing, Derivation, Schedule}
 use Rattle.pc_call.proofs.Exactly.{plain}
 use Rattle.pc_call.proofs.Readings.{derivation_as, file_of, number_as, parts_as, scheduled_as, source_as, swap_as}
 

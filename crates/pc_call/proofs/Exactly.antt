@@ -19,11 +19,12 @@ use Rattle.pc_top.specs.Commands.Outcomes.{IsCount, seeds_limit}
 use Rattle.pc_top.specs.Commands.Swap.{IsPlace}
 use Rattle.pc_top.specs.CoreOf.{IsDerivable, IsUnderivable}
 use Rattle.pc_top.specs.Exact.{IsDerivationOf, JudgedAreExact, ReadsBoth, ReadsSource, StatusesAreExact}
-use Rattle.pc_call.specs.Answers.{Answers, Buffer, no_memory, verdict}
+use Rattle.pc_buffers.specs.Laying.{Buffer}
+use Rattle.pc_call.specs.Answers.{Answers, no_memory, verdict}
 use Rattle.pc_call.specs.Inner.Shelves.{IsVerdictOn, OfSourceOn, shelf}
-use Rattle.pc_call.specs.Points.{Pointing}
-use Rattle.pc_call.specs.declared.beside.Beside.{Beside}
-use Rattle.pc_call.specs.declared.beside.Beside.TheVariants.{Derivation}
+use Rattle.pc_buffers.specs.Points.{Pointing}
+use Rattle.pc_buffers.specs.declared.beside.Beside.{Beside}
+use Rattle.pc_buffers.specs.declared.beside.Beside.TheVariants.{Derivation}
 
 -- What holds of the source that the words name holds of the call's.
 pub of_source : (Is : Text → Type 0) (asked : Asked) (words : List Text) (source : Text) (beside : Beside) → command_of words ≡ Some asked → source_of asked ≡ Some (codes "source")

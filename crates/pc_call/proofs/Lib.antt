@@ -1,5 +1,4 @@
 pub mod Asked
 pub mod Commands
 pub mod Exactly
-pub mod Holding
 pub mod Readings

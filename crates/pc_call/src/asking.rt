@@ -3,14 +3,13 @@ ghost use Rattle.std.specs.Prelude.{◌≡◌};
 ghost use Rattle.pc_args.specs.Asked.{texts};
 ghost use Rattle.pc_refusals.specs.Verdict.{IsAccepting};
 ghost use Rattle.pc_top.specs.CoreOf.{HasIsolatedCore, HasSafeCore, IsDerivable};
-ghost use Rattle.pc_call.specs.Answers.{Answers, buffer};
-ghost use Rattle.pc_call.specs.Inner.Shelves.{HoldsTexts, IsVerdictOn, OfSourceOn};
-ghost use Rattle.pc_call.specs.Points.{Points};
+ghost use Rattle.pc_buffers.specs.Holding.{HoldsTexts};
+ghost use Rattle.pc_buffers.specs.Laying.{buffer};
+ghost use Rattle.pc_buffers.specs.Points.{Points};
+ghost use Rattle.pc_call.specs.Answers.{Answers};
+ghost use Rattle.pc_call.specs.Inner.Shelves.{IsVerdictOn, OfSourceOn};
 
-use crate::Answer;
-use crate::answer::{OUT_OF_MEMORY, refuse_memory};
-use crate::beside::{Beside, find_in, make_files};
-use pc_buffers::lay;
+use pc_buffers::{Answer, Beside, hand_over, make_files, refuse_memory};
 use pc_io::{NeverFiles, NeverSink};
 use pc_referee::Rules;
 use pc_top::rcap;
@@ -37,13 +36,16 @@ fn ask_files(
     let mut to_err = NeverSink::new(alloc);
     let mut referee = Rules;
     let status = rcap(alloc, words, files, &mut to_out, &mut to_err, &mut referee);
-    if status == OUT_OF_MEMORY {
-        return refuse_memory(answer);
-    }
-    answer.place = find_in(to_err.bytes(), source, beside);
-    answer.out_length = lay(out, to_out.bytes());
-    answer.err_length = lay(err, to_err.bytes());
-    status
+    hand_over(
+        status,
+        to_out.bytes(),
+        to_err.bytes(),
+        source,
+        beside,
+        out,
+        err,
+        answer,
+    )
 }
 
 /// Does what the words ask for, on these texts.

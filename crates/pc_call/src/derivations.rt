@@ -3,14 +3,14 @@ ghost use Rattle.std.specs.Prelude.{◌≡◌, ◌≢◌, ◌↔◌};
 ghost use Rattle.pc_refusals.specs.Verdict.{IsAccepting};
 ghost use Rattle.pc_top.specs.CoreOf.{HasIsolatedCore, HasSafeCore, IsDerivable};
 ghost use Rattle.pc_top.specs.Exact.{IsDerivationOf};
-ghost use Rattle.pc_call.specs.Answers.{Answers, buffer};
-ghost use Rattle.pc_call.specs.Points.{PointsIntoSource};
+ghost use Rattle.pc_buffers.specs.Laying.{buffer};
+ghost use Rattle.pc_buffers.specs.Points.{PointsIntoSource};
+ghost use Rattle.pc_call.specs.Answers.{Answers};
 ghost use Rattle.pc_call.specs.Verdicts.{IsJudged, IsUpgraded};
 
-use crate::Answer;
 use crate::asking::ask;
-use crate::beside::Beside;
 use pc_args::written_forms_are_taken;
+use pc_buffers::{Answer, Beside};
 use pc_top::judged_statuses_are_exact;
 use std::alloc::Global;
 

@@ -9,15 +9,12 @@
 //! and what looks for a derivation answers 1 exactly when the source has a core without one. What is accepted is safe.
 #![tactic(auto)]
 
-mod answer;
 mod asking;
-mod beside;
 mod choices;
 mod derivations;
 mod runs;
 mod sources;
 
-pub use answer::Answer;
 pub use choices::{outcomes, play, schedule};
 pub use derivations::{judge, upgrade};
 pub use runs::{events, run, swap, trace};

@@ -2,15 +2,15 @@
 ghost use Rattle.std.specs.Prelude.{◌≡◌, ◌≢◌, ◌↔◌};
 ghost use Rattle.pc_refusals.specs.Verdict.{IsAccepting};
 ghost use Rattle.pc_top.specs.CoreOf.{HasIsolatedCore, HasSafeCore, IsDerivable, IsUnderivable};
-ghost use Rattle.pc_call.specs.Answers.{Answers, buffer};
-ghost use Rattle.pc_call.specs.Points.{PointsIntoBoth};
+ghost use Rattle.pc_buffers.specs.Laying.{buffer};
+ghost use Rattle.pc_buffers.specs.Points.{PointsIntoBoth};
+ghost use Rattle.pc_call.specs.Answers.{Answers};
 ghost use Rattle.pc_call.specs.Verdicts.{IsEventsOf, IsRunOf, IsSwapped, IsTraced, MayBePlace};
 
-use crate::Answer;
 use crate::asking::ask;
-use crate::beside::Beside;
 use itoa::Buffer;
 use pc_args::written_forms_are_taken;
+use pc_buffers::{Answer, Beside};
 use pc_top::statuses_are_exact;
 use std::alloc::Global;
 

@@ -2,7 +2,7 @@ use Rattle.std.proofs.Common.{refl}
 use Rattle.std.specs.Prelude.{codes}
 use Rattle.pc_args.specs.Asked.{run}
 use Rattle.pc_top.specs.CoreOf.{HasIsolatedCore, HasSafeCore, IsDerivable}
-use Rattle.pc_call.specs.declared.beside.Beside.TheVariants.{Schedule}
+use Rattle.pc_buffers.specs.declared.beside.Beside.TheVariants.{Schedule}
 use Rattle.pc_call.proofs.Asked.{answers_as}
 use Rattle.pc_call.proofs.Commands.{ran, run_asks}
 use Rattle.pc_call.proofs.Exactly.{of_source, underivable}

@@ -2,7 +2,7 @@ use Rattle.std.proofs.Common.{◌<◌, refl, arith}
 use Rattle.std.specs.Prelude.{◌≡◌, ◌^◌, codes, decimal}
 use Rattle.pc_args.specs.Asked.{swap}
 use Rattle.pc_top.specs.CoreOf.{HasIsolatedCore, HasSafeCore, IsDerivable}
-use Rattle.pc_call.specs.declared.beside.Beside.TheVariants.{Schedule}
+use Rattle.pc_buffers.specs.declared.beside.Beside.TheVariants.{Schedule}
 use Rattle.pc_call.proofs.Asked.{answers_as}
 use Rattle.pc_call.proofs.Commands.{swap_asks, swapped}
 use Rattle.pc_call.proofs.Exactly.{of_source, plain, swap_number, underivable}

@@ -3,8 +3,8 @@ use Rattle.std.specs.Prelude.{ℕ, ◌≡◌, ◌⊎◌, codes}
 use Rattle.pc_buffers.specs.Places.{PointsAt, PointsNowhere, no_place}
 use Rattle.pc_buffers.specs.declared.place.Place.{Place}
 use Rattle.pc_lists.specs.Texts.{Text}
-use Rattle.pc_call.specs.declared.beside.Beside.{Beside}
-use Rattle.pc_call.specs.declared.beside.Beside.TheVariants.{Nothing, Derivation, Schedule}
+use Rattle.pc_buffers.specs.declared.beside.Beside.{Beside}
+use Rattle.pc_buffers.specs.declared.beside.Beside.TheVariants.{Nothing, Derivation, Schedule}
 
 -- A line and the place at which it points.
 abbrev pub Pointing : Type 1

@@ -2,7 +2,7 @@
 ghost use Rattle.std.specs.Prelude.{◌≡◌};
 ghost use Rattle.pc_buffers.specs.Places.{no_place};
 
-use pc_buffers::{NO_PLACE, Place};
+use crate::place::{NO_PLACE, Place};
 
 /// The status when memory ran out, as `rcap` answers it.
 pub const OUT_OF_MEMORY: u8 = 11;

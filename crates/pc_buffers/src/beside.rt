@@ -2,10 +2,11 @@
 ghost use Rattle.std.specs.Prelude.{◌≡◌, List, ℕ, Some, codes, IfOk, OnOk, if◌then◌else◌};
 ghost use Rattle.std.specs.Str.{bytes_eq};
 ghost use Rattle.pc_io.specs.Entries.{held};
-ghost use Rattle.pc_call.specs.Inner.Shelves.{AddsBeside, HoldsTexts};
-ghost use Rattle.pc_call.specs.Points.{Points, PointsBeside};
+ghost use Rattle.pc_buffers.specs.Holding.{AddsBeside, HoldsTexts};
+ghost use Rattle.pc_buffers.specs.Points.{Points, PointsBeside};
 
-use pc_buffers::{NO_PLACE, Place, find_place};
+use crate::finding::find_place;
+use crate::place::{NO_PLACE, Place};
 use pc_io::NeverFiles;
 use std::alloc::{AllocError, Global};
 

@@ -3,9 +3,9 @@ use Rattle.std.proofs.Common.{◌∙◌, List}
 use Rattle.std.specs.Prelude.{codes}
 use Rattle.pc_io.specs.declared.entries.Entry.{Entry}
 use Rattle.pc_lists.specs.Texts.{Text}
-use Rattle.pc_call.specs.Inner.Shelves.{Adds, AddsBeside, HoldsTexts}
-use Rattle.pc_call.specs.declared.beside.Beside.{Beside}
-use Rattle.pc_call.specs.declared.beside.Beside.TheVariants.{Nothing, Derivation, Schedule}
+use Rattle.pc_buffers.specs.Holding.{Adds, AddsBeside, HoldsTexts}
+use Rattle.pc_buffers.specs.declared.beside.Beside.{Beside}
+use Rattle.pc_buffers.specs.declared.beside.Beside.TheVariants.{Nothing, Derivation, Schedule}
 
 -- First the source was added, and then the text beside it.
 pub holds : (none one all : List Entry) (source : Text) (beside : Beside) → Adds none one (codes "source") source → AddsBeside one all beside → HoldsTexts all source beside

@@ -1,0 +1,34 @@
+//! What a caller is handed over.
+ghost use Rattle.std.specs.Prelude.{◌≡◌, ◌≢◌};
+ghost use Rattle.pc_buffers.specs.Laying.{Holds, IsUntouched, buffer};
+ghost use Rattle.pc_buffers.specs.Places.{no_place};
+ghost use Rattle.pc_buffers.specs.Points.{Points};
+
+use crate::answer::{Answer, OUT_OF_MEMORY, refuse_memory};
+use crate::beside::{Beside, find_in};
+use crate::laying::lay;
+
+/// Hands over what a command answered on these texts: its status, what it wrote and its line, as far as there is room for them, and
+/// the place at which the line points. If memory ran out, no text and no place are handed over.
+pub fn hand_over(
+    status: u8,
+    written: &[u8],
+    line: &[u8],
+    source: &[u8],
+    beside: Beside<'_>,
+    out: &mut [u8],
+    err: &mut [u8],
+    answer: &mut Answer,
+) -> u8
+    ensures status { result ≡ status }
+    ensures texts { status ≢ 11 → Holds (buffer out.old out.new answer.new.out_length) written.now × Holds (buffer err.old err.new answer.new.err_length) line.now × Points source.now beside.entry line.now answer.new.place }
+    ensures memory { status ≡ 11 → IsUntouched (buffer out.old out.new answer.new.out_length) × IsUntouched (buffer err.old err.new answer.new.err_length) × (answer.new.place ≡ no_place) }
+{
+    if status == OUT_OF_MEMORY {
+        return refuse_memory(answer);
+    }
+    answer.place = find_in(line, source, beside);
+    answer.out_length = lay(out, written);
+    answer.err_length = lay(err, line);
+    status
+}
