@@ -50,6 +50,7 @@ HINTS = {
     "write `m(..)`": "call the method",
     "`f = ..` gives its old value": "the old value",
     "give one of the two another name": "another name",
+    "take one of the two away": "name one once",
     "take one `is` of the chain away": "take an is away",
     "add `actor Main`": "add Main",
     "write `actor Main`": "the form of Main",
