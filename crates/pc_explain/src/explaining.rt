@@ -27,7 +27,7 @@ use pc_window::push_head;
 use pc_words::Scene;
 use std::alloc::{AllocError, Global};
 
-// What an explanation looks at, made of what it is told.
+// What an explanation looks at: a source, its core, and what is known of its first nodes.
 #[tactic(auto, unfolding(crate::specs::Explanation::scene_of))]
 fn scene_of<'a>(
     bytes: &'a [u8],

@@ -28,7 +28,7 @@ abbrev pub OfFile : (Text → Type 0) → (Text → Option Text) → Option Text
 OfFile Holds told None = Unit {0}
 OfFile Holds told (Some source) = IfSome (told source) Holds
 
--- This holds of the source of a command that has to have a derivation: of its file where it is told, and of the program that
+-- This holds of the source of a command that has to have a derivation: of its file if its bytes are known, and of the program that
 -- `make` makes.
 abbrev pub OfSource : (Text → Type 0) → (Text → Option Text) → Option Asked → Type 0
 OfSource Holds told None = ⊥

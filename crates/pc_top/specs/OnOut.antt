@@ -11,16 +11,16 @@ use Rattle.pc_top.specs.Commands.Judge.{accepted_text}
 use Rattle.pc_top.specs.Commands.Swap.{IsPlace, WritesSwap}
 use Rattle.pc_top.specs.Commands.Trace.{WritesTrace}
 
--- What the command of the words writes: the source's derivation, `accepted`, the text of the run or the printed tree, where the
--- files that say it are told; or why the source is refused; or the numbers of the program that it makes, and the text of its
--- run; or the schedule with two turns exchanged or why they stay, and nothing where a step before them would make a text that is
--- too long; or the accesses of the run with their clocks, and nothing where a step would make a text that is too long; or the
--- lines of who sends what, which are true of every run; or a derivation in version 2 of its text; or the schedule that a seed
--- chooses, the text of its run, or the table of the outcomes of the seeds below a count.
+-- What the command of the words writes, if the bytes of its files are known: the source's derivation, `accepted`, the text of the
+-- run or the printed tree; or why the source is refused; or the numbers of the program that it makes, and the text of its run; or
+-- the schedule with two turns exchanged or why they stay, and nothing if a step before them would make a text that is too long;
+-- or the accesses of the run with their clocks, and nothing if a step would make a text that is too long; or the lines of who
+-- sends what, which are true of every run; or a derivation in version 2 of its text; or the schedule that a seed chooses, the text
+-- of its run, or the table of the outcomes of the seeds below a count.
 abbrev pub OnOut : (Text → Option Text) → List Text → Change → Type 0
 OnOut told words out = OnOutOf told (command_of words) out
 
--- Where `swap` is done, it told of the turns at its place. Two that were exchanged lead where they led: all four steps move, and
+-- If `swap` is done, it reports on the turns at its place. Two that were exchanged lead where they led: all four steps move, and
 -- both lists lead to one configuration.
 abbrev pub Swaps : (Text → Option Text) → List Text → Change → Type 0
 Swaps told words out = (source schedule place : Text) → command_of words ≡ Some (swap source schedule place)

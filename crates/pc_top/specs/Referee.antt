@@ -7,7 +7,7 @@ use Rattle.pc_args.specs.Asked.{Asked, judge}
 use Rattle.pc_refusals.specs.Referee.{JudgedFile}
 use Rattle.pc_top.specs.CoreOf.{CoreOf}
 
--- A derivation of the core of a source: the bytes of both files, where they are told, and each of its nodes was asked.
+-- A derivation of the core of a source: the bytes of both files, if they are known, and each of its nodes was asked.
 pub record JudgedAll (source derivation : Option Text) (before after : Option Pairs) : Type 0 where
   pub bytes : Text
   pub of_file : IfSome source (λ b. bytes ≡ b)

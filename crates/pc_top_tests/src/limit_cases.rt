@@ -83,7 +83,7 @@ fn add_fields(alloc: Global, source: &mut Vec<u8>, count: usize) -> Result<(), A
     source.extend_from_slice(IDLE)
 }
 
-/// A class with so many fields, and a Main.
+/// A class with this number of fields, and a Main.
 pub(crate) fn with_fields(alloc: Global, count: usize) -> Result<Vec<u8>, AllocError> {
     let mut source: Vec<u8> = Vec::new(alloc);
     add_fields(alloc, &mut source, count)?;

@@ -62,14 +62,14 @@ fn add_nested(source: &mut Vec<u8>, opened: usize) -> Result<(), AllocError> {
     add_repeated(source, b"", b")", opened, b"\n")
 }
 
-/// A Main whose body is so many `(`, a number, and as many `)`.
+/// A Main whose body is this number of `(`, a number, and as many `)`.
 pub(crate) fn nested(alloc: Global, opened: usize) -> Result<Vec<u8>, AllocError> {
     let mut source: Vec<u8> = Vec::new(alloc);
     add_nested(&mut source, opened)?;
     Ok(source)
 }
 
-// A Main whose body is so many `(`.
+// A Main whose body is this number of `(`.
 fn opened(alloc: Global, count: usize) -> Result<Vec<u8>, AllocError> {
     repeated(
         alloc,

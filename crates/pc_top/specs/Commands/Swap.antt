@@ -44,7 +44,7 @@ kept_line kept.NotMoved = codes "kept: not moved" ++ line_end
 kept_line kept.OneMailbox = codes "kept: one mailbox" ++ line_end
 kept_line kept.BothSpawn = codes "kept: both spawn" ++ line_end
 
--- What is told of them, after the steps before: the list with both exchanged, as a line of a schedule, and it leads where the
+-- What is reported of them, after the steps before: the list with both exchanged, as a line of a schedule, and it leads where the
 -- list leads; or why they stay in their order.
 pub data SwapText (core : CoreData) (t : Neighbours) (text : Text) : Type 0 where
   exchanged : (new : List ℕ) → Exchanged core t.front t.i t.j t.rest new → IsLine new text → SwapText core t text
@@ -71,8 +71,8 @@ pub data IsSwap (source schedule : Named) (place : Text) (v : Verdict) : Type 0 
 abbrev pub UnreadSwap : Named → Named → Text → Text → Type 0
 UnreadSwap source schedule place name = ((n : ℕ) × IsPlace place n) × UnreadScheduled source schedule name
 
--- Out grew by what is told of the turns at a place of the schedule and after it: the schedule with both exchanged, where their
--- steps are apart, and else why they stay in their order.
+-- Out grew by what is reported of the turns at a place of the schedule and after it: the schedule with both exchanged, if their
+-- steps are apart, or else why they stay in their order.
 abbrev pub WritesSwap : Change → Text → Text → ℕ → Type 0
 WritesSwap out source schedule place =
     (core : CoreData) × CoreOf source core × (turns : List Turn) × TurnList schedule turns × (t : Neighbours) × StandAt (spread turns) place t
