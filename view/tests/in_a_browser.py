@@ -19,6 +19,9 @@ HOW = "there is no Chromium: `apt-get install -y chromium` installs one, or CHRO
 WIDE, NARROW = (1280, 800), (390, 844)
 THEMES = ("light", "dark")
 
+# How many pages walk themselves in one browser.
+MOST_PAGES = 40
+
 # What the browser may take at most: seconds in all, and milliseconds of its own time.
 SECONDS, OWN_TIME = 900, 3_600_000
 
@@ -83,6 +86,11 @@ class Browser(unittest.TestCase):
 
     def walked(self, wanted):
         """What each page found out about itself."""
+        parts = [wanted[at : at + MOST_PAGES] for at in range(0, len(wanted), MOST_PAGES)]
+        return [result for part in parts for result in self.walked_together(part)]
+
+    def walked_together(self, wanted):
+        """What each page found out about itself, all in one browser."""
         with tempfile.TemporaryDirectory(prefix="view-walk-") as folder:
             file = pathlib.Path(folder) / "walk.html"
             rows = [[path.as_uri(), *size, theme] for path, size, theme in wanted]
