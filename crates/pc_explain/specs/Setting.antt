@@ -1,5 +1,5 @@
 -- The lines on a constructor that leaves a field unset.
-use Rattle.std.specs.Prelude.{ℕ, ◌+◌, Bool, true, false, ◌&&◌, nat_eq, List, [], ◌∷◌, ◌++◌, Option, Some, None, slice_get, codes, if◌then◌else◌}
+use Rattle.std.specs.Prelude.{ℕ, ◌+◌, Bool, true, false, ◌&&◌, nat_eq, List, [], ◌∷◌, ◌++◌, Option, Some, None, filter, length, map, slice_get, take, codes, if◌then◌else◌}
 use Rattle.pc_core.specs.CoreData.{CoreData}
 use Rattle.pc_core.specs.Lookup.{own_nodes}
 use Rattle.pc_core.specs.declared.declarations.EntityDef.{EntityDef}
@@ -8,6 +8,7 @@ use Rattle.pc_core.specs.declared.declarations.Method.{Method}
 use Rattle.pc_core.specs.declared.nodes.Node.{Node}
 use Rattle.pc_core.specs.declared.nodes.NodeKind.{NodeKind}
 use Rattle.pc_core.specs.declared.nodes.NodeKind.TheVariants as node
+use Rattle.pc_explain_names.specs.Lists.{most, rest}
 use Rattle.pc_lists.specs.Texts.{Text, line_end}
 use Rattle.pc_masks.specs.Masks.{has}
 use Rattle.pc_masks.specs.declared.mask.Mask.{Mask}
@@ -40,20 +41,31 @@ writes_own core name x = writes_name name x.kind && is_own (child_in core (slice
 abbrev pub before_place : (first : Bool) → Text
 before_place first = if first then codes " on every path: it is set only at " else codes ", "
 
-unfoldable pub write_place : SceneData → (first : Bool) → Node → Text
-write_place s first x = before_place first ++ place s.bytes x.span.start
+unfoldable pub write_place : Text → (first : Bool) → ℕ → Text
+write_place bytes first at = before_place first ++ place bytes at
 
--- The places of the writes among these nodes.
-abbrev pub write_places : SceneData → ℕ → (first : Bool) → List Node → Text
-write_places s name first [] = []
-write_places s name first (x ∷ xs) = if writes_own s.core name x then write_place s first x ++ write_places s name false xs else write_places s name first xs
+-- The places of these bytes.
+abbrev pub places_of : Text → (first : Bool) → List ℕ → Text
+places_of bytes first [] = []
+places_of bytes first (at ∷ others) = write_place bytes first at ++ places_of bytes false others
+
+abbrev pub start : Node → ℕ
+start x = x.span.start
+
+-- Where these nodes begin that write the field of this name of `this`.
+abbrev pub writes_of : CoreData → ℕ → List Node → List ℕ
+writes_of core name xs = map start (filter (writes_own core name) xs)
+
+-- The first eight places, and how many more there are.
+unfoldable pub write_places : Text → List ℕ → Text
+write_places bytes starts = places_of bytes true (take most starts) ++ rest (length starts)
 
 -- ---- the fields
 
 unfoldable pub unset_part : SceneData → Method → FieldInfo → Text
 unset_part s m f =
     codes "part: the field " ++ (quoted (forms.name_text s.core f.name) ++ (codes ", " ++ (forms.place_words s.core (f.entity, f.cap)
-    ++ (codes ", is not set" ++ (write_places s f.name true (own_nodes s.core m) ++ line_end)))))
+    ++ (codes ", is not set" ++ (write_places s.bytes (writes_of s.core f.name (own_nodes s.core m)) ++ line_end)))))
 
 unfoldable pub part_of : SceneData → Method → (set : Bool) → FieldInfo → Text
 part_of s m true f = []

@@ -1,16 +1,20 @@
 //! The lines on a constructor that leaves a field unset.
-ghost use Rattle.std.specs.Prelude.{◌≡◌, ◌++◌, drop, true, OnOk};
+ghost use Rattle.std.specs.Prelude.{◌≡◌, ◌++◌, drop, true, IfOk, OnOk};
 ghost use Rattle.std.specs.Option.{option_copied};
 ghost use Rattle.pc_core.specs.Lookup.{own_nodes as own_nodes_are};
 ghost use Rattle.pc_masks.specs.Masks.{has};
+ghost use Rattle.pc_explain_names.specs.Lists.{rest};
 ghost use Rattle.pc_explain.specs.Setting as spec;
 
 use crate::known::first_nodes;
 use pc_core::{Core, EntityDef, FieldInfo, Method, Node, NodeKind};
 use pc_masks::Mask;
-use pc_window::{push_bytes, push_place, push_quoted};
+use pc_window::{push_bytes, push_number, push_place, push_quoted};
 use pc_words::{Scene, name_text, push_method, push_place_type};
 use std::alloc::{AllocError, Global};
+
+// How many places of writes are written.
+const MOST: usize = 8;
 
 // Whether a node of this kind writes a field of this name.
 fn writes_name(name: u32, kind: &NodeKind) -> bool
@@ -76,40 +80,73 @@ fn before_place(first: bool) -> &'static [u8]
     }
 }
 
+// Where these nodes begin that write the field of this name of `this`.
+fn writes_of(alloc: Global, core: &Core, name: u32, nodes: &[Node]) -> Result<Vec<u32>, AllocError>
+    ensures { IfOk result (λ starts. starts.items ≡ spec.writes_of core.now name nodes.now) }
+{
+    nodes
+        .iter()
+        .filter(|node| writes_own(core, name, node))
+        .map(|node| node.span.start)
+        .collect(alloc)
+}
+
 // Appends the place of a write.
 #[tactic(auto, unfolding(crate::specs::Setting::write_place))]
 fn push_write_place(
     alloc: Global,
     out: &mut Vec<u8>,
-    scene: &Scene,
+    bytes: &[u8],
     first: bool,
-    node: &Node,
+    at: u32,
 ) -> Result<(), AllocError>
-    ensures { OnOk result (out.new.items ≡ out.old.items ++ spec.write_place scene.now first node.now) }
+    ensures { OnOk result (out.new.items ≡ out.old.items ++ spec.write_place bytes.now first at) }
 {
     push_bytes(out, before_place(first))?;
-    push_place(alloc, out, scene.bytes(), node.span.start)
+    push_place(alloc, out, bytes, at)
 }
 
-// Appends the places of the writes of a field among these nodes.
+// Appends the places of these bytes.
+fn push_places_of(
+    alloc: Global,
+    out: &mut Vec<u8>,
+    bytes: &[u8],
+    starts: &[u32],
+) -> Result<(), AllocError>
+    ensures { OnOk result (out.new.items ≡ out.old.items ++ spec.places_of bytes.now true starts.now) }
+{
+    let mut first = true;
+    'starts: for at in starts {
+        push_write_place(alloc, out, bytes, first, *at)?;
+        first = false;
+    }
+    Ok(())
+}
+
+// Appends how many places are not written.
+fn push_rest(alloc: Global, out: &mut Vec<u8>, count: usize) -> Result<(), AllocError>
+    ensures { OnOk result (out.new.items ≡ out.old.items ++ rest count) }
+{
+    if count > MOST {
+        push_bytes(out, b" and ")?;
+        push_number(alloc, out, (count - MOST) as u64)?;
+        push_bytes(out, b" more")?;
+    }
+    Ok(())
+}
+
+// Appends the first eight places, and how many more there are.
+#[tactic(auto, unfolding(crate::specs::Setting::write_places))]
 fn push_write_places(
     alloc: Global,
     out: &mut Vec<u8>,
-    scene: &Scene,
-    name: u32,
-    nodes: &[Node],
+    bytes: &[u8],
+    starts: &[u32],
 ) -> Result<(), AllocError>
-    ensures { OnOk result (out.new.items ≡ out.old.items ++ spec.write_places scene.now name true nodes.now) }
+    ensures { OnOk result (out.new.items ≡ out.old.items ++ spec.write_places bytes.now starts.now) }
 {
-    let core = scene.core();
-    let mut first = true;
-    for node in nodes {
-        if writes_own(core, name, node) {
-            push_write_place(alloc, out, scene, first, node)?;
-            first = false;
-        }
-    }
-    Ok(())
+    push_places_of(alloc, out, bytes, &starts[..MOST.min(starts.len())])?;
+    push_rest(alloc, out, starts.len())
 }
 
 // The nodes of a method.
@@ -143,12 +180,13 @@ fn push_unset_part(
     ensures { OnOk result (out.new.items ≡ out.old.items ++ spec.unset_part scene.now method.now field) }
 {
     let core = scene.core();
+    let starts = writes_of(alloc, core, field.name, own_nodes(core, method))?;
     push_bytes(out, b"part: the field ")?;
     push_quoted(alloc, out, name_text(core, field.name))?;
     push_bytes(out, b", ")?;
     push_place_type(alloc, out, core, (field.entity, field.cap))?;
     push_bytes(out, b", is not set")?;
-    push_write_places(alloc, out, scene, field.name, own_nodes(core, method))?;
+    push_write_places(alloc, out, scene.bytes(), starts.as_slice())?;
     push_bytes(out, b"\n")
 }
 
