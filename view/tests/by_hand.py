@@ -198,20 +198,12 @@ class OddPages(unittest.TestCase):
         found = pages.data_of(self.made("run", "keeper.pony", "--seed", "007"))
         self.assertEqual(found["by"], "seed 7")
 
-    def test_what_is_made_of_one_entity_alone_has_its_name(self):
-        file = self.folder / "keeper.places"
-        text = file.read_text().replace("rcap-places 1 9 3 5 6 0", "rcap-places 1 9 3 5 6 2")
-        file.write_text(text + "n new:1 4 0 184 188\nn spawn:2 4 0 177 189 0\n")
-        found = pages.data_of(self.made("run", "keeper.pony", "keeper.sched"))
-        self.assertEqual(found["actors"], ["OutStream", "Main", "Keeper"])
-        self.assertEqual(found["objects"], [["1.1", "Cell"], ["2.0", "Keeper"]])
-
-    def test_what_is_made_of_several_entities_has_no_name(self):
+    def test_what_several_constructors_make_has_the_names_of_the_events(self):
         file = self.folder / "keeper.places"
         text = file.read_text().replace("rcap-places 1 9 3 5 6 0", "rcap-places 1 9 3 5 6 2")
         file.write_text(text + "n spawn:4 4 0 184 188\nn spawn:2 4 0 177 189 0\n")
         found = pages.data_of(self.made("run", "keeper.pony", "keeper.sched"))
-        self.assertEqual((found["actors"], found["objects"]), (["OutStream", "Main", ""], [["1.1", ""], ["2.0", ""]]))
+        self.assertEqual((found["actors"], found["objects"]), (["OutStream", "Main", "Keeper"], [["1.1", "Cell"], ["2.0", "Keeper"]]))
 
     def test_tags_in_a_source_are_data(self):
         file = self.folder / "cell.pony"
