@@ -11,6 +11,9 @@ import cases
 # The most levels of nesting that are read, of what takes the most stack.
 DEEP = b"actor Main\n  new create(env: Env) =>\n" + b"if true then " * 199 + b"None" + b" end" * 199 + b"\n"
 
+# The same, which is refused at the deepest place.
+DEEP_REFUSED = DEEP.replace(b"None", b"let x: U64 = true")
+
 # What a call takes at most at such a source, by the header's comment, and what it takes at a usual one.
 STACK = int(re.search(r"#define RCAP_STACK (\d+)", (built.LIB / "rcap.h").read_text())[1])
 USUAL_STACK = 100_000
@@ -63,8 +66,10 @@ class Limits(unittest.TestCase):
         program = built.driver("gcc", "stack")
         deep = cases.Case("check", DEEP)
         self.assertEqual(cases.wanted(deep).status, 0)
+        self.assertEqual(cases.wanted(cases.Case("check", DEEP_REFUSED)).status, 1)
         own = cases.wanted(deep).out
-        for case in (deep, cases.Case("show", DEEP), cases.Case("sends", DEEP), cases.Case("judge", DEEP, own), cases.Case("run", DEEP, b"1*5000")):
+        explained = cases.Case("explain", DEEP_REFUSED)
+        for case in (deep, cases.Case("show", DEEP), cases.Case("sends", DEEP), explained, cases.Case("judge", DEEP, own), cases.Case("run", DEEP, b"1*5000")):
             (taken,) = self.run_driver([program], case)
             self.assertLess(taken, STACK, case.title())
         for case in cases.small_cases():
