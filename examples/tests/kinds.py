@@ -280,5 +280,5 @@ PARTS = {
     "this, not written": "(?:the origin|the receiver|the value) `this`, which is not written, is TYPE",
     "a method that is stood for": "it stands for METHOD",
     "a field that is never set": "the field `NAME`, TYPE, is not set",
-    "a field that may be set": "the field `NAME`, TYPE, is not set on every path: it is set only at PLACE(?:, PLACE)*",
+    "a field that may be set": "the field `NAME`, TYPE, is not set on every path: it is set only at PLACE(?:, PLACE)*(?: and NUMBER more)?",
 }
