@@ -822,18 +822,18 @@ def refused_program(part):
     yield "    teller.deposit(true)\n"
 
 
-@shape("a field that 38,000 ifs may set", NO_RULE)
+@shape("a field that 22,000 ifs may set", NO_RULE)
 def may_be_set(part):
     yield "class C\n  var f: U64\n  new create(b: Bool) =>\n"
-    yield from lines(int(part * 38_000), "if b then f = 1 end")
+    yield from lines(int(part * 22_000), "if b then f = 1 end")
     yield from main_with(["0\n"])
 
 
-@shape("64 fields that 590 ifs may set each", NO_RULE)
+@shape("64 fields that 340 ifs may set each", NO_RULE)
 def may_all_be_set(part):
     fields = [f"f{n}" for n in range(64)]
     yield "class C\n" + "".join(f"  var {name}: U64\n" for name in fields) + "  new create(b: Bool) =>\n"
-    yield from ("".join(f"if b then {name} = 1 end\n" for name in fields) for _ in numbered(part, 590))
+    yield from ("".join(f"if b then {name} = 1 end\n" for name in fields) for _ in numbered(part, 340))
     yield from main_with(["0\n"])
 
 
