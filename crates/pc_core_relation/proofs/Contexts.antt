@@ -36,8 +36,9 @@ use Rattle.pc_file_spec.proofs.Parts.{At, AllAt}
 use Rattle.pc_file_spec.proofs.Formation.{names_given}
 use Rattle.pc_file_spec.proofs.Settings.{all_members, method_at, at_get}
 use Rattle.pc_core_relation.specs.Lists.{Match}
-use Rattle.pc_core_relation.specs.Contexts.{makes, text_at, constructors_among, seen_entity, seen_entities, context_in}
+use Rattle.pc_core_relation.specs.Contexts.{makes, text_at, constructors_among, seen_entity, seen_entities}
 use Rattle.pc_core_relation.proofs.Lists.{match_rest, range_count}
+use Rattle.pc_core_relation.proofs.Mirror.{owned_context}
 use Rattle.pc_core_relation.proofs.Types.{entity_name}
 
 -- ---- constructors
@@ -170,5 +171,5 @@ module _ (file : t.File) (above : List (List ℕ)) (q : Parts) (c : Collects fil
   seeing o ks = record { fields = field_texts o.owner.fields; methods = map member_text (members file.entities o.owner); entities = ks; texts = known.texts_of file; slots = placed_of o.owner o.member }
 
   -- So bodies mean the same.
-  pub context_same : (o : Owned) → context_in file core o ≡ context_of file o
+  pub context_same : (o : Owned) → owned_context core (members file.entities o.owner) o ≡ context_of file o
   context_same o = ap (λ ks. seeing o ks) seen_same

@@ -27,9 +27,10 @@ use Rattle.pc_file_spec.proofs.Tables.{text_found}
 use Rattle.pc_core_relation.specs.Lists.{Match}
 use Rattle.pc_core_relation.specs.Types.{IsType, IsWritten}
 use Rattle.pc_core_relation.specs.Contexts.{seen_entities}
-use Rattle.pc_core_relation.specs.Methods.{params_in, ParamStands, IsAnswer, IsWordResult, IsResult, LocalStands}
+use Rattle.pc_core_relation.specs.Methods.{ParamStands, LocalStands}
 use Rattle.pc_core_relation.specs.Entities.{FieldStands}
 use Rattle.pc_core_relation.proofs.Lists.{match_one}
+use Rattle.pc_core_relation.proofs.Mirror.{params_in, AnswerIs, WordResultIs, ResultIs}
 use Rattle.pc_core_relation.proofs.Types.{entity_name, type_is, is_type}
 
 -- A text that is there has one number.
@@ -59,16 +60,16 @@ module _ (core : CoreData) (known : List Known) (seen : seen_entities core ≡ k
   params_one (written m) xs h = match_one (ParamStands core) (param_of known) param_one m.params xs h
   params_one added xs h = match_one (ParamStands core) (param_of known) param_one [] xs h
 
-  answer_one : (r : Option TypeRef) (x : ℕ × Form) → IsAnswer core r x → written_result known r ≡ x
+  answer_one : (r : Option TypeRef) (x : ℕ × Form) → AnswerIs core r x → written_result known r ≡ x
   answer_one None x h = sym h
   answer_one (Some ty) x h = ap (λ (p : ℕ × Cap). (p.0, result_form ty.hat p.1)) (type_in_one ty (x.0, h.0) h.1) ∙ ap (λ f. (x.0, f)) (sym h.2)
 
-  word_one : (o : Owned) (m : t.Method) (w : MethodWord) (x : ℕ × Form) → IsWordResult core o m w x → word_result known o.owner.kind o.number m w ≡ x
+  word_one : (o : Owned) (m : t.Method) (w : MethodWord) (x : ℕ × Form) → WordResultIs core o.owner.kind o.number m w x → word_result known o.owner.kind o.number m w ≡ x
   word_one o m word.Fun x h = answer_one m.result x h
   word_one o m word.Be x h = sym h
   word_one o m word.New x h = sym h
 
-  pub result_one : (o : Owned) (m : Member) (x : ℕ × Form) → IsResult core o m x → result_of known o.owner.kind o.number m ≡ x
+  pub result_one : (o : Owned) (m : Member) (x : ℕ × Form) → ResultIs core o m x → result_of known o.owner.kind o.number m ≡ x
   result_one o (written m) x h = word_one o m m.word x h
   result_one o added x h = sym h
 

@@ -1,9 +1,10 @@
 -- The core that is made of a file stands for it.
-use Rattle.std.proofs.Common.{◌≡◌, ℕ, zero, suc, ◌+◌, ◌<◌, ◌^◌, List, [], length, map, Some, refl, sym, ap, ◌∙◌, subst, arith, inl, inr}
+use Rattle.std.proofs.Common.{◌≡◌, ℕ, zero, suc, ◌+◌, ◌<◌, ◌≤◌, ◌^◌, List, [], length, map, Some, refl, sym, ap, ◌∙◌, subst, arith, inl, inr}
 use Rattle.std.specs.Prelude.{slice_get, position, codes}
 use Rattle.std.specs.Str.{bytes_eq}
 use Rattle.std.proofs.lemmas.Option.{same_Some, none-some}
 use Rattle.std.proofs.lemmas.List.{length-map}
+use Rattle.pc_caps.specs.Limits.{method_limit}
 use Rattle.pc_lists.specs.Places.{Has}
 use Rattle.pc_lists.specs.Ranges.{Follow}
 use Rattle.pc_lists.proofs.Gets.{map_get, get_map, get_append, get_below, get_within}
@@ -14,7 +15,7 @@ use Rattle.pc_core.specs.declared.declarations.EntityDef.{EntityDef}
 use Rattle.pc_core.specs.declared.declarations.Method.{Method}
 use Rattle.pc_core.specs.CoreData.{CoreData}
 use Rattle.pc_core.specs.Entities.{HasBuiltIn}
-use Rattle.pc_members.specs.Chains.{IsAbove, Closes, Leads}
+use Rattle.pc_members.specs.Chains.{IsAbove, Closes, IsFounded, Leads}
 use Rattle.pc_tree.specs.BuiltIn.{first_own}
 use Rattle.pc_members.specs.Chains as chain
 use Rattle.pc_members.specs.Members.{Member, members}
@@ -22,10 +23,9 @@ use Rattle.pc_members.specs.Words as words
 use Rattle.pc_members.specs.Words.{built_in_names, entity_names, field_texts, method_texts}
 use Rattle.pc_members.specs.Reach.{or_nil}
 use Rattle.pc_members.proofs.Closings.{no_entity}
-use Rattle.pc_names.specs.Names.{name_faults}
-use Rattle.pc_names.proofs.Ones.{one_closing}
+use Rattle.pc_names.proofs.Founded.{collected_founded}
 use Rattle.pc_file_spec.specs.Members.{Owned, owned}
-use Rattle.pc_file_spec.specs.Known.{texts_of, known_of}
+use Rattle.pc_file_spec.specs.Known.{texts_of, known_of, default_cap}
 use Rattle.pc_file_spec.specs.Parts.{Parts, built_in_parts}
 use Rattle.pc_file_spec.specs.Cores.{core_with, built_ins, field_of, entity_of, entities_from}
 use Rattle.pc_file_spec.proofs.Entities.{position_get}
@@ -33,9 +33,11 @@ use Rattle.pc_members.proofs.Named.{is_trait_named}
 use Rattle.pc_file_spec.proofs.Tables.{language_kept, member_there, text_found}
 use Rattle.pc_file_spec.proofs.Owners.{starts, methods_run, members_follow}
 use Rattle.pc_file_spec.proofs.Collects.{Collects, collects}
+use Rattle.pc_file_spec.proofs.Counts.{members_limited}
 use Rattle.pc_file_spec.proofs.Parts.{At, AllAt}
 use Rattle.pc_file_spec.proofs.Formation.{stands_with, parts_are}
 use Rattle.pc_file_spec.proofs.Settings.{all_members, entities_length, entity_get, entity_cases, method_at, at_get}
+use Rattle.pc_core_relation.specs.Names.{NamesAreRight}
 use Rattle.pc_core_relation.specs.Types.{IsNamed}
 use Rattle.pc_core_relation.specs.Methods.{MethodStands}
 use Rattle.pc_core_relation.specs.Entities.{FieldStands, EntityStands}
@@ -46,6 +48,9 @@ use Rattle.pc_core_relation.proofs.Texts.{texts_are_firsts}
 use Rattle.pc_core_relation.proofs.Types.{entity_name, numbers_match}
 use Rattle.pc_core_relation.proofs.Contexts.{all_names, own_at}
 use Rattle.pc_core_relation.proofs.Members.{type_stands, member_stands}
+use Rattle.pc_core_relation.proofs.Inherited.{members_have}
+use Rattle.pc_core_relation.proofs.Mirror.{cap_said}
+use Rattle.pc_core_relation.proofs.Sound.{names_are_right}
 
 -- ---- what is above the entities of the language
 
@@ -76,7 +81,7 @@ none_above file n x h = subst (IsAbove file n) (sym (bare n x h)) (ascends_none,
 
 -- ---- the parts of the core
 
-module _ (file : t.File) (above : List (List ℕ)) (q : Parts) (c : Collects file above) (closes : Closes file above) (parts : AllAt file built_in_parts (all_members file) q) where
+module _ (file : t.File) (above : List (List ℕ)) (q : Parts) (c : Collects file above) (closes : Closes file above) (founded : IsFounded file) (parts : AllAt file built_in_parts (all_members file) q) where
   abbrev core : CoreData
   core = core_with file above q
 
@@ -103,9 +108,6 @@ module _ (file : t.File) (above : List (List ℕ)) (q : Parts) (c : Collects fil
     λ n l h. let r = map_get (λ (x : EntityDef). x.above) core.entities n l h in subst (IsAbove file n) r.2 (entity_above n r.0 r.1),
   )
 
-  same_above : above ≡ above_of core
-  same_above = one_closing file above (above_of core) closes above_closes
-
   built_in : HasBuiltIn core
   built_in = record {
     none = refl;
@@ -124,7 +126,7 @@ module _ (file : t.File) (above : List (List ℕ)) (q : Parts) (c : Collects fil
   -- ---- the file's entities
 
   own_method : (i j : ℕ) (e : t.Entity) (m : Member) → slice_get file.entities i ≡ Some e → slice_get (members file.entities e) j ≡ Some m
-      → (y : Method) × (slice_get core.methods (1 + starts file.entities file.entities i + j) ≡ Some y) × MethodStands file core (1 + starts file.entities file.entities i + j) (owned (first_own + i) e m) y
+      → (y : Method) × (slice_get core.methods (1 + starts file.entities file.entities i + j) ≡ Some y) × MethodStands core (members file.entities e) (first_own + i) e m (1 + starts file.entities file.entities i + j) y
   own_method i j e m h g =
       let o : Owned = owned (first_own + i) e m in
       let a : At file q (1 + starts file.entities file.entities i + j) o = own_at file above q c parts i j e m h g in
@@ -152,11 +154,13 @@ module _ (file : t.File) (above : List (List ℕ)) (q : Parts) (c : Collects fil
       let numbers = numbers_match (entity_names file) e.provides c.names (λ n g. provided i e n h g) in
       record {
         kind = refl;
-        cap = refl;
+        cap = cap_said e.kind e.cap (default_cap e.kind e.cap) refl;
         name = refl;
         span = refl;
         provides = (numbers.0, λ k n b x y. named n b (numbers.1 k n b x y));
         fields = map_matches (FieldStands core) (field_of (texts_of file) (known_of file)) e.fields (λ f g. field_stands i e f h g);
+        members = members file.entities e;
+        are_members = members_have file above founded closes e (i, h);
         count = refl;
         methods = λ j m g. own_method i j e m h g;
       }
@@ -167,10 +171,16 @@ module _ (file : t.File) (above : List (List ℕ)) (q : Parts) (c : Collects fil
       let count = parts.count in
       (refl, (refl, (refl, (refl, (refl, (refl, subst (λ k. Follow 1 (map methods_run (entities_from file above first_own 1 file.entities)) k) (sym count) own))))))
 
-  pub stands_for : name_faults file above ≡ [] → length (texts_of file) < 2 ^ 32 → IsCoreOf file core
-  stands_for none few = record {
+  methods_limited : length core.methods ≤ 1 + method_limit
+  methods_limited =
+      let count : length q.methods ≡ 1 + length (all_members file) = parts.count in
+      let few : length (all_members file) ≤ method_limit = members_limited file above c in
+      omega (arith, count, few)
+
+  pub stands_for : NamesAreRight file → length (texts_of file) < 2 ^ 32 → IsCoreOf file core
+  stands_for fit few = record {
     above = above_closes;
-    no_fault = subst (λ a. name_faults file a ≡ []) same_above none;
+    names_are_right = fit;
     texts = texts_are_firsts file;
     few_texts = few;
     built_in = built_in;
@@ -178,6 +188,7 @@ module _ (file : t.File) (above : List (List ℕ)) (q : Parts) (c : Collects fil
     methods_follow = methods_follow;
     slots_follow = parts.good.slots_follow;
     nodes_follow = parts.good.nodes_follow;
+    few_methods = methods_limited;
     few_nodes = parts.good.nodes;
   }
 
@@ -187,4 +198,4 @@ pub made_cores_stand : MadeCoresStand
 made_cores_stand file core made =
     let above = made.0.above in
     let w = stands_with file above core made.2 in
-    subst (IsCoreOf file) w.2 (stands_for file above w.0 (collects file made.0 made.1) made.1.above (parts_are file w.0 w.1) made.1.faults made.3)
+    subst (IsCoreOf file) w.2 (stands_for file above w.0 (collects file made.0 made.1) made.1.above (collected_founded file made.0 made.1) (parts_are file w.0 w.1) (names_are_right file made.0 made.1) made.3)

@@ -1,10 +1,16 @@
 pub mod Lists
+pub mod Mirror
 pub mod Numbers
 pub mod Texts
 pub mod Types
 pub mod Contexts
 pub mod Members
+pub mod Firsts
+pub mod Inherited
+pub mod NoFaults
+pub mod Sound
 pub mod Files
 pub mod Equals
 pub mod Walks
 pub mod Ones
+pub mod Exists

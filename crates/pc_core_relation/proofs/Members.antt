@@ -33,10 +33,10 @@ use Rattle.pc_file_spec.proofs.Parts.{At, AllAt}
 use Rattle.pc_file_spec.proofs.Settings.{all_members, method_at}
 use Rattle.pc_core_relation.specs.Lists.{Match}
 use Rattle.pc_core_relation.specs.Types.{IsType, IsWritten}
-use Rattle.pc_core_relation.specs.Contexts.{context_in}
 use Rattle.pc_core_relation.specs.Numbers.{IsNumbered}
-use Rattle.pc_core_relation.specs.Methods.{params_in, ParamStands, IsAnswer, IsWordResult, IsResult, LocalStands, rose_of, faults_in, BodyIs, MethodStands}
+use Rattle.pc_core_relation.specs.Methods.{ParamStands, LocalStands, BodyIs, MethodStands}
 use Rattle.pc_core_relation.proofs.Lists.{match_none, map_matches}
+use Rattle.pc_core_relation.proofs.Mirror.{params_in, AnswerIs, WordResultIs, ResultIs, rose_of, faults_in, owned_context, ByTables, said}
 use Rattle.pc_core_relation.proofs.Numbers.{numbered_in, what_is_put_is_numbered}
 use Rattle.pc_core_relation.proofs.Types.{entity_name, type_is, is_type, type_there}
 use Rattle.pc_core_relation.proofs.Contexts.{all_names, seen_same, context_same, text_there}
@@ -75,15 +75,15 @@ module _ (file : t.File) (above : List (List ℕ)) (q : Parts) (c : Collects fil
   params_stand e added s = match_none (ParamStands core)
   params_stand e (written x) s = map_matches (ParamStands core) (param_of (known_of file)) x.params (λ p h. record { ty = type_stands p.ty ((types_are file above e x c s).params p h); span = refl })
 
-  answer_stands : (r : Option TypeRef) → ((ty : TypeRef) → r ≡ Some ty → Has (entity_names file) ty.name.text) → IsAnswer core r (written_result (known_of file) r)
+  answer_stands : (r : Option TypeRef) → ((ty : TypeRef) → r ≡ Some ty → Has (entity_names file) ty.name.text) → AnswerIs core r (written_result (known_of file) r)
   answer_stands None h = refl
   answer_stands (Some ty) h = ((type_in (known_of file) ty).1, type_stands ty (h ty refl), refl)
 
-  result_stands : (o : Owned) (m : Member) → Sort file o.owner m → IsResult core o m (result_of (known_of file) o.owner.kind o.number m)
+  result_stands : (o : Owned) (m : Member) → Sort file o.owner m → ResultIs core o m (result_of (known_of file) o.owner.kind o.number m)
   result_stands o added s = refl
   result_stands o (written x) s = by x.word
     where
-      by : (w : MethodWord) → IsWordResult core o x w (word_result (known_of file) o.owner.kind o.number x w)
+      by : (w : MethodWord) → WordResultIs core o.owner.kind o.number x w (word_result (known_of file) o.owner.kind o.number x w)
       by word.Fun = answer_stands x.result (types_are file above o.owner x c s).result
       by word.Be = refl
       by word.New = refl
@@ -129,10 +129,10 @@ module _ (file : t.File) (above : List (List ℕ)) (q : Parts) (c : Collects fil
           subst (λ r. BodyIs core number this_method r) (sym some) (y.0, last, stands)
     ]
 
-    own_stands : Has file.entities o.owner → Has (members file.entities o.owner) o.member → MethodStands file core number o this_method
+    own_stands : Has file.entities o.owner → Has (members file.entities o.owner) o.member → ByTables core (members file.entities o.owner) number o this_method
     own_stands he hm =
         let sort : Sort file o.owner o.member = sort_of file above o.owner o.member c he hm in
-        let same : context_in file core o ≡ own = context_same file above q c parts o in
+        let same : owned_context core (members file.entities o.owner) o ≡ own = context_same file above q c parts o in
         record {
           entity = refl;
           name = text_found (known.texts_of file) (member_text o.member) (text_there file above o.owner o.member c he hm);
@@ -147,5 +147,5 @@ module _ (file : t.File) (above : List (List ℕ)) (q : Parts) (c : Collects fil
           body = subst (λ x. BodyIs core number this_method (rose_of x o.owner o.member)) (sym same) body_stands;
         }
 
-    pub member_stands : Has file.entities o.owner → Has (members file.entities o.owner) o.member → MethodStands file core m o this_method
-    member_stands he hm = subst (λ k. MethodStands file core k o this_method) a.number (own_stands he hm)
+    pub member_stands : Has file.entities o.owner → Has (members file.entities o.owner) o.member → MethodStands core (members file.entities o.owner) o.number o.owner o.member m this_method
+    member_stands he hm = said core (members file.entities o.owner) m o.number o.owner o.member this_method (subst (λ k. ByTables core (members file.entities o.owner) k o this_method) a.number (own_stands he hm))

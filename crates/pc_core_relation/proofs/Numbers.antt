@@ -25,7 +25,7 @@ mutual
   all_front nodes extra m from no_roses ks next h = h
   all_front nodes extra m from (more r rs) ks next h = (h.0, h.1, h.2, numbered_front nodes extra m from r h.0 h.3, all_front nodes extra m (h.0 + 1) rs h.1 next h.4)
 
--- So it is in a list that goes on behind another.
+-- So it is in a list that goes on after another.
 pub numbered_in : (nodes all extra : List Node) (m from : ℕ) (r : Rose) (n : ℕ) → all ≡ nodes ++ extra → IsNumbered nodes m from r n → IsNumbered all m from r n
 numbered_in nodes all extra m from r n e h = subst (λ ns. IsNumbered ns m from r n) (sym e) (numbered_front nodes extra m from r n h)
 

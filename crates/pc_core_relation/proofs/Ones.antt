@@ -6,11 +6,11 @@ use Rattle.std.proofs.lemmas.List.{length-map}
 use Rattle.pc_caps.specs.declared.capability.Cap.{Cap}
 use Rattle.pc_caps.specs.declared.capability.Cap.TheVariants as cap
 use Rattle.pc_caps.specs.declared.span.Span.{Span}
-use Rattle.pc_lists.specs.Places.{Differ}
+use Rattle.pc_lists.specs.Places.{Differ, Each}
 use Rattle.pc_lists.specs.Ranges.{Follow}
 use Rattle.pc_lists.proofs.Cuts.{drop_item}
 use Rattle.pc_lists.proofs.Elements.{differ_none}
-use Rattle.pc_lists.proofs.Gets.{get_map, get_append, get_drop, get_range}
+use Rattle.pc_lists.proofs.Gets.{get_map, map_get, get_append, get_drop, get_range}
 use Rattle.pc_lists.proofs.Ranges.{run_within}
 use Rattle.pc_tree.specs.declared.kinds.EntityKind.{EntityKind}
 use Rattle.pc_tree.specs.declared.kinds.EntityKind.TheVariants as kind
@@ -27,10 +27,11 @@ use Rattle.pc_core.specs.Lookup.{own_methods}
 use Rattle.pc_members.specs.Words as words
 use Rattle.pc_lists.specs.Texts.{Text}
 use Rattle.pc_members.specs.Words.{built_in_names, entity_names}
-use Rattle.pc_members.specs.Chains.{numbers_of}
+use Rattle.pc_members.specs.Chains.{IsFounded, numbers_of}
 use Rattle.pc_tree.specs.BuiltIn.{first_own}
-use Rattle.pc_members.specs.Members.{members}
+use Rattle.pc_members.specs.Members.{Member, members}
 use Rattle.pc_members.specs.Reach.{or_nil}
+use Rattle.pc_names.specs.Counts.{count_faults}
 use Rattle.pc_names.specs.Names.{NamesData, Collected}
 use Rattle.pc_file_spec.specs.Members.{Owned, owned, members_from}
 use Rattle.pc_file_spec.specs.Known.{texts_of, known_of, known_from, default_cap, constructors_from}
@@ -54,6 +55,9 @@ use Rattle.pc_core_relation.proofs.Types.{entity_name, numbers_one}
 use Rattle.pc_core_relation.proofs.Contexts.{Tells, among_same, seen, six}
 use Rattle.pc_core_relation.proofs.Equals.{field_one}
 use Rattle.pc_core_relation.proofs.Walks.{walk}
+use Rattle.pc_core_relation.proofs.Inherited.{members_one}
+use Rattle.pc_core_relation.proofs.Mirror.{ByTables, cap_meant, meant}
+use Rattle.pc_core_relation.proofs.NoFaults.{names_founded, no_counts, no_faults}
 
 -- ---- lists
 
@@ -138,14 +142,8 @@ module _ (file : t.File) (core : CoreData) where
     print_is : s.built_in.print ≡ 1
     print_is = numbered 1 s.built_in.print (codes "print") (language_kept file 1 (codes "print") refl) s.built_in.print_name
 
-    abbrev names : NamesData
-    names = record { entities = entity_names file; texts = []; above = above_of core }
-
-    collected : Collected file names
-    collected = record { faults = s.no_fault; entities = refl; above = s.above; texts = differ_none }
-
-    sound : Collects file (above_of core)
-    sound = collects file names collected
+    founded : IsFounded file
+    founded = names_founded file s.names_are_right
 
     abbrev own : List EntityDef
     own = drop first_own core.entities
@@ -176,16 +174,50 @@ module _ (file : t.File) (core : CoreData) where
         let r = s.entities i e h in
         subst (λ y. EntityStands file core (first_own + i) e y) (same_Some r.0 x (sym r.1 ∙ own_get i x g)) r.2
 
-    all_named : map entity_name core.entities ≡ entity_names file
-    all_named = ap (map entity_name) split ∙ ap (λ xs. built_in_names ++ xs) (own_names file.entities own own_count (λ i e x h g. (own_stands i e x h g).name))
+    -- The members of an entity are those that are computed.
+    members_same : (i n : ℕ) (e : t.Entity) (x : EntityDef) → slice_get file.entities i ≡ Some e → (st : EntityStands file core n e x) → st.members ≡ members file.entities e
+    members_same i n e x h st = members_one file (above_of core) founded s.above e st.members (i, h) st.are_members
 
-    entities_differ : Differ (map entity_name core.entities)
-    entities_differ = subst Differ (sym all_named) sound.names
+    count_same : (i n : ℕ) (e : t.Entity) (x : EntityDef) → slice_get file.entities i ≡ Some e → EntityStands file core n e x → x.methods ≡ length (members file.entities e)
+    count_same i n e x h st = st.count ∙ ap length (members_same i n e x h st)
+
+    abbrev MembersStand : ℕ → t.Entity → EntityDef → List Member → Type 0
+    MembersStand n e x ms = Each (λ j member. (y : Method) × (slice_get core.methods (x.first_method + j) ≡ Some y) × MethodStands core ms n e member (x.first_method + j) y) ms
+
+    methods_stand : (i n : ℕ) (e : t.Entity) (x : EntityDef) → slice_get file.entities i ≡ Some e → EntityStands file core n e x → (j : ℕ) (member : Member) → slice_get (members file.entities e) j ≡ Some member
+        → (y : Method) × (slice_get core.methods (x.first_method + j) ≡ Some y) × ByTables core (members file.entities e) (x.first_method + j) (owned n e member) y
+    methods_stand i n e x h st j member g =
+        let all : MembersStand n e x (members file.entities e) = subst (MembersStand n e x) (members_same i n e x h st) st.methods in
+        let r = all j member g in
+        (r.0, r.1, meant core (members file.entities e) (x.first_method + j) n e member r.0 r.2)
 
     own_follow : Follow 1 (map methods_run own) (length core.methods)
     own_follow =
         let all : Follow 0 (map methods_run (built_ins ++ own)) (length core.methods) = subst (λ xs. Follow 0 (map methods_run xs) (length core.methods)) split s.methods_follow in
         all.1.1.1.1.1.1
+
+    counts_none : count_faults file.entities 0 file.entities ≡ []
+    counts_none =
+        let size : length own ≡ length (map methods_run own) = sym (length-map own methods_run) in
+        no_counts file.entities file.entities (map methods_run own) 0 1 (length core.methods) (own_count ∙ size) own_follow refl s.few_methods
+        (λ i e run h g.
+        let r = map_get methods_run own i run g in
+        ap (λ (q : ℕ × ℕ). q.1) (sym r.2) ∙ count_same i (first_own + i) e r.0 h (own_stands i e r.0 h r.1))
+
+    abbrev names : NamesData
+    names = record { entities = entity_names file; texts = []; above = above_of core }
+
+    collected : Collected file names
+    collected = record { faults = no_faults file (above_of core) s.above s.names_are_right counts_none; entities = refl; above = s.above; texts = differ_none }
+
+    sound : Collects file (above_of core)
+    sound = collects file names collected
+
+    all_named : map entity_name core.entities ≡ entity_names file
+    all_named = ap (map entity_name) split ∙ ap (λ xs. built_in_names ++ xs) (own_names file.entities own own_count (λ i e x h g. (own_stands i e x h g).name))
+
+    entities_differ : Differ (map entity_name core.entities)
+    entities_differ = subst Differ (sym all_named) sound.names
 
     methods_split : core.methods ≡ print_method 1 ∷ drop 1 core.methods
     methods_split = sym (drop_none core.methods) ∙ drop_item core.methods 0 _ (s.built_in.method ∙ ap (λ n. Some (print_method n)) print_is)
@@ -195,15 +227,16 @@ module _ (file : t.File) (core : CoreData) where
     own_seen : (i : ℕ) (e : t.Entity) (x : EntityDef) → slice_get file.entities i ≡ Some e → slice_get own i ≡ Some x → IsSeen e x
     own_seen i e x h g =
         let st : EntityStands file core (first_own + i) e x = own_stands i e x h g in
+        let count : x.methods ≡ length (members file.entities e) = count_same i (first_own + i) e x h st in
         let within : x.first_method + x.methods ≤ length core.methods = (run_within 1 (map methods_run own) (length core.methods) i (methods_run x) own_follow (get_map methods_run own i x g)).1 in
         let tells : Match (Tells core.names e.kind) (members file.entities e) (own_methods core x) = (
-          sym st.count ∙ sym (range_count core.methods x.first_method x.methods within),
+          sym count ∙ sym (range_count core.methods x.first_method x.methods within),
           λ j m y a b.
-              let r = st.methods j m a in
+              let r = methods_stand i (first_own + i) e x h st j m a in
               let same : r.0 ≡ y = same_Some r.0 y (sym r.1 ∙ (get_range core.methods x.first_method (x.first_method + x.methods) j y b).1) in
               subst (Tells core.names e.kind m) same (r.2.kind, r.2.name),
         ) in
-        record { name = st.name; kind = st.kind; cap = st.cap; count = st.count; constructors = among_same core.names e.kind (members file.entities e) x.first_method (own_methods core x) tells }
+        record { name = st.name; kind = st.kind; cap = cap_meant e.kind e.cap x.cap st.cap; count = count; constructors = among_same core.names e.kind (members file.entities e) x.first_method (own_methods core x) tells }
 
     stream_none : constructors_among core.names 0 (slice_range core.methods 0 1) ≡ []
     stream_none = ap (λ ms. constructors_among core.names 0 (slice_range ms 0 1)) methods_split
@@ -225,10 +258,10 @@ module _ (file : t.File) (core : CoreData) where
         let provides : numbers_of (entity_names file) e.provides ≡ x.provides = numbers_one (entity_names file) e.provides x.provides sound.names (st.provides.0, λ k n b y z. named_get n b (st.provides.1 k n b y z)) in
         let above : slice_get (above_of core) (first_own + i) ≡ Some x.above = get_map (λ (y : EntityDef). y.above) core.entities (first_own + i) x (own_get i x g) in
         let fields : map (field_of core.names (known_of file)) e.fields ≡ x.fields = match_one (FieldStands core) (field_of core.names (known_of file)) (field_one core (known_of file) seen_same entities_differ names_differ) e.fields x.fields st.fields in
-        ap₂ (λ k c. entity k c x.name x.span x.provides x.above x.fields x.first_method x.methods) st.kind st.cap
+        ap₂ (λ k c. entity k c x.name x.span x.provides x.above x.fields x.first_method x.methods) st.kind (cap_meant e.kind e.cap x.cap st.cap)
         ∙ ap₂ (λ n z. entity e.kind (default_cap e.kind e.cap) n z x.provides x.above x.fields x.first_method x.methods) st.name st.span
         ∙ ap₂ (λ p a. entity e.kind (default_cap e.kind e.cap) e.name.text e.name.span p a x.fields x.first_method x.methods) (sym provides) (sym (ap or_nil above))
-        ∙ ap₂ (λ fs c. entity e.kind (default_cap e.kind e.cap) e.name.text e.name.span (numbers_of (entity_names file) e.provides) (or_nil (slice_get (above_of core) (first_own + i))) fs x.first_method c) (sym fields ∙ ap (λ xs. map (field_of xs (known_of file)) e.fields) texts_same) st.count
+        ∙ ap₂ (λ fs c. entity e.kind (default_cap e.kind e.cap) e.name.text e.name.span (numbers_of (entity_names file) e.provides) (or_nil (slice_get (above_of core) (first_own + i))) fs x.first_method c) (sym fields ∙ ap (λ xs. map (field_of xs (known_of file)) e.fields) texts_same) (count_same i (first_own + i) e x h st)
 
     entities_same : core.entities ≡ built_ins ++ entities_from file (above_of core) first_own 1 file.entities
     entities_same = split ∙ ap (λ xs. built_ins ++ xs) (entities_own file.entities own first_own 1 (length core.methods) own_count own_follow entity_one)
@@ -243,20 +276,20 @@ module _ (file : t.File) (core : CoreData) where
         let same : own ≡ entities_from file (above_of core) first_own 1 file.entities = entities_own file.entities own first_own 1 (length core.methods) own_count own_follow entity_one in
         follow_ends 1 (map methods_run own) (length core.methods) (1 + length all) own_follow (subst (λ xs. Follow 1 (map methods_run xs) (1 + length all)) (sym same) (members_follow file (above_of core) file.entities first_own 1))
 
-    member_stands : (i : ℕ) (o : Owned) (x : Method) → slice_get all i ≡ Some o → slice_get (drop 1 core.methods) i ≡ Some x → MethodStands file core (1 + i) o x
+    member_stands : (i : ℕ) (o : Owned) (x : Method) → slice_get all i ≡ Some o → slice_get (drop 1 core.methods) i ≡ Some x → ByTables core (members file.entities o.owner) (1 + i) o x
     member_stands i o x h g =
         let w : Owner file.entities file.entities first_own i o = owner_of file.entities file.entities first_own i o h in
         let r = s.entities w.entity o.owner w.is_owner in
         let there : slice_get core.entities (first_own + w.entity) ≡ Some (entity_of file (above_of core) (first_own + w.entity) (1 + starts file.entities file.entities w.entity) o.owner) =
         ap (λ xs. slice_get xs (first_own + w.entity)) entities_same ∙ get_append built_ins (entities_from file (above_of core) first_own 1 file.entities) w.entity ∙ entity_at file (above_of core) file.entities first_own 1 w.entity o.owner w.is_owner in
         let first : r.0.first_method ≡ 1 + starts file.entities file.entities w.entity = ap (λ (y : EntityDef). y.first_method) (same_Some r.0 _ (sym r.1 ∙ there)) in
-        let k = r.2.methods w.place o.member w.is_member in
+        let k = methods_stand w.entity (first_own + w.entity) o.owner r.0 w.is_owner r.2 w.place o.member w.is_member in
         let place = w.is_place in
         let number : r.0.first_method + w.place ≡ 1 + i = omega (arith, first, place) in
         let here : slice_get core.methods (1 + i) ≡ Some x = sym (get_drop core.methods 1 i) ∙ g in
         let same : k.0 ≡ x = same_Some k.0 x (sym k.1 ∙ ap (slice_get core.methods) number ∙ here) in
         let owner : owned (first_own + w.entity) o.owner o.member ≡ o = ap (λ n. owned n o.owner o.member) (sym w.number) in
-        subst (λ z. MethodStands file core (1 + i) z x) owner (subst (λ y. MethodStands file core (1 + i) (owned (first_own + w.entity) o.owner o.member) y) same (subst (λ n. MethodStands file core n (owned (first_own + w.entity) o.owner o.member) k.0) number k.2))
+        subst (λ z. ByTables core (members file.entities o.owner) (1 + i) z x) owner (subst (λ y. ByTables core (members file.entities o.owner) (1 + i) (owned (first_own + w.entity) o.owner o.member) y) same (subst (λ n. ByTables core (members file.entities o.owner) n (owned (first_own + w.entity) o.owner o.member) k.0) number k.2))
 
     parts_same : parts_of file ≡ Ok (record { methods = core.methods; slots = core.slots; nodes = core.nodes })
     parts_same =

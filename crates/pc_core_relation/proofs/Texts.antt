@@ -1,7 +1,7 @@
 -- A list of texts, each at its first appearance.
-use Rattle.std.proofs.Common.{◌≡◌, ℕ, zero, suc, ◌<◌, List, [], ◌∷◌, ◌++◌, Some, Bool, true, false, refl, sym, ap, ◌∙◌, subst, arith, if◌then◌else◌, inl, inr, append_assoc, append-nil}
-use Rattle.std.specs.Prelude.{slice_get, codes}
-use Rattle.std.proofs.lemmas.Option.{same_Some, none-some}
+use Rattle.std.proofs.Common.{◌≡◌, ◌<◌, List, [], ◌∷◌, ◌++◌, Bool, true, false, refl, sym, ap, ◌∙◌, subst, arith, if◌then◌else◌, inl, inr, append_assoc, append-nil}
+use Rattle.std.specs.Prelude.{codes}
+use Rattle.std.proofs.lemmas.Option.{none-some}
 use Rattle.pc_lists.specs.Places.{Has}
 use Rattle.pc_lists.proofs.Bools.{true_false}
 use Rattle.pc_lists.proofs.Elements.{has_front, has_behind, has_either}
@@ -16,12 +16,9 @@ use Rattle.pc_names.specs.Texts.{with_members}
 use Rattle.pc_body_spec.specs.Texts.{entities_texts}
 use Rattle.pc_file_spec.specs.Known.{texts_of}
 use Rattle.pc_core_relation.specs.Texts.{declared_texts, needed_texts, Before, AreFirsts}
+use Rattle.pc_core_relation.proofs.Lists.{only_one, one_order}
 
 -- ---- a list that grows
-
-only_one : (x y : Text) → Has (x ∷ []) y → x ≡ y
-only_one x y (zero, g) = same_Some x y g
-only_one x y (suc i, g) = absurd (none-some y g)
 
 before_front : (all more : List Text) (x y : Text) → Before all x y → Before (all ++ more) x y
 before_front all more x y b = (
@@ -87,40 +84,11 @@ firsts_of xs = firsts_behind xs [] [] (record { same = λ y. (λ (h : Has [] y).
 
 -- ---- there is one such list
 
-module _ (all : List Text) where
-  abbrev Ordered : List Text → Type 0
-  Ordered xs = (i j : ℕ) (x y : Text) → i < j → slice_get xs i ≡ Some x → slice_get xs j ≡ Some y → Before all x y
-
-  not_both : (x y : Text) → Before all x y → Before all y x → ⊥
-  not_both x y a b = let l : a.0 < b.0 = a.2 b.0 b.1 in let m : b.0 < a.0 = b.2 a.0 a.1 in omega (arith, l, m)
-
-  rest_ordered : (x : Text) (xs : List Text) → Ordered (x ∷ xs) → Ordered xs
-  rest_ordered x xs o i j y z l h g = let m : suc i < suc j = omega (arith, l) in o (suc i) (suc j) y z m h g
-
-  first_is : (x y : Text) (xs ys : List Text) → Ordered (x ∷ xs) → Ordered (y ∷ ys) → Has (y ∷ ys) x → Has (x ∷ xs) y → x ≡ y
-  first_is x y xs ys o p (zero, g) k = sym (same_Some y x g)
-  first_is x y xs ys o p (suc i, g) (zero, h) = same_Some x y h
-  first_is x y xs ys o p (suc i, g) (suc j, h) = absurd (not_both x y (o 0 (suc j) x y (omega arith) refl h) (p 0 (suc i) y x (omega arith) refl g))
-
-  rest_has : (x y z : Text) (xs ys : List Text) → x ≡ y → Ordered (x ∷ xs) → Has xs z → Has (y ∷ ys) z → Has ys z
-  rest_has x y z xs ys e o h (suc i, g) = (i, g)
-  rest_has x y z xs ys e o h (zero, g) =
-      let same : x ≡ z = e ∙ same_Some y z g in
-      let self : Before all x x = subst (Before all x) (sym same) (o 0 (suc h.0) x z (omega arith) refl h.1) in
-      absurd (not_both x x self self)
-
-  one_order : (xs ys : List Text) → Ordered xs → Ordered ys → ((x : Text) → Has xs x → Has ys x) → ((x : Text) → Has ys x → Has xs x) → xs ≡ ys
-  one_order [] [] o p f g = refl
-  one_order [] (y ∷ ys) o p f g = absurd (none-some y (g y (0, refl)).1)
-  one_order (x ∷ xs) [] o p f g = absurd (none-some x (f x (0, refl)).1)
-  one_order (x ∷ xs) (y ∷ ys) o p f g =
-      let e : x ≡ y = first_is x y xs ys o p (f x (0, refl)) (g y (0, refl)) in
-      let rest : xs ≡ ys = one_order xs ys (rest_ordered x xs o) (rest_ordered y ys p)
-      (λ z h. rest_has x y z xs ys e o h (f z (suc h.0, h.1))) (λ z h. rest_has y x z ys xs (sym e) p h (g z (suc h.0, h.1))) in
-      ap (λ z. z ∷ xs) e ∙ ap (λ zs. y ∷ zs) rest
-
-  firsts_one : (one other : List Text) → AreFirsts all one → AreFirsts all other → one ≡ other
-  firsts_one one other a b = one_order one other a.order b.order (λ x h. (b.same x).1 ((a.same x).0 h)) (λ x h. (a.same x).1 ((b.same x).0 h))
+firsts_one : (all one other : List Text) → AreFirsts all one → AreFirsts all other → one ≡ other
+firsts_one all one other a b = one_order (Before all) not_both one other a.order b.order (λ x h. (b.same x).1 ((a.same x).0 h)) (λ x h. (a.same x).1 ((b.same x).0 h))
+  where
+    not_both : (x y : Text) → Before all x y → Before all y x → ⊥
+    not_both x y a b = let l : a.0 < b.0 = a.2 b.0 b.1 in let m : b.0 < a.0 = b.2 a.0 a.1 in omega (arith, l, m)
 
 -- ---- the texts of a file
 

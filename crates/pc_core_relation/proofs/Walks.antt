@@ -19,7 +19,7 @@ use Rattle.pc_core.specs.declared.nodes.SlotKind.TheVariants as slot
 use Rattle.pc_core.specs.CoreData.{CoreData}
 use Rattle.pc_core.specs.Lookup.{own_slots, node_end}
 use Rattle.pc_core.specs.Methods.{param_slot, this_slot}
-use Rattle.pc_members.specs.Members.{Member, written, added, member_text, member_span}
+use Rattle.pc_members.specs.Members.{Member, written, added, members, member_text, member_span}
 use Rattle.pc_body_spec.specs.Roses.{Rose, put}
 use Rattle.pc_caps.specs.Limits.{node_limit}
 use Rattle.pc_body_spec.specs.Scopes.{Context, Known, text_from}
@@ -31,13 +31,14 @@ use Rattle.pc_file_spec.specs.Signatures.{context_of, slots_from, locals_of, par
 use Rattle.pc_file_spec.specs.Parts.{Parts, outcome, with_outcome, and_member, and_members, if_ok}
 use Rattle.pc_file_spec.proofs.Steps.{member_rose, member_faults, member_names, slots_count}
 use Rattle.pc_file_spec.proofs.Parts.{slots_run, nodes_run}
-use Rattle.pc_core_relation.specs.Contexts.{seen_entities, context_in}
-use Rattle.pc_core_relation.specs.Methods.{LocalStands, rose_of, faults_in, BodyIs, MethodStands}
+use Rattle.pc_core_relation.specs.Contexts.{seen_entities}
+use Rattle.pc_core_relation.specs.Methods.{LocalStands, BodyIs}
 use Rattle.pc_core_relation.proofs.Lists.{match_one, range_count, take_count, take_run}
 use Rattle.pc_core_relation.proofs.Numbers.{what_is_numbered_is_put, numbered_from}
 use Rattle.pc_core_relation.proofs.Types.{entity_name}
 use Rattle.pc_core_relation.proofs.Equals.{text_one, params_one, result_one, local_one}
 use Rattle.pc_core_relation.proofs.Members.{rose_same, faults_same}
+use Rattle.pc_core_relation.proofs.Mirror.{rose_of, faults_in, owned_context, ByTables}
 
 -- ---- what becomes of a member without a fault
 
@@ -50,7 +51,7 @@ outcome_ok c m e added before r f n h =
     ap (λ fs. unless_fault fs (unless_full (member_names e added) (put_body m e.name.span (member_rose c e added) before))) f
     ∙ ap (λ o. unless_name o (put_body m e.name.span (member_rose c e added) before)) n ∙ h e.name.span
 
--- A body that stands is put behind the nodes before it.
+-- A body that stands is put after the nodes before it.
 body_put : (core : CoreData) (m : ℕ) (s : Span) (x : Method) (o : Option Rose) (before : List Node) → length core.nodes ≤ node_limit → before ≡ take x.first_node core.nodes → BodyIs core m x o
     → put_body m s o before ≡ Ok (x.body, take (node_end x.first_node x.body) core.nodes)
 body_put core m s x None before few e h = ap (λ (ns : List Node). Ok (None, ns)) e ∙ ap (λ (b : Option ℕ). Ok (b, take (node_end x.first_node b) core.nodes)) (sym h)
@@ -87,12 +88,12 @@ method entity name kind receiver params result first_slot slots first_node body 
 }
 
 module _ (file : t.File) (core : CoreData) (texts : core.names ≡ texts_of file) (names : Differ core.names) (seen : seen_entities core ≡ known_of file) (differ : Differ (map entity_name core.entities)) (few : length core.nodes ≤ node_limit) where
-  same_context : (o : Owned) → context_in file core o ≡ context_of file o
+  same_context : (o : Owned) → owned_context core (members file.entities o.owner) o ≡ context_of file o
   same_context o = ap₂ (λ ks xs. seeing (context_of file o) ks xs) seen texts
 
   -- ---- one method
 
-  module _ (m : ℕ) (o : Owned) (x : Method) (s : MethodStands file core m o x) where
+  module _ (m : ℕ) (o : Owned) (x : Method) (s : ByTables core (members file.entities o.owner) m o x) where
     abbrev own : Context
     own = context_of file o
 
@@ -128,7 +129,7 @@ module _ (file : t.File) (core : CoreData) (texts : core.names ≡ texts_of file
         outcome_ok own m o.owner o.member before (x.body, take (node_end x.first_node x.body) core.nodes) sound none (λ z. body_put core m z x (member_rose own o.owner o.member) before few e body)
 
     nodes_behind : x.first_node ≤ node_end x.first_node x.body
-    nodes_behind = end_behind core m x (rose_of (context_in file core o) o.owner o.member) s.body
+    nodes_behind = end_behind core m x (rose_of (owned_context core (members file.entities o.owner) o) o.owner o.member) s.body
 
   -- ---- all methods
 
@@ -140,7 +141,7 @@ module _ (file : t.File) (core : CoreData) (texts : core.names ≡ texts_of file
 
   -- From these members on, with the methods that stand for them.
   pub walk : (os : List Owned) (ms : List Method) (front : List Method) (a b : ℕ) → front ++ ms ≡ core.methods → Follow a (map slots_run ms) (length core.slots) → Follow b (map nodes_run ms) (length core.nodes) → length os ≡ length ms
-      → ((i : ℕ) (o : Owned) (x : Method) → slice_get os i ≡ Some o → slice_get ms i ≡ Some x → MethodStands file core (length front + i) o x)
+      → ((i : ℕ) (o : Owned) (x : Method) → slice_get os i ≡ Some o → slice_get ms i ≡ Some x → ByTables core (members file.entities o.owner) (length front + i) o x)
       → and_members file (parts front (take a core.slots) (take b core.nodes)) os ≡ Ok whole
   walk [] [] front a b e fs fn l h =
       let methods : front ≡ core.methods = sym (append-nil front) ∙ e in
@@ -154,7 +155,7 @@ module _ (file : t.File) (core : CoreData) (texts : core.names ≡ texts_of file
       let p : Parts = parts front (take a core.slots) (take b core.nodes) in
       let c : Context = context_of file o in
       let zeros : m + 0 ≡ m = omega arith in
-      let s : MethodStands file core m o x = subst (λ k. MethodStands file core k o x) zeros (h 0 o x refl refl) in
+      let s : ByTables core (members file.entities o.owner) m o x = subst (λ k. ByTables core (members file.entities o.owner) k o x) zeros (h 0 o x refl refl) in
       let in_slots = (run_within a (map slots_run (x ∷ ms)) (length core.slots) 0 (slots_run x) fs refl).1 in
       let in_nodes = (run_within b (map nodes_run (x ∷ ms)) (length core.nodes) 0 (nodes_run x) fn refl).1 in
       let room : x.first_slot + x.slots ≤ length core.slots = omega (arith, in_slots) in
@@ -180,5 +181,5 @@ module _ (file : t.File) (core : CoreData) (texts : core.names ≡ texts_of file
       let ends : b + (last - x.first_node) ≡ last = omega (arith, behind, first_node) in
       let shorter : length os ≡ length ms = omega (arith, l) in
       let rest = walk os ms (front ++ x ∷ []) (a + x.slots) last (append_assoc front (x ∷ []) ms ∙ e) fs.1 (subst (λ k. Follow k (map nodes_run ms) (length core.nodes)) ends fn.1) shorter
-      (λ i y z g k. subst (λ n. MethodStands file core n y z) (later i) (h (suc i) y z g k)) in
+      (λ i y z g k. subst (λ n. ByTables core (members file.entities y.owner) n y z) (later i) (h (suc i) y z g k)) in
       ap (λ t. if_ok t (λ q. and_members file q os)) step ∙ rest

@@ -9,11 +9,9 @@ use Rattle.pc_core.specs.CoreData.{CoreData}
 use Rattle.pc_core.specs.Lookup.{own_methods}
 use Rattle.pc_lists.specs.Texts.{Text}
 use Rattle.pc_members.specs.Words.{field_texts}
-use Rattle.pc_members.specs.Members.{members, member_text}
+use Rattle.pc_members.specs.Members.{Member, member_text}
 use Rattle.pc_members.specs.Reach.{or_nil}
-use Rattle.pc_body_spec.specs.Scopes.{Context, Known, Constructor}
-use Rattle.pc_file_spec.specs.Members.{Owned}
-use Rattle.pc_file_spec.specs.Signatures.{placed_of}
+use Rattle.pc_body_spec.specs.Scopes.{Context, Known, Constructor, Placed}
 
 -- A method of this kind makes an object.
 abbrev pub makes : MethodKind → Bool
@@ -38,13 +36,13 @@ seen_entity core x = record { name = x.name; kind = x.kind; cap = x.cap; constru
 abbrev pub seen_entities : CoreData → List Known
 seen_entities core = map (seen_entity core) core.entities
 
--- What the body of a member sees: the names of its entity's fields and members, the entities and texts of the core, and for
--- each of its locals, by the place of its name, the slot.
-abbrev pub context_in : t.File → CoreData → Owned → Context
-context_in file core o = record {
-  fields = field_texts o.owner.fields;
-  methods = map member_text (members file.entities o.owner);
+-- What the body of a member sees: the names of its entity's fields and of these members, the entities and texts of the core, and
+-- for each of its locals, by the place of its name, the slot.
+abbrev pub context_in : CoreData → List Member → t.Entity → List Placed → Context
+context_in core members e slots = record {
+  fields = field_texts e.fields;
+  methods = map member_text members;
   entities = seen_entities core;
   texts = core.names;
-  slots = placed_of o.owner o.member;
+  slots = slots;
 }

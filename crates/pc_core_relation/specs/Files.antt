@@ -1,5 +1,5 @@
 -- Which core stands for a file.
-use Rattle.std.specs.Prelude.{◌≡◌, ℕ, ◌+◌, ◌-◌, ◌<◌, ◌≤◌, ◌^◌, List, [], map, length, Some, slice_get}
+use Rattle.std.specs.Prelude.{◌≡◌, ℕ, ◌+◌, ◌-◌, ◌<◌, ◌≤◌, ◌^◌, List, map, length, Some, slice_get}
 use Rattle.pc_lists.specs.Places.{Each}
 use Rattle.pc_lists.specs.Ranges.{Follow}
 use Rattle.pc_tree.specs.Tree as t
@@ -9,8 +9,8 @@ use Rattle.pc_core.specs.Entities.{HasBuiltIn}
 use Rattle.pc_core.specs.Lookup.{node_end}
 use Rattle.pc_members.specs.Chains.{Closes}
 use Rattle.pc_tree.specs.BuiltIn.{first_own}
-use Rattle.pc_names.specs.Names.{name_faults}
-use Rattle.pc_caps.specs.Limits.{node_limit}
+use Rattle.pc_caps.specs.Limits.{method_limit, node_limit}
+use Rattle.pc_core_relation.specs.Names.{NamesAreRight}
 use Rattle.pc_core_relation.specs.Texts.{needed_texts, AreFirsts}
 use Rattle.pc_core_relation.specs.Entities.{EntityStands}
 
@@ -22,8 +22,8 @@ above_of core = map (λ x. x.above) core.entities
 pub record IsCoreOf (file : t.File) (core : CoreData) : Type 0 where
   -- there are as many entities as the language and the file have, and above each is what chains of `is` lead to
   pub above : Closes file (above_of core)
-  -- no name of the file is at fault
-  pub no_fault : name_faults file (above_of core) ≡ []
+  -- nothing is wrong with the names and declarations of the file
+  pub names_are_right : NamesAreRight file
   -- the texts, each once
   pub texts : AreFirsts (needed_texts file) core.names
   pub few_texts : length core.names < 2 ^ 32
@@ -34,4 +34,6 @@ pub record IsCoreOf (file : t.File) (core : CoreData) : Type 0 where
   pub methods_follow : Follow 0 (map (λ x. (x.first_method, x.methods)) core.entities) (length core.methods)
   pub slots_follow : Follow 0 (map (λ x. (x.first_slot, x.slots)) core.methods) (length core.slots)
   pub nodes_follow : Follow 0 (map (λ x. (x.first_node, node_end x.first_node x.body - x.first_node)) core.methods) (length core.nodes)
+  -- no more methods than the limit, besides that of the language, and no more nodes
+  pub few_methods : length core.methods ≤ 1 + method_limit
   pub few_nodes : length core.nodes ≤ node_limit

@@ -1,23 +1,33 @@
 -- What is true of the definitions.
-use Rattle.std.specs.Prelude.{◌≡◌, ℕ, ◌+◌, ◌≤◌, List, length, take, Some}
+use Rattle.std.specs.Prelude.{◌≡◌, ◌⊎◌, ◌↔◌, ℕ, ◌+◌, ◌<◌, ◌≤◌, ◌^◌, List, length, take, Some}
+use Rattle.pc_lists.specs.Places.{Has}
 use Rattle.pc_tree.specs.Tree as t
 use Rattle.pc_core.specs.declared.nodes.Node.{Node}
 use Rattle.pc_core.specs.CoreData.{CoreData}
+use Rattle.pc_members.specs.Members.{Member, members}
+use Rattle.pc_names.specs.declared.fault.NameFault.{NameFault}
+use Rattle.pc_names.specs.Names.{NamesData, Collected}
 use Rattle.pc_body_spec.specs.Roses.{Rose, put}
 use Rattle.pc_caps.specs.Limits.{node_limit}
-use Rattle.pc_file_spec.specs.Cores.{Stands}
+use Rattle.pc_file_spec.specs.Known.{texts_of}
+use Rattle.pc_file_spec.specs.Cores.{Stands, IsElabFault}
+use Rattle.pc_core_relation.specs.Members.{HasMembers}
 use Rattle.pc_core_relation.specs.Numbers.{IsNumbered}
 use Rattle.pc_core_relation.specs.Files.{IsCoreOf}
 
--- A rose that has been put behind some nodes is numbered there from their count on, and its own node is the last.
+-- A rose that has been put after some nodes is numbered there from their count on, and its own node is the last.
 abbrev pub WhatIsPutIsNumbered : Type 0
 WhatIsPutIsNumbered =
     (m : ℕ) (r : Rose) (n : ℕ) (before after : List Node) → put m r before ≡ Some (n, after) → IsNumbered after m (length before) r n × (length after ≡ n + 1)
 
--- A rose that is numbered in a list of not too many nodes is what has been put behind those before it.
+-- A rose that is numbered in a list of not too many nodes is what has been put after those before it.
 abbrev pub WhatIsNumberedIsPut : Type 0
 WhatIsNumberedIsPut =
     (nodes : List Node) (m from : ℕ) (r : Rose) (n : ℕ) → length nodes ≤ node_limit → IsNumbered nodes m from r n → put m r (take from nodes) ≡ Some (n, take (n + 1) nodes)
+
+-- An entity of a file whose names have no fault has one list of members: the one that is computed, with a bound on chains of `is`.
+abbrev pub MembersAreComputed : Type 0
+MembersAreComputed = (file : t.File) (names : NamesData) → Collected file names → (e : t.Entity) (ms : List Member) → Has file.entities e → HasMembers file e ms ↔ (ms ≡ members file.entities e)
 
 -- The core that is made of a file, member by member, stands for it.
 abbrev pub MadeCoresStand : Type 0
@@ -29,3 +39,10 @@ StandingCoresAreMade = (file : t.File) (core : CoreData) → IsCoreOf file core 
 
 abbrev pub StandingCoresAreOne : Type 0
 StandingCoresAreOne = (file : t.File) (one other : CoreData) → IsCoreOf file one → IsCoreOf file other → one ≡ other
+
+-- A file whose names have no fault, and whose texts are not too many, has such a core or a fault of its members, and not both.
+abbrev pub CoreStandsOrFault : Type 0
+CoreStandsOrFault = (file : t.File) (names : NamesData) → Collected file names → length (texts_of file) < 2 ^ 32 → ((core : CoreData) × IsCoreOf file core) ⊎ ((f : NameFault) × IsElabFault file f)
+
+abbrev pub StandingHasNoFault : Type 0
+StandingHasNoFault = (file : t.File) (core : CoreData) (f : NameFault) → IsCoreOf file core → IsElabFault file f → ⊥

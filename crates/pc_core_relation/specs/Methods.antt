@@ -1,10 +1,13 @@
 -- Which method of a finished core stands for a member of an entity.
-use Rattle.std.specs.Prelude.{◌≡◌, ℕ, ◌≤◌, List, [], ◌∷◌, ◌++◌, map, Option, Some, None, slice_get}
+use Rattle.std.specs.Prelude.{◌≡◌, ℕ, ◌≤◌, Bool, true, false, List, [], ◌∷◌, ◌++◌, map, Option, Some, None, slice_get, codes}
+use Rattle.pc_caps.specs.Tables.{plain, unalias}
 use Rattle.pc_caps.specs.declared.capability.Cap.{Cap}
 use Rattle.pc_caps.specs.declared.capability.Cap.TheVariants as cap
 use Rattle.pc_caps.specs.declared.capability.Form.{Form}
 use Rattle.pc_caps.specs.declared.capability.Form.TheVariants as form
 use Rattle.pc_caps.specs.Limits.{slot_limit}
+use Rattle.pc_tree.specs.declared.kinds.EntityKind.{EntityKind}
+use Rattle.pc_tree.specs.declared.kinds.EntityKind.TheVariants as kind
 use Rattle.pc_tree.specs.declared.kinds.MethodWord.{MethodWord}
 use Rattle.pc_tree.specs.declared.kinds.MethodWord.TheVariants as word
 use Rattle.pc_tree.specs.declared.names.TypeRef.{TypeRef}
@@ -16,45 +19,52 @@ use Rattle.pc_core.specs.declared.declarations.ParamInfo.{ParamInfo}
 use Rattle.pc_core.specs.declared.nodes.Slot.{Slot}
 use Rattle.pc_core.specs.CoreData.{CoreData}
 use Rattle.pc_core.specs.Lookup.{own_slots}
-use Rattle.pc_core.specs.Methods.{this_slot, param_slot}
-use Rattle.pc_members.specs.Members.{Member, written, added, member_text, member_span}
+use Rattle.pc_core.specs.Methods.{constructor_kind, word_kind, this_slot, param_slot}
+use Rattle.pc_members.specs.Members.{Member, written, added}
 use Rattle.pc_body_spec.specs.Roses.{Rose}
-use Rattle.pc_body_spec.specs.Scopes.{Context}
 use Rattle.pc_body_spec.specs.Bodies.{body_of, added_body}
-use Rattle.pc_body_spec.specs.Faults.{Fault, body_faults, initial_faults}
-use Rattle.pc_body_spec.specs.Slots.{Local, cap_or, local_kind}
-use Rattle.pc_file_spec.specs.Members.{Owned}
-use Rattle.pc_file_spec.specs.Signatures.{kind_of, receiver_of, result_form, object_of, locals_of}
+use Rattle.pc_body_spec.specs.Faults.{body_faults, initial_faults}
+use Rattle.pc_body_spec.specs.Slots.{Local, added_slots, cap_or, initial_locals, local_kind, method_locals, slots_of}
 use Rattle.pc_core_relation.specs.Lists.{Match}
 use Rattle.pc_core_relation.specs.Types.{IsType, IsWritten}
 use Rattle.pc_core_relation.specs.Contexts.{context_in}
 use Rattle.pc_core_relation.specs.Numbers.{IsNumbered}
 
--- ---- parameters and results
+-- ---- receivers, parameters and results
 
-abbrev pub params_in : Member → List ParamDef
-params_in (written m) = m.params
-params_in added = []
+-- `this` is `box` in a function that says nothing else, and `ref` in behaviours and constructors.
+abbrev pub IsReceiver : t.Method → MethodWord → Cap → Type 0
+IsReceiver w word.Fun k = k ≡ cap_or w.cap cap.Box
+IsReceiver w word.Be k = k ≡ cap.Ref
+IsReceiver w word.New k = k ≡ cap.Ref
 
 pub record ParamStands (core : CoreData) (p : ParamDef) (x : ParamInfo) : Type 0 where
   pub ty : IsType core p.ty (x.entity, x.cap)
   pub span : x.span ≡ p.name.span
 
--- A function answers what is written, with `^` as a value that has no place yet, and else None; a behaviour answers None.
-abbrev pub IsAnswer : CoreData → Option TypeRef → ℕ × Form → Type 0
-IsAnswer core None r = r ≡ (none_entity, form.Val)
-IsAnswer core (Some ty) r = (k : Cap) × IsType core ty (r.0, k) × (r.1 ≡ result_form ty.hat k)
+-- With `^` a value has no place yet.
+abbrev pub IsForm : (hat : Bool) → Cap → Form → Type 0
+IsForm true k f = f ≡ unalias k
+IsForm false k f = f ≡ plain k
+
+-- A function answers what is written, and else None; a behaviour answers None.
+abbrev pub IsFunctionResult : CoreData → Option TypeRef → ℕ × Form → Type 0
+IsFunctionResult core None r = r ≡ (none_entity, form.Val)
+IsFunctionResult core (Some ty) r = (k : Cap) × IsType core ty (r.0, k) × IsForm ty.hat k r.1
+
+-- A new object of entity n: an actor is a `tag`, and one of a class has the capability that its constructor gives it, and no place yet.
+abbrev pub IsObject : EntityKind → (n : ℕ) → Cap → ℕ × Form → Type 0
+IsObject kind.Class n k r = r ≡ (n, unalias k)
+IsObject kind.Actor n k r = r ≡ (n, form.Tag)
+IsObject kind.Primitive n k r = r ≡ (n, unalias k)
+IsObject kind.Trait n k r = r ≡ (n, unalias k)
+IsObject kind.Interface n k r = r ≡ (n, unalias k)
 
 -- A constructor gives a new object of its entity: with the capability that is written for it, or else as `ref`.
-abbrev pub IsWordResult : CoreData → Owned → t.Method → MethodWord → ℕ × Form → Type 0
-IsWordResult core o m word.Fun r = IsAnswer core m.result r
-IsWordResult core o m word.Be r = r ≡ (none_entity, form.Val)
-IsWordResult core o m word.New r = r ≡ object_of o.owner.kind o.number (cap_or m.cap cap.Ref)
-
--- An added one gives an isolated object.
-abbrev pub IsResult : CoreData → Owned → Member → ℕ × Form → Type 0
-IsResult core o (written m) r = IsWordResult core o m m.word r
-IsResult core o added r = r ≡ object_of o.owner.kind o.number cap.Iso
+abbrev pub IsResult : CoreData → EntityKind → (n : ℕ) → t.Method → MethodWord → ℕ × Form → Type 0
+IsResult core k n w word.Fun r = IsFunctionResult core w.result r
+IsResult core k n w word.Be r = r ≡ (none_entity, form.Val)
+IsResult core k n w word.New r = IsObject k n (cap_or w.cap cap.Ref) r
 
 -- ---- slots
 
@@ -65,20 +75,11 @@ pub record LocalStands (core : CoreData) (m : ℕ) (l : Local) (x : Slot) : Type
   pub depth : x.depth ≡ l.depth
   pub written : IsWritten core l.ty x.written
 
--- The slots of method m: `this`, the parameters, and the locals in the order of the text.
-abbrev pub SlotsStand : CoreData → (m : ℕ) → Owned → Method → Type 0
-SlotsStand core m o x = (locals : List Slot) × (own_slots core x ≡ this_slot m x ∷ map (param_slot m) x.params ++ locals) × Match (LocalStands core m) (locals_of o.owner o.member) locals
+-- The slots of method m, which is x: `this`, the parameters, and these locals in the order of the text.
+abbrev pub SlotsStand : CoreData → (m : ℕ) → Method → List Local → Type 0
+SlotsStand core m x locals = (slots : List Slot) × (own_slots core x ≡ this_slot m x ∷ map (param_slot m) x.params ++ slots) × Match (LocalStands core m) locals slots
 
 -- ---- bodies
-
--- What the body of a member means, where it has one, and what is at fault in it.
-abbrev pub rose_of : Context → t.Entity → Member → Option Rose
-rose_of c e (written x) = body_of c e.fields x
-rose_of c e added = Some (added_body c e.fields e.name.span)
-
-abbrev pub faults_in : Context → t.Entity → Member → List Fault
-faults_in c e (written x) = body_faults c e.fields x
-faults_in c e added = initial_faults c e.fields
 
 -- The nodes from the method's first one up to its body are those of the rose, and there is no body where there is no rose.
 abbrev pub BodyIs : CoreData → (m : ℕ) → Method → Option Rose → Type 0
@@ -87,19 +88,37 @@ BodyIs core m x (Some r) = (b : ℕ) × (x.body ≡ Some b) × IsNumbered core.n
 
 -- ---- methods
 
--- Method number m of the core, which is x, stands for a member of an entity of the file.
-pub record MethodStands (file : t.File) (core : CoreData) (m : ℕ) (o : Owned) (x : Method) : Type 0 where
-  pub entity : x.entity ≡ o.number
-  -- its declaration
-  pub name : slice_get core.names x.name ≡ Some (member_text o.member)
-  pub kind : x.kind ≡ kind_of o.owner.kind o.member
-  pub receiver : x.receiver ≡ receiver_of o.member
-  pub params : Match (ParamStands core) (params_in o.member) x.params
-  pub result : IsResult core o o.member x.result
-  pub span : x.span ≡ member_span o.owner.name.span o.member
-  -- its slots
+-- Method number m of the core, which is x, stands for a method that is written, as a member of entity number n of the core, which has
+-- these members. In its body nothing is at fault.
+pub record WrittenStands (core : CoreData) (members : List Member) (n : ℕ) (e : t.Entity) (w : t.Method) (m : ℕ) (x : Method) : Type 0 where
+  pub name : slice_get core.names x.name ≡ Some w.name.text
+  pub kind : x.kind ≡ word_kind e.kind w.word
+  pub receiver : IsReceiver w w.word x.receiver
+  pub params : Match (ParamStands core) w.params x.params
+  pub result : IsResult core e.kind n w w.word x.result
+  pub span : x.span ≡ w.name.span
+  pub slots : SlotsStand core m x (method_locals e.fields w)
+  pub no_fault : body_faults (context_in core members e (slots_of e.fields w)) e.fields w ≡ []
+  pub body : BodyIs core m x (body_of (context_in core members e (slots_of e.fields w)) e.fields w)
+
+-- It stands for the `create` that is added to that entity: at the entity's name, without parameters. Its object is isolated.
+pub record AddedStands (core : CoreData) (members : List Member) (n : ℕ) (e : t.Entity) (m : ℕ) (x : Method) : Type 0 where
+  pub name : slice_get core.names x.name ≡ Some (codes "create")
+  pub kind : x.kind ≡ constructor_kind e.kind
+  pub receiver : x.receiver ≡ cap.Ref
+  pub params : x.params ≡ []
+  pub result : IsObject e.kind n cap.Iso x.result
+  pub span : x.span ≡ e.name.span
+  pub slots : SlotsStand core m x (initial_locals e.fields)
+  pub no_fault : initial_faults (context_in core members e (added_slots e.fields)) e.fields ≡ []
+  pub body : BodyIs core m x (Some (added_body (context_in core members e (added_slots e.fields)) e.fields e.name.span))
+
+abbrev pub MemberStands : CoreData → List Member → (n : ℕ) → t.Entity → Member → (m : ℕ) → Method → Type 0
+MemberStands core members n e (written w) m x = WrittenStands core members n e w m x
+MemberStands core members n e added m x = AddedStands core members n e m x
+
+-- It stands for that member.
+pub record MethodStands (core : CoreData) (members : List Member) (n : ℕ) (e : t.Entity) (member : Member) (m : ℕ) (x : Method) : Type 0 where
+  pub entity : x.entity ≡ n
   pub few_slots : x.slots ≤ slot_limit
-  pub slots : SlotsStand core m o x
-  -- its body, in which nothing is at fault
-  pub no_fault : faults_in (context_in file core o) o.owner o.member ≡ []
-  pub body : BodyIs core m x (rose_of (context_in file core o) o.owner o.member)
+  pub stands : MemberStands core members n e member m x

@@ -11,7 +11,7 @@ abbrev pub declared_texts : List t.Entity → List Text
 declared_texts [] = []
 declared_texts (e ∷ es) = (field_texts e.fields ++ method_texts e.methods) ++ declared_texts es
 
--- All in their order: those of the language, those that are declared, and the names behind a `.`.
+-- All in their order: those of the language, those that are declared, and the names after a `.`.
 abbrev pub needed_texts : t.File → List Text
 needed_texts file = (codes "out" ∷ codes "print" ∷ codes "create" ∷ codes "apply" ∷ []) ++ (declared_texts file.entities ++ entities_texts file.entities)
 

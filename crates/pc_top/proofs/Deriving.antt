@@ -7,6 +7,8 @@ use Rattle.pc_deriv.specs.Faults.{IsText}
 use Rattle.pc_deriv.specs.Limits.{slot_limit, node_limit}
 use Rattle.pc_deriv.specs.Text.{deriv_text}
 use Rattle.pc_deriv.specs.declared.version.Version.TheVariants as version
+use Rattle.pc_core_relation.proofs.Files.{made_cores_stand}
+use Rattle.pc_core_relation.proofs.Ones.{standing_cores_are_made}
 use Rattle.pc_elab.specs.Cores.{CoresAreFormed as FilesAreFormed}
 use Rattle.pc_grammar.specs.FileAnswers.{IsFileAnswer, spelled}
 use Rattle.pc_lex.specs.Answers.{TokenList}
@@ -36,8 +38,8 @@ use Rattle.pc_top.specs.CoresFormed.{CoresAreFormed, IsSmall}
 
 -- a source that all stages let pass
 pub source_says : {name : Text} {r : Reading} {s : Source} → SourceStage name r (Ok s) → (r ≡ whole s.bytes) × CoreOf s.bytes s.core
-source_says (goes (fits {bytes = b} short) (has_core (goes (lexed {ts = t} l) (goes (parsed {file = f} tree) (elaborated stands))))) =
-    (refl, record { short = short; tokens = t; file = f; lexed = l; parsed = tree; stands = stands })
+source_says (goes (fits {bytes = b} short) (has_core (goes (lexed {ts = t} l) (goes (parsed {file = f} tree) (elaborated {core = c} made))))) =
+    (refl, record { short = short; tokens = t; file = f; lexed = l; parsed = tree; stands = made_cores_stand f c made })
 
 -- one whose tree alone is asked for: it was read whole, and its tokens spell this file
 pub file_says : {name : Text} {r : Reading} {f : t.File} → FileStage name r (Ok f)
@@ -45,7 +47,7 @@ pub file_says : {name : Text} {r : Reading} {f : t.File} → FileStage name r (O
 file_says (goes (fits {bytes = b} short) (goes (lexed {ts = ts} l) (parsed p))) = (b, refl, short, ts, l, p)
 
 pub core_passes : (name : Text) (bytes : List ℕ) (core : CoreData) → CoreOf bytes core → SourceStage name (whole bytes) (Ok (record { bytes = bytes; core = core }))
-core_passes name bytes core c = goes (fits c.short) (has_core (goes (lexed c.lexed) (goes (parsed c.parsed) (elaborated c.stands))))
+core_passes name bytes core c = goes (fits c.short) (has_core (goes (lexed c.lexed) (goes (parsed c.parsed) (elaborated (standing_cores_are_made c.file core c.stands)))))
 
 -- its core fits together and is small
 pub source_formed : CoresAreFormed → {name : Text} {r : Reading} {s : Source} → SourceStage name r (Ok s) → Formed s.core × IsSmall s.core
@@ -53,7 +55,7 @@ source_formed law {s = s} h = law s.bytes s.core (source_says h).1
 
 pub core_formed : TokensAscend → FilesAreFormed → CoresAreFormed
 core_formed ascend formed bytes core c =
-    let is = formed c.file core (c.tokens, c.parsed.0, ascend bytes c.tokens c.lexed.0) c.stands in
+    let is = formed c.file core (c.tokens, c.parsed.0, ascend bytes c.tokens c.lexed.0) (standing_cores_are_made c.file core c.stands) in
     (is.0, (is.1, is.2))
 
 -- a source that was read was read whole

@@ -3,7 +3,7 @@ use Rattle.std.specs.Prelude.{ℕ, ◌≤◌, List, length}
 use Rattle.pc_core.specs.CoreData.{CoreData}
 use Rattle.pc_grammar.specs.FileAnswers.{IsFileAnswer, spelled}
 use Rattle.pc_lex.specs.Answers.{TokenList}
-use Rattle.pc_file_spec.specs.Cores.{Stands}
+use Rattle.pc_core_relation.specs.Files.{IsCoreOf}
 use Rattle.pc_isolation.specs.Laws.{AlwaysIsolated, AlwaysPassedWhole}
 use Rattle.pc_rules.specs.Valid.{Derivable}
 use Rattle.pc_semantics.specs.Safety.{Safe}
@@ -19,7 +19,7 @@ pub record CoreOf (bytes : List ℕ) (core : CoreData) : Type 0 where
   pub file : t.File
   pub lexed : TokenList bytes tokens
   pub parsed : IsFileAnswer tokens (spelled file)
-  pub stands : Stands file core
+  pub stands : IsCoreOf file core
 
 -- The source has a core, and the core has a derivation.
 abbrev pub IsDerivable : List ℕ → Type 0

@@ -2,9 +2,10 @@
 use Rattle.std.specs.Prelude.{◌≡◌, ◌⊎◌, Bool, true, false, List, Result, Ok, Err, if◌then◌else◌}
 use Rattle.std.specs.Io.KnownBytes.{Appends}
 use Rattle.pc_core.specs.CoreData.{CoreData}
+use Rattle.pc_core_relation.specs.Files.{IsCoreOf}
 use Rattle.pc_explain.specs.Explanation.{IsExplanation}
 use Rattle.pc_explain_names.specs.Names.{names_text}
-use Rattle.pc_file_spec.specs.Cores.{IsElabFault, Stands}
+use Rattle.pc_file_spec.specs.Cores.{IsElabFault}
 use Rattle.pc_grammar.specs.FileAnswers.{IsFileAnswer, spelled}
 use Rattle.pc_io.specs.Change.{Change}
 use Rattle.pc_lex.specs.Answers.{TokenList}
@@ -44,7 +45,7 @@ IsFileFault file f = IsNameFault file f ⊎ IsElabFault file f
 
 -- What is said of the tree of a source with these bytes: the text of its core, or of the fault because of which it has none.
 pub data Explaining (name bytes : Text) (file : t.File) : Result Text Verdict → Type 0 where
-  has_core : {tokens : List Token} {core : CoreData} {text : Text} → TokenList bytes tokens → Stands file core → CoreText name bytes tokens core text
+  has_core : {tokens : List Token} {core : CoreData} {text : Text} → TokenList bytes tokens → IsCoreOf file core → CoreText name bytes tokens core text
       → Explaining name bytes file (Ok text)
   has_fault : (f : NameFault) → OfFile f → IsFileFault file f → Explaining name bytes file (fault_end name bytes file f)
 

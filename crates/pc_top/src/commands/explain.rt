@@ -1,7 +1,7 @@
 //! `explain SRC`.
 ghost use Rattle.std.specs.Prelude.{◌≡◌, ◌≤◌, IfErr, IfOk, length};
+ghost use Rattle.pc_core_relation.specs.Files.{IsCoreOf};
 ghost use Rattle.pc_elab.specs.Cores.{Spelled};
-ghost use Rattle.pc_file_spec.specs.Cores.{Stands};
 ghost use Rattle.pc_lex.specs.Answers.{TokenList};
 ghost use Rattle.pc_lex.specs.Limits.{bytes_limit};
 ghost use Rattle.pc_lists.specs.Texts.{Text};
@@ -30,7 +30,7 @@ use std::alloc::{AllocError, Global};
 // The core of a tree, or the fault because of which it has none.
 fn core_of(alloc: Global, file: &File) -> Result<Core, NameFault>
     requires { Spelled (file_view file.now) }
-    ensures core { IfOk result (Stands (file_view file.now)) }
+    ensures core { IfOk result (IsCoreOf (file_view file.now)) }
     ensures fault { IfErr result (λ f. OfFile f → IsFileFault (file_view file.now) f) }
 {
     let names = collect(alloc, file)?;

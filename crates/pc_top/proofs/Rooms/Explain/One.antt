@@ -3,7 +3,8 @@ use Rattle.std.proofs.Common.{◌≡◌, List, Ok, Err, inl, inr, refl, ap, subs
 use Rattle.std.specs.Prelude.{Result}
 use Rattle.pc_core.specs.CoreData.{CoreData}
 use Rattle.pc_core.specs.Formed.{Formed}
-use Rattle.pc_file_spec.specs.Cores.{Stands}
+use Rattle.pc_core_relation.specs.Files.{IsCoreOf}
+use Rattle.pc_core_relation.proofs.Ones.{standing_cores_are_made, standing_cores_are_one}
 use Rattle.pc_lex.specs.Answers.{TokenList}
 use Rattle.pc_lists.specs.Texts.{Text}
 use Rattle.pc_names.specs.Laws.{OfFile}
@@ -38,14 +39,14 @@ module _ (laws : Laws) (name : Text) where
 
   module _ (bytes : Text) (file : t.File) (read : FileStage name (whole bytes) (Ok file)) where
     -- its core fits together
-    formed : (core : CoreData) → Stands file core → Formed core
+    formed : (core : CoreData) → IsCoreOf file core → Formed core
     formed core stands =
         let says = file_says read in
         (laws.refusing.formed says.0 core (record { short = says.2; tokens = says.3; file = file; lexed = says.4; parsed = says.5; stands = stands })).0
 
-    no_fault : {C : Type 0} (core : CoreData) (f : NameFault) → Stands file core → OfFile f → IsFileFault file f → C
-    no_fault core f s o (inl h) = absurd (laws.source.misnamed file f s.0 o h s.1)
-    no_fault core f s o (inr h) = absurd (laws.source.misused file core f s h)
+    no_fault : {C : Type 0} (core : CoreData) (f : NameFault) → IsCoreOf file core → OfFile f → IsFileFault file f → C
+    no_fault core f s o (inl h) = let made = standing_cores_are_made file core s in absurd (laws.source.misnamed file f made.0 o h made.1)
+    no_fault core f s o (inr h) = absurd (laws.source.misused file core f (standing_cores_are_made file core s) h)
 
     one_fault : (f g : NameFault) → OfFile f → OfFile g → IsFileFault file f → IsFileFault file g → f ≡ g
     one_fault f g o p (inl h) (inl i) = laws.source.name_fault file f g o p h i
@@ -53,11 +54,11 @@ module _ (laws : Laws) (name : Text) where
     one_fault f g o p (inr h) (inl i) = absurd (laws.source.misnamed file g h.0 p i h.1)
     one_fault f g o p (inr h) (inr i) = laws.source.body_fault file f g h i
 
-    one_text : (ts us : List Token) (c d : CoreData) (x y : Text) → TokenList bytes ts → TokenList bytes us → Stands file c → Stands file d
+    one_text : (ts us : List Token) (c d : CoreData) (x y : Text) → TokenList bytes ts → TokenList bytes us → IsCoreOf file c → IsCoreOf file d
         → CoreText name bytes ts c x → CoreText name bytes us d y → x ≡ y
     one_text ts us c d x y l m s r h k =
         let tokens : us ≡ ts = laws.source.list bytes us ts m.0 l.0 in
-        let cores : d ≡ c = laws.source.core file d c r s in
+        let cores : d ≡ c = standing_cores_are_one file d c r s in
         let same : CoreText name bytes ts c y = subst (λ (q : List Token). CoreText name bytes q c y) tokens (subst (λ (q : CoreData). CoreText name bytes us q y) cores k) in
         one_core_text bytes ts c (formed c s) x y h same
 
