@@ -1,0 +1,124 @@
+-- An annotation is valid or has a first fault.
+use Rattle.std.proofs.Common.{◌≡◌, ◌⊎◌, ◌<◌, ◌+◌, ℕ, zero, suc, Bool, true, false, length, Option, Some, None, Ok, Err, inl, inr, refl, sym, ap, ◌∙◌, subst, arith}
+use Rattle.std.specs.Prelude.{slice_get}
+use Rattle.std.proofs.lemmas.Bool.{cases_eq, cases_lt}
+use Rattle.std.proofs.lemmas.Option.{none-some, same_Some}
+use Rattle.pc_ann.specs.declared.annotation.Ann.{Ann}
+use Rattle.pc_ann.specs.declared.annotation.Note.{Note}
+use Rattle.pc_caps.specs.declared.capability.Cap.{Cap}
+use Rattle.pc_core.specs.CoreData.{CoreData}
+use Rattle.pc_core.specs.Formed.{Formed}
+use Rattle.pc_core.specs.declared.nodes.Node.{Node}
+use Rattle.pc_core.specs.declared.nodes.Slot.{Slot}
+use Rattle.pc_judge.proofs.AtNode.{fails_set, passes}
+use Rattle.pc_judge.proofs.Exact.{before_all, before_next}
+use Rattle.pc_judge.specs.Computed.{leaves_unset}
+use Rattle.pc_judge.specs.Faults as spec
+use Rattle.pc_judge.specs.declared.faults.JudgeFault.{JudgeFault}
+use Rattle.pc_judge.specs.declared.faults.JudgeFault.TheVariants as fault
+use Rattle.pc_lists.proofs.Gets.{get_below, get_within}
+use Rattle.pc_lists.specs.Texts.{Text}
+use Rattle.pc_rules.specs.Parts.{before}
+use Rattle.pc_rules.specs.Rules.{Meets, MeetsRule, said_by, says}
+use Rattle.pc_rules.specs.Valid.{KeepsWritten, Valid}
+use Rattle.pc_sub.specs.Declarations.{DeclOk, first_fault}
+use Rattle.pc_sub.specs.Faults.{fits_without_fault}
+use Rattle.pc_sub.specs.declared.faults.DeclFault.{DeclFault}
+use Rattle.pc_refusals.specs.Derivation.{Judging, judge_line}
+use Rattle.pc_refusals.specs.Derivation.Judging.{fails, holds}
+use Rattle.pc_refusals.specs.Verdict.{refused}
+use Rattle.pc_refusals.specs.declared.source.Source.{Source}
+use Rattle.pc_verdicts.proofs.Same.{Told, same_option, same_said, same_type}
+use Rattle.pc_verdicts.proofs.Stages.{HasEnd}
+
+module _ (core : CoreData) (ann : Ann) (formed : Formed core) where
+  abbrev Judged : Type 0
+  Judged = Valid core ann ⊎ ((f : JudgeFault) × spec.FirstFault core ann f)
+
+  -- ---- nodes
+
+  met : (n : ℕ) → n < length core.nodes → length ann.notes ≡ length core.nodes → Told (MeetsRule core ann n)
+  met n l count =
+      let x = get_within core.nodes n l in
+      let t = get_within ann.notes n (omega (arith, l, count)) in
+      elim (same_option same_said (says core ann x.0 (before t.0) t.0.rule x.0.kind) (Some (said_by t.0))) [
+        | inl e ↦ inl (x.0, t.0, x.1, t.1, e)
+        | inr d ↦ inr (λ h. d (subst (λ (y : Node). Meets core ann y t.0) (same_Some h.0 x.0 (sym h.2 ∙ x.1)) (subst (λ (s : Note). Meets core ann h.0 s) (same_Some h.1 t.0 (sym h.3 ∙ t.1)) h.4)))
+      ]
+
+  module _ (n : ℕ) (x : Node) (g : slice_get core.nodes n ≡ Some x) (b : spec.Before core ann n) (on : spec.Before core ann (n + 1) → Judged) where
+    by_fields : MeetsRule core ann n → (c : Bool) → leaves_unset core ann n x.method ≡ c → Judged
+    by_fields h true e =
+        let u = (fails_set core ann n x.method h e).1 in
+        inr (fault.Unset x.method, (u.0, n, u.1, u.2, b, h, u.3))
+    by_fields h false e = on (before_next core ann n b (passes core ann n x formed g h e))
+
+    by_rule : Told (MeetsRule core ann n) → Judged
+    by_rule (inl h) = by_fields h (leaves_unset core ann n x.method) refl
+    by_rule (inr d) = inr (fault.Node n, (get_below core.nodes n x g, b, d))
+
+  nodes_judged : (rest n : ℕ) → n + rest ≡ length core.nodes → spec.Before core ann n → Judged
+  nodes_judged zero n count b = inl (before_all core ann n formed (omega (arith, count)) b)
+  nodes_judged (suc rest) n count b =
+      let x = get_within core.nodes n (omega (arith, count)) in
+      by_rule n x.0 x.1 b (λ c. nodes_judged rest (n + 1) (omega (arith, count)) c) (met n (omega (arith, count)) b.shape.1)
+
+  -- ---- slots
+
+  abbrev KeptBefore : ℕ → Type 0
+  KeptBefore k = (j : ℕ) (y : Slot) → j < k → slice_get core.slots j ≡ Some y → spec.KeepsType ann j y
+
+  keeps : (k : ℕ) (y : Slot) (o : Option (ℕ × Cap)) → y.written ≡ o → Told (spec.KeepsType ann k y)
+  keeps k y None e = inl (λ ty is. absurd (none-some ty (sym e ∙ is)))
+  keeps k y (Some ty) e = elim (same_option same_type (slice_get ann.slots k) (Some ty)) [
+    | inl s ↦ inl (λ u is. s ∙ ap Some (same_Some ty u (sym e ∙ is)))
+    | inr d ↦ inr (λ h. d (h ty e))
+  ]
+
+  kept_more : (k : ℕ) (y : Slot) → slice_get core.slots k ≡ Some y → KeptBefore k → spec.KeepsType ann k y → KeptBefore (k + 1)
+  kept_more k y g kept right j z l e = elim (cases_lt j k) [
+    | inl less ↦ kept j z less e
+    | inr at ↦ let same : k ≡ j = omega (arith, l, at) in
+        let it : y ≡ z = same_Some y z (sym g ∙ ap (slice_get core.slots) same ∙ e) in
+        subst (λ (w : Slot). spec.KeepsType ann j w) it (subst (λ i. spec.KeepsType ann i y) same right)
+  ]
+
+  slots_told : (rest k : ℕ) → k + rest ≡ length core.slots → KeptBefore k → KeepsWritten core ann ⊎ ((j : ℕ) × spec.FirstWrong core ann j)
+  slots_told zero k count kept = inl (λ j y e. let l = get_below core.slots j y e in kept j y (omega (arith, l, count)) e)
+  slots_told (suc rest) k count kept =
+      let y = get_within core.slots k (omega (arith, count)) in
+      elim (keeps k y.0 y.0.written refl) [
+        | inl right ↦ slots_told rest (k + 1) (omega (arith, count)) (kept_more k y.0 y.1 kept right)
+        | inr d ↦ inr (k, ((y.0, y.1, d), kept))
+      ]
+
+  -- ---- all of it
+
+  shape_told : Told (spec.HasShape core ann)
+  shape_told = elim (cases_eq (length ann.slots) (length core.slots)) [
+    | inl e ↦ elim (cases_eq (length ann.notes) (length core.nodes)) [ inl f ↦ inl (e, f) | inr d ↦ inr (λ h. d h.1) ]
+    | inr d ↦ inr (λ h. d h.0)
+  ]
+
+  by_slots : DeclOk core → spec.HasShape core ann → KeepsWritten core ann ⊎ ((j : ℕ) × spec.FirstWrong core ann j) → Judged
+  by_slots ok shape (inl kept) =
+      nodes_judged (length core.nodes) 0 (omega arith)
+      (record { declarations = ok; shape = shape; written = kept; rules = λ k l. absurd (omega (arith, l)); sets = λ k l. absurd (omega (arith, l)) })
+  by_slots ok shape (inr wrong) = inr (fault.Slot wrong.0, (ok, shape, wrong.1))
+
+  by_shape : DeclOk core → Told (spec.HasShape core ann) → Judged
+  by_shape ok (inl shape) = by_slots ok shape (slots_told (length core.slots) 0 (omega arith) (λ j y l. absurd (omega (arith, l))))
+  by_shape ok (inr d) = inr (fault.Shape, (ok, d))
+
+  by_declarations : (o : Option DeclFault) → first_fault core ≡ o → Judged
+  by_declarations (Some f) e = inr (fault.Decl f, e)
+  by_declarations None e = by_shape ((fits_without_fault core formed).0 e) shape_told
+
+  pub judged : Valid core ann ⊎ ((f : JudgeFault) × spec.FirstFault core ann f)
+  judged = by_declarations (first_fault core) refl
+
+pub judging_ends : (source_name name : Text) (source : Source) (ann : Ann) → Formed source.core → HasEnd (Judging source_name name source ann)
+judging_ends source_name name source ann formed = elim (judged source.core ann formed) [
+  | inl v ↦ (Ok tt, holds v)
+  | inr f ↦ (Err (refused 6 (judge_line source_name name source f.0)), fails f.0 f.1)
+]

@@ -1,0 +1,110 @@
+-- A run of a program that lacks nothing ends, and the lists and lines of seeds are there.
+use Rattle.std.proofs.Common.{◌≡◌, ◌⊎◌, ◌<◌, ◌≤◌, ◌+◌, ◌^◌, ℕ, zero, suc, List, [], ◌∷◌, ◌++◌, length, replicate, Option, Some, None, inl, inr, refl, sym, ap, ◌∙◌, subst, arith}
+use Rattle.std.specs.List.{AllByRecursion}
+use Rattle.std.proofs.lemmas.Bool.{cases_eq}
+use Rattle.pc_core.specs.CoreData.{CoreData}
+use Rattle.pc_lists.specs.Texts.{Text}
+use Rattle.pc_run.specs.Ends.{NeverLacks}
+use Rattle.pc_run.specs.Spreading.{spread}
+use Rattle.pc_sched.specs.Limits.{turn_limit}
+use Rattle.pc_sched.specs.declared.turns.Turn.{Turn}
+use Rattle.pc_sched_lines.specs.Lines.{IsLine, line_of}
+use Rattle.pc_sched_lines.specs.Rows.{Differs, RowsOf}
+use Rattle.pc_semantics.specs.Configurations.{Configuration, start}
+use Rattle.pc_semantics.specs.Runs.{followed, outcomes, outcomes_from, run_from}
+use Rattle.pc_semantics.specs.Safety.{LacksNothing}
+use Rattle.pc_semantics.specs.Step.{step}
+use Rattle.pc_semantics.specs.Text.{end_of, ended_at, run_text, steps_of}
+use Rattle.pc_semantics.specs.declared.outcome.Outcome.{Outcome}
+use Rattle.pc_semantics.specs.declared.outcome.Outcome.TheVariants.{Lacks, Moved, Skipped, TooLong}
+use Rattle.pc_refusals.specs.Lines.{too_long_line}
+use Rattle.pc_refusals.specs.Verdict.{done, stopped}
+use Rattle.pc_top.specs.Commands.Run.{Ran}
+use Rattle.pc_top.specs.Commands.Run.Ran.{cut, whole}
+use Rattle.pc_verdicts.proofs.Spelling.{is_line}
+use Rattle.pc_verdicts.proofs.Stages.{Answers}
+
+-- ---- how a run ends
+
+-- No step ended it, or one that was too long.
+abbrev pub RunEnds : Option (ℕ × Outcome) → Type 0
+RunEnds o = (o ≡ None) ⊎ ((n : ℕ) × (o ≡ Some (n, TooLong)))
+
+abbrev NeverFrom : CoreData → Configuration → Type 0
+NeverFrom core c = (list : List ℕ) → LacksNothing core (run_from core c list)
+
+module _ (core : CoreData) (i : ℕ) (is : List ℕ) (n : ℕ) (c : Configuration) (never : NeverFrom core c)
+    (on : (m : ℕ) (d : Configuration) → NeverFrom core d → RunEnds (ended_at m (outcomes_from core d is))) where
+  step_ends : (r : Outcome × Configuration) → step core c i ≡ r → RunEnds (ended_at n (r.0 ∷ followed (λ next. outcomes_from core next is) [] c r))
+  step_ends (Moved, d) e = on (n + 1) d (λ list. subst (λ (r : Outcome × Configuration). LacksNothing core (followed (λ next. run_from core next list) c c r)) e (never (i ∷ list)))
+  step_ends (Skipped, d) e = on (n + 1) c never
+  step_ends (Lacks l, d) e = absurd (never [] i l (ap (λ (r : Outcome × Configuration). r.0) e))
+  step_ends (TooLong, d) e = inr (n, refl)
+
+run_ends : (core : CoreData) (list : List ℕ) (n : ℕ) (c : Configuration) → NeverFrom core c → RunEnds (ended_at n (outcomes_from core c list))
+run_ends core [] n c never = inl refl
+run_ends core (i ∷ is) n c never = step_ends core i is n c never (λ m d h. run_ends core is m d h) (step core c i) refl
+
+pub ends_so : (core : CoreData) (list : List ℕ) → NeverLacks core → RunEnds (end_of (outcomes core list))
+ends_so core list never = run_ends core list 1 (start core) never
+
+pub ran_answers : (name : Text) (core : CoreData) (list : List ℕ) → NeverLacks core → Answers (Ran name core list)
+ran_answers name core list never = elim (ends_so core list never) [
+  | inl none ↦ (done (run_text core list), whole none)
+  | inr end ↦ (stopped 12 (run_text core list) (too_long_line name end.0), cut end.0 end.1)
+]
+
+-- ---- a list as a line
+
+abbrev pub Small : ℕ → Type 0
+Small actor = actor < 2 ^ 32
+
+-- The turn's steps are these many at most.
+row_within : (n a : ℕ) (ys : List ℕ) → n ≤ length (replicate n a ++ ys)
+row_within zero a ys = omega arith
+row_within (suc n) a ys = let l = row_within n a ys in omega (arith, l)
+
+differs_alike : (t u : Turn) (ts : List Turn) → u.actor ≡ t.actor → Differs t ts → Differs u ts
+differs_alike t u [] e d = tt
+differs_alike t u (x ∷ xs) e d = λ same. d (sym e ∙ same)
+
+with_first : (a : ℕ) (rest : List ℕ) → Small a → length rest < turn_limit → (rows : List Turn) → RowsOf rest rows → (more : List Turn) × RowsOf (a ∷ rest) more
+with_first a rest small few [] r =
+    (record { actor = a; times = 1 } ∷ [], record { steps = ap (λ (l : List ℕ). a ∷ l) r.steps; rows = (omega arith, tt, tt); fit = ((small, omega arith), tt) })
+with_first a rest small few (t ∷ ts) r = elim (cases_eq a t.actor) [
+  | inl same ↦ (
+    record { actor = t.actor; times = suc t.times } ∷ ts,
+    record {
+      steps = ap (λ (l : List ℕ). t.actor ∷ l) r.steps ∙ ap (λ (b : ℕ). b ∷ rest) (sym same);
+      rows = (omega arith, differs_alike t (record { actor = t.actor; times = suc t.times }) ts refl r.rows.1, r.rows.2);
+      fit = ((r.fit.0.0, let l : t.times ≤ length (spread (t ∷ ts)) = row_within t.times t.actor (spread ts) in let e = ap (λ (l : List ℕ). length l) r.steps in omega (arith, l, e, few)), r.fit.1);
+    },
+  )
+  | inr differ ↦ (
+    record { actor = a; times = 1 } ∷ t ∷ ts,
+    record { steps = ap (λ (l : List ℕ). a ∷ l) r.steps; rows = (omega arith, differ, r.rows); fit = ((small, omega arith), r.fit) },
+  )
+]
+
+rows_are : (list : List ℕ) → AllByRecursion Small list → length list ≤ turn_limit → (rows : List Turn) × RowsOf list rows
+rows_are [] small few = ([], record { steps = refl; rows = tt; fit = tt })
+rows_are (a ∷ rest) small few =
+    let all = rows_are rest small.1 (omega (arith, few)) in
+    with_first a rest small.0 (omega (arith, few)) all.0 all.1
+
+pub line_is_there : (list : List ℕ) → AllByRecursion Small list → length list ≤ turn_limit → (text : Text) × IsLine list text
+line_is_there list small few = let all = rows_are list small few in (line_of all.0, is_line list (line_of all.0) all.0 few all.1 refl)
+
+-- ---- actors with small numbers
+
+pub small_append : (xs ys : List ℕ) → AllByRecursion Small xs → AllByRecursion Small ys → AllByRecursion Small (xs ++ ys)
+small_append [] ys a b = b
+small_append (x ∷ xs) ys a b = (a.0, small_append xs ys a.1 b)
+
+small_replicate : (n a : ℕ) → Small a → AllByRecursion Small (replicate n a)
+small_replicate zero a l = tt
+small_replicate (suc n) a l = (l, small_replicate n a l)
+
+pub small_steps : (turns : List (ℕ × ℕ)) → AllByRecursion (λ (t : ℕ × ℕ). Small t.0) turns → AllByRecursion Small (steps_of turns)
+small_steps [] a = tt
+small_steps (t ∷ ts) a = small_append (replicate t.1 t.0) (steps_of ts) (small_replicate t.1 t.0 a.0) (small_steps ts a.1)

@@ -1,0 +1,98 @@
+-- Commands that go through the stages of files have a verdict if their last part has one.
+use Rattle.std.proofs.Common.{List, Ok, Err, inl, inr}
+use Rattle.std.specs.Prelude.{IsSome, Result, codes}
+use Rattle.pc_ann.specs.declared.annotation.Ann.{Ann}
+use Rattle.pc_deriv.proofs.Whole.{read_whole}
+use Rattle.pc_deriv.specs.Laws.{IsRead, as_read}
+use Rattle.pc_deriv.specs.Lines.{ended_so, fed, nothing_taken}
+use Rattle.pc_deriv.specs.declared.line.Line.{Line}
+use Rattle.pc_deriv.specs.declared.line.LineFault.{LineFault}
+use Rattle.pc_lists.specs.Texts.{Text}
+use Rattle.pc_run.specs.Spreading.{spread}
+use Rattle.pc_sched.proofs.Together.{told}
+use Rattle.pc_sched.specs.Limits.{schedule_limit}
+use Rattle.pc_sched.specs.Schedules.{FirstFault}
+use Rattle.pc_sched.specs.declared.fault.SchedFault.{SchedFault}
+use Rattle.pc_sched.specs.declared.fault.SchedFault.TheVariants.{BadWord, Memory, TooMany}
+use Rattle.pc_sched.specs.declared.turns.Turn.{Turn}
+use Rattle.pc_refusals.specs.Accepting.{AcceptedStage, Typing}
+use Rattle.pc_refusals.specs.Derivation.{DerivationStage, Deriving, Judging, derivation_limit, text_line, text_status}
+use Rattle.pc_refusals.specs.Derivation.Deriving.{garbled, reads}
+use Rattle.pc_refusals.specs.Named.{Named, Reading}
+use Rattle.pc_refusals.specs.Refusal.{offset_line}
+use Rattle.pc_refusals.specs.Schedule.{ScheduleStage, Scheduling}
+use Rattle.pc_refusals.specs.Schedule.Scheduling.{bad_word, scheduled, too_many}
+use Rattle.pc_refusals.specs.Source.{Length, SourceStage, source_limit}
+use Rattle.pc_refusals.specs.Verdict.{EndsAs, Verdict, refused}
+use Rattle.pc_refusals.specs.declared.source.Source.{Source}
+use Rattle.pc_refusals.specs.declared.typing.Accepted.{Accepted}
+use Rattle.pc_top.specs.Shapes.{LastOfTurns, OfAccepted, OfDerivation, OfJudged, OfScheduled, OfTurns}
+use Rattle.pc_verdicts.proofs.Elaborated.{source_ends}
+use Rattle.pc_verdicts.proofs.Forming.{SourcesAreFormed, source_formed}
+use Rattle.pc_verdicts.proofs.Judged.{judging_ends}
+use Rattle.pc_verdicts.proofs.Stages.{Answers, HasEnd, ReadOn, after_ends, ends_answer, file_answers, read_file}
+use Rattle.pc_verdicts.proofs.Typed.{checked, typing_ends}
+
+-- ---- a schedule
+
+fault_ends : (name bytes : Text) (f : SchedFault) → FirstFault bytes f → HasEnd (Scheduling name bytes)
+fault_ends name bytes (BadWord at) h = (Err (refused 7 (offset_line name bytes at (codes "bad word"))), bad_word at h)
+fault_ends name bytes (TooMany at) h = (Err (refused 8 (offset_line name bytes at (codes "too many steps"))), too_many at h)
+fault_ends name bytes Memory h = absurd h
+
+scheduling_ends : (name bytes : Text) → HasEnd (Scheduling name bytes)
+scheduling_ends name bytes = elim (told bytes) [ inl turns ↦ (Ok turns.0, scheduled turns.1) | inr first ↦ fault_ends name bytes first.0 first.1 ]
+
+schedule_ends : (name : Text) (r : Reading) → HasEnd (Length schedule_limit name r) → HasEnd (ScheduleStage name r)
+schedule_ends name r h = after_ends (Length schedule_limit name r) (Scheduling name) h (λ bytes l. scheduling_ends name bytes)
+
+-- ---- a derivation
+
+by_lines : (name bytes : Text) (lines : List Line) (end : Result (Unit {0}) LineFault) → IsRead bytes lines end → HasEnd (Deriving name bytes)
+by_lines name bytes lines (Ok u) h = (Ok h.0, reads h.1)
+by_lines name bytes lines (Err f) h = (Err (refused (text_status (as_read f)) (text_line name (as_read f))), garbled (as_read f) h)
+
+deriving_ends : (name bytes : Text) → HasEnd (Deriving name bytes)
+deriving_ends name bytes = by_lines name bytes (fed nothing_taken bytes).0 (ended_so (fed nothing_taken bytes).1) (read_whole bytes)
+
+derivation_ends : (name : Text) (r : Reading) → HasEnd (Length derivation_limit name r) → HasEnd (DerivationStage name r)
+derivation_ends name r h = after_ends (Length derivation_limit name r) (Deriving name) h (λ bytes l. deriving_ends name bytes)
+
+-- ---- the shapes
+
+module _ (law : SourcesAreFormed) where
+  accepted_ends : (name : Text) (r : Reading) → HasEnd (Length source_limit name r) → HasEnd (AcceptedStage name r)
+  accepted_ends name r h = after_ends (SourceStage name r) (Typing name) (source_ends name r h) (λ s is. typing_ends name s (checked s.core (source_formed law is).0))
+
+  pub accepted_answers : (Last : Accepted → Verdict → Type 0) (file : Named) → ReadOn source_limit file → IsSome file.told
+      → ((r : Reading) (a : Accepted) → AcceptedStage file.name r (Ok a) → Answers (Last a)) → Answers (OfAccepted Last file)
+  accepted_answers Last file on told last =
+      let r = read_file file source_limit on told in
+      file_answers file source_limit (AcceptedStage file.name) Last r.0 r.1 (accepted_ends file.name r.0 r.2) (last r.0)
+
+  turns_answers : (Last : LastOfTurns) (schedule : Named) (a : Accepted) → ReadOn schedule_limit schedule → IsSome schedule.told
+      → ((r : Reading) (turns : List Turn) → ScheduleStage schedule.name r (Ok turns) → Answers (Last schedule.name a.source.core (spread turns))) → Answers (OfTurns Last schedule a)
+  turns_answers Last schedule a on told last =
+      let r = read_file schedule schedule_limit on told in
+      file_answers schedule schedule_limit (ScheduleStage schedule.name) (λ turns. Last schedule.name a.source.core (spread turns)) r.0 r.1 (schedule_ends schedule.name r.0 r.2) (last r.0)
+
+  pub scheduled_answers : (Last : LastOfTurns) (source schedule : Named) → ReadOn source_limit source → IsSome source.told → ReadOn schedule_limit schedule → IsSome schedule.told
+      → ((r : Reading) (a : Accepted) → AcceptedStage source.name r (Ok a) → (q : Reading) (turns : List Turn) → ScheduleStage schedule.name q (Ok turns) → Answers (Last schedule.name a.source.core (spread turns)))
+      → Answers (OfScheduled Last source schedule)
+  scheduled_answers Last source schedule on told also too last =
+      accepted_answers (OfTurns Last schedule) source on told (λ r a h. turns_answers Last schedule a also too (last r a h))
+
+  judged_answers : (text : Ann → Text) (source derivation : Named) (s : Source) (r : Reading) → SourceStage source.name r (Ok s) → ReadOn derivation_limit derivation → IsSome derivation.told
+      → Answers (OfJudged text source derivation s)
+  judged_answers text source derivation s q h on told =
+      let r = read_file derivation derivation_limit on told in
+      file_answers derivation derivation_limit (DerivationStage derivation.name) (λ ann. EndsAs (λ _. text ann) (Judging source.name derivation.name s ann)) r.0 r.1
+      (derivation_ends derivation.name r.0 r.2)
+      (λ ann is. ends_answer (λ _. text ann) (Judging source.name derivation.name s ann) (judging_ends source.name derivation.name s ann (source_formed law h).0))
+
+  pub derivation_answers : (text : Ann → Text) (source derivation : Named) → ReadOn source_limit source → IsSome source.told → ReadOn derivation_limit derivation → IsSome derivation.told
+      → Answers (OfDerivation text source derivation)
+  derivation_answers text source derivation on told also too =
+      let r = read_file source source_limit on told in
+      file_answers source source_limit (SourceStage source.name) (OfJudged text source derivation) r.0 r.1 (source_ends source.name r.0 r.2)
+      (λ s h. judged_answers text source derivation s r.0 h also too)

@@ -1,0 +1,88 @@
+-- Commands that read a source alone, and need no derivation, have a verdict: `show`, `places` and `explain`.
+use Rattle.std.proofs.Common.{◌≤◌, List, length, Ok, Err, inl, inr, refl, sym, subst}
+use Rattle.std.specs.Prelude.{IsSome, Result}
+use Rattle.pc_core.specs.CoreData.{CoreData}
+use Rattle.pc_core_relation.proofs.Files.{made_cores_stand}
+use Rattle.pc_explain.specs.Explanation.IsExplanation.{declared, no_rule, unset}
+use Rattle.pc_grammar.specs.FileAnswers.{IsFileAnswer, spelled}
+use Rattle.pc_lex.specs.Answers.{TokenList}
+use Rattle.pc_lists.specs.Texts.{Text}
+use Rattle.pc_places.specs.Text.{places_text}
+use Rattle.pc_print.specs.Printing.{printed}
+use Rattle.pc_token.specs.declared.kinds.Token.{Token}
+use Rattle.pc_tree.specs.Tree as t
+use Rattle.pc_refusals.specs.After.After.{goes}
+use Rattle.pc_refusals.specs.Named.{Named, Reading, whole}
+use Rattle.pc_refusals.specs.Source.{Elaborating, FileStage, SourceStage, source_limit}
+use Rattle.pc_refusals.specs.Source.Elaborating.{elaborated, misnamed, misused}
+use Rattle.pc_refusals.specs.Source.Length.{fits}
+use Rattle.pc_refusals.specs.Source.Lexing.{lexed}
+use Rattle.pc_refusals.specs.Source.Parsing.{parsed}
+use Rattle.pc_refusals.specs.Source.TextStage.{has_core}
+use Rattle.pc_refusals.specs.Verdict.{Verdict, done}
+use Rattle.pc_refusals.specs.declared.source.Source.{Source}
+use Rattle.pc_top.specs.Commands.Explain.{CoreText, Explained, ExplainedStage, Explaining, IsExplain, fault_end}
+use Rattle.pc_top.specs.Commands.Explain.CoreText.{accepted, explained}
+use Rattle.pc_top.specs.Commands.Explain.ExplainedStage.{has_none, has_tree}
+use Rattle.pc_top.specs.Commands.Explain.Explaining.{has_core as core_explained, has_fault}
+use Rattle.pc_top.specs.Commands.Judge.{accepted_text}
+use Rattle.pc_top.specs.Commands.Places.{IsPlaces, Placed}
+use Rattle.pc_top.specs.Commands.Show.{IsShow, Shown}
+use Rattle.pc_verdicts.proofs.Elaborated.{elaborating_ends, file_ends, source_ends}
+use Rattle.pc_verdicts.proofs.Forming.{SourcesAreFormed, file_says, source_formed}
+use Rattle.pc_verdicts.proofs.Stages.{Answers, HasEnd, ReadOn, file_answers, read_file}
+use Rattle.pc_verdicts.proofs.Typed.{Checked, checked, fails, is_valid, left, stopped}
+
+-- ---- `show`
+
+pub show_answers : (source : Named) → ReadOn source_limit source → IsSome source.told → Answers (IsShow source)
+show_answers source on told =
+    let r = read_file source source_limit on told in
+    file_answers source source_limit (FileStage source.name) Shown r.0 r.1 (file_ends source.name r.0 r.2) (λ file h. (done (printed file), refl))
+
+-- ---- `places`
+
+source_tokens : {name : Text} {r : Reading} {s : Source} → SourceStage name r (Ok s) → (tokens : List Token) × TokenList s.bytes tokens
+source_tokens (goes (fits l) (has_core (goes (lexed {ts = tokens} h) k))) = (tokens, h)
+
+placed : {name : Text} {r : Reading} (s : Source) → SourceStage name r (Ok s) → Answers (Placed s)
+placed s h =
+    let tokens = source_tokens h in
+    let text = places_text s.bytes tokens.0 s.core in
+    (done text, (text, (tokens.0, tokens.1, refl), refl))
+
+pub places_answers : (source : Named) → ReadOn source_limit source → IsSome source.told → Answers (IsPlaces source)
+places_answers source on told =
+    let r = read_file source source_limit on told in
+    file_answers source source_limit (SourceStage source.name) Placed r.0 r.1 (source_ends source.name r.0 r.2) (λ s h. placed s h)
+
+-- ---- `explain`
+
+module _ (law : SourcesAreFormed) where
+  core_told : (name bytes : Text) (tokens : List Token) (core : CoreData) → Checked core → (text : Text) × CoreText name bytes tokens core text
+  core_told name bytes tokens core (is_valid ann v small fit) = (accepted_text, accepted (ann, v))
+  core_told name bytes tokens core (fails f e) = (_, explained (declared f e))
+  core_told name bytes tokens core (stopped ann n m h) = (_, explained (no_rule ann n m h.0.at h h.0.is_at))
+  core_told name bytes tokens core (left ann k h) = (_, explained (unset ann k h))
+
+  tree_told : (name bytes : Text) (tokens : List Token) (file : t.File) (end : Result CoreData Verdict) → length bytes ≤ source_limit → TokenList bytes tokens → IsFileAnswer tokens (spelled file)
+      → Elaborating name bytes file end → HasEnd (Explaining name bytes file)
+  tree_told name bytes tokens file _ short l p (elaborated {core = core} stands) =
+      let is : SourceStage name (whole bytes) (Ok (record { bytes = bytes; core = core })) = goes (fits short) (has_core (goes (lexed l) (goes (parsed p) (elaborated stands)))) in
+      let text = core_told name bytes tokens core (checked core (source_formed law is).0) in
+      (Ok text.0, core_explained l (made_cores_stand file core stands) text.1)
+  tree_told name bytes tokens file _ short l p (misnamed f o h) = (fault_end name bytes file f, has_fault f o (inl h))
+  tree_told name bytes tokens file _ short l p (misused f o h) = (fault_end name bytes file f, has_fault f o (inr h))
+
+  explained_ends : (name : Text) (r : Reading) → HasEnd (FileStage name r) → HasEnd (ExplainedStage name r)
+  explained_ends name r (Err v, h) = (Err v, has_none h)
+  explained_ends name r (Ok file, h) =
+      let s = file_says h in
+      let core = elaborating_ends name s.0 file s.3 s.5.0 s.4.1 in
+      let end = tree_told name s.0 s.3 file core.0 s.2 s.4 s.5 core.1 in
+      (end.0, subst (λ (q : Reading). ExplainedStage name q end.0) (sym s.1) (has_tree (subst (λ (q : Reading). FileStage name q (Ok file)) s.1 h) end.1))
+
+  pub explain_answers : (source : Named) → ReadOn source_limit source → IsSome source.told → Answers (IsExplain source)
+  explain_answers source on told =
+      let r = read_file source source_limit on told in
+      file_answers source source_limit (ExplainedStage source.name) Explained r.0 r.1 (explained_ends source.name r.0 (file_ends source.name r.0 r.2)) (λ text h. (done text, refl))

@@ -1,0 +1,22 @@
+-- There is a verdict on the words, whatever bytes their files have.
+use Rattle.std.specs.Prelude.{◌+◌, List, Option}
+use Rattle.pc_args.specs.Asked.{command_of}
+use Rattle.pc_lists.specs.Texts.{Text}
+use Rattle.pc_refusals.specs.Derivation.{derivation_limit}
+use Rattle.pc_refusals.specs.Named.{Files, files_change}
+use Rattle.pc_refusals.specs.Verdict.{Verdict}
+use Rattle.pc_top.specs.Asked.{IsVerdict}
+use Rattle.pc_top.specs.One.{TellsOf}
+
+-- Files with these bytes. No reading of them fails, and one of a file that is longer than its limit goes on past that:
+-- no limit is greater than that of derivations.
+abbrev pub read_through : (Text → Option Text) → Files
+read_through told = files_change told (λ name. 0) (λ name. 0) (derivation_limit + 1)
+
+-- The words have a verdict if the files have these bytes.
+abbrev pub HasVerdict : (Text → Option Text) → List Text → Type 0
+HasVerdict told words = (v : Verdict) × IsVerdict (read_through told) words v
+
+-- Whatever the words are, and whatever bytes the files of the command have.
+abbrev pub ThereIsAVerdict : Type 0
+ThereIsAVerdict = (told : Text → Option Text) (words : List Text) → TellsOf told (command_of words) → HasVerdict told words

@@ -1,0 +1,28 @@
+//! The laws of verdicts. Each call does nothing, and its contract is the law.
+ghost use Rattle.pc_verdicts.specs.Free.{ElevenIsFree};
+ghost use Rattle.pc_verdicts.specs.There.{ThereIsAVerdict};
+
+use pc_elab::cores_are_formed;
+use pc_regions::valid_is_safe;
+use pc_text_order::tokens_are_in_order;
+use pc_top::verdict_is_one;
+use pc_types::accepted_never_lacks;
+
+/// There is a verdict on all words, whatever bytes their files have: tokens or a fault, a tree or a fault, a core or a
+/// fault, a valid annotation or what shows that there is none, and what each command does with them.
+pub fn there_is_a_verdict()
+    ensures { ThereIsAVerdict }
+{
+    tokens_are_in_order();
+    cores_are_formed();
+    accepted_never_lacks();
+    valid_is_safe();
+}
+
+/// If no file of the command and no stream failed, the answer is that verdict, or it is 11. So running out of memory is
+/// the one answer that words and files do not decide.
+pub fn eleven_is_the_one_free_answer()
+    ensures { ElevenIsFree }
+{
+    verdict_is_one();
+}
