@@ -35,13 +35,17 @@ static int read_file(const char *name, struct text *text) {
     return is_read;
 }
 
-/* Prints the line of the source that has the place, and a mark below the place. */
+/* Prints the line of the source that has the place, and below it a mark under each byte of the piece that starts there, as far as the line
+ * goes. An empty piece has one mark. */
 static void print_place(const struct text *source, const struct rcap_place *place) {
     size_t start = place->offset - (place->column - 1);
     size_t end = place->offset;
     while (end < source->length && source->bytes[end] != '\n')
         end++;
-    printf("%.*s\n%*s^\n", (int)(end - start), (const char *)source->bytes + start, (int)(place->column - 1), "");
+    printf("%.*s\n%*s^", (int)(end - start), (const char *)source->bytes + start, (int)(place->column - 1), "");
+    for (size_t at = place->offset + 1; at < place->end_offset && at < end; at++)
+        putchar('^');
+    putchar('\n');
 }
 
 /* A call of a source alone. */
@@ -76,7 +80,8 @@ static struct reply ask(source_call *call, const struct text *source) {
 static void print_refusal(const char *name, const struct text *source, const struct reply *checked) {
     const struct rcap_place *place = &checked->answer.place;
     struct reply explained = ask(rcap_explain, source);
-    printf("%s: status %u, line %zu, column %zu, byte %zu\n", name, checked->status, place->line, place->column, place->offset);
+    printf("%s: status %u, line %zu, column %zu, bytes %zu to %zu\n", name, checked->status, place->line, place->column, place->offset,
+           place->end_offset);
     if (explained.status == RCAP_DONE) {
         fwrite(explained.out.bytes, 1, explained.out.length, stdout);
     } else {

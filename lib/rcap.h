@@ -61,12 +61,16 @@ enum rcap_text {
     RCAP_SCHEDULE = 2
 };
 
-/* The byte at which the line points; all are 0 if it points at none. */
+/* The byte at which the line points, and the end of the piece of the text that starts there: of what is refused in the source, or of
+ * the word of the schedule. A piece may be empty, as at the end of a text. All are 0 if the line points at no byte. */
 struct rcap_place {
-    size_t text;    /* an rcap_text */
-    size_t line;    /* one more than the number of line ends before the byte */
-    size_t column;  /* one more than the number of bytes since the last of them */
-    size_t offset;  /* the number of bytes before it */
+    size_t text;        /* an rcap_text */
+    size_t line;        /* one more than the number of line ends before the byte */
+    size_t column;      /* one more than the number of bytes since the last of them */
+    size_t offset;      /* the number of bytes before it */
+    size_t end_line;    /* the same of the end: one more than the number of line ends before it */
+    size_t end_column;
+    size_t end_offset;  /* the number of bytes up to the end */
 };
 
 /* What a call answers beside its status and its texts. */

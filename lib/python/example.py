@@ -1,5 +1,5 @@
 #!/usr/bin/env python3
-"""Checks files, and prints of each that it is accepted, or the place at which it is refused.
+"""Checks files, and prints of each that it is accepted, or the place at which it is refused, and what stands there.
 
     lib/python/example.py FILE ..."""
 
@@ -14,12 +14,15 @@ LIBRARY = pathlib.Path(__file__).resolve().parents[2] / "out" / "lib" / "librcap
 def main():
     library = rcap.Library(LIBRARY)
     for name in sys.argv[1:]:
-        answer = library.check(pathlib.Path(name).read_bytes())
+        source = pathlib.Path(name).read_bytes()
+        answer = library.check(source)
         if answer.status == rcap.DONE:
             print(f"{name}: accepted, with a derivation of {len(answer.out)} bytes")
         elif answer.place is not None:
             place = answer.place
-            print(f"{name}: status {answer.status}, line {place.line}, column {place.column}, byte {place.offset}: {answer.err.decode()}", end="")
+            where = f"line {place.line}, column {place.column}, bytes {place.offset} to {place.end_offset}"
+            print(f"{name}: status {answer.status}, {where}: {answer.err.decode()}", end="")
+            print("  " + source[place.offset : place.end_offset].decode(errors="replace"))
         else:
             print(f"{name}: status {answer.status}: {answer.err.decode()}", end="")
 

@@ -35,7 +35,7 @@ FIRST_ROOM = 4096
 
 
 class _Place(ctypes.Structure):
-    _fields_ = [(name, ctypes.c_size_t) for name in ("text", "line", "column", "offset")]
+    _fields_ = [(name, ctypes.c_size_t) for name in ("text", "line", "column", "offset", "end_line", "end_column", "end_offset")]
 
 
 class _Answer(ctypes.Structure):
@@ -44,13 +44,16 @@ class _Answer(ctypes.Structure):
 
 @dataclasses.dataclass(frozen=True)
 class Place:
-    """The byte at which a line points: `text` is SOURCE or SCHEDULE, `line` and `column` are counted from 1 and in bytes, and
-    `offset` is the number of bytes before it."""
+    """The byte at which a line points, and the end of the piece that starts there: `text` is SOURCE or SCHEDULE, `line` and `column` are
+    counted from 1 and in bytes, and `offset` is the number of bytes before it. The piece is `source[place.offset : place.end_offset]`."""
 
     text: int
     line: int
     column: int
     offset: int
+    end_line: int
+    end_column: int
+    end_offset: int
 
 
 @dataclasses.dataclass(frozen=True)
@@ -148,4 +151,4 @@ def _place_of(place):
     """The place of an answer, or none."""
     if place.text == NOWHERE:
         return None
-    return Place(place.text, place.line, place.column, place.offset)
+    return Place(place.text, place.line, place.column, place.offset, place.end_line, place.end_column, place.end_offset)

@@ -1,5 +1,6 @@
 """The library answers what the program answers."""
 
+import dataclasses
 import pathlib
 import sys
 import tempfile
@@ -46,6 +47,11 @@ class Answers(unittest.TestCase):
     def test_cases_have_places_in_both_texts(self):
         self.assertEqual({cases.wanted(case).place[0] for case in cases.all_cases()}, {0, 1, 2})
 
+    def test_cases_have_pieces_of_each_size(self):
+        pieces = {(place[6] - place[3], place[4] - place[1]) for place in (cases.wanted(case).place for case in cases.all_cases())}
+        self.assertTrue({0, 1} < {size for size, _ in pieces})
+        self.assertTrue(any(lines for _, lines in pieces))
+
     def test_gcc(self):
         self.compare(lambda case: ask(built.driver("gcc", "ask"), case))
 
@@ -61,7 +67,7 @@ class Answers(unittest.TestCase):
             given = [it for it in (case.source, case.beside, case.number) if it is not None]
             answer = getattr(library, case.command)(*given)
             place = answer.place
-            numbers = (0, 0, 0, 0) if place is None else (place.text, place.line, place.column, place.offset)
+            numbers = (0,) * 7 if place is None else dataclasses.astuple(place)
             return cases.Answer(answer.status, answer.out, answer.err, numbers)
 
         self.compare(ask_shared)

@@ -68,8 +68,8 @@ int main(int count, char **words) {
     expect_again(command, &texts, &first, out_length + 100, err_length + 100);
     expect_again(command, &texts, &first, out_length / 2, err_length / 2);
 
-    printf("%u %zu %zu %zu %zu %zu %zu\n", first.status, out_length, err_length, answer.place.text, answer.place.line,
-           answer.place.column, answer.place.offset);
+    printf("%u %zu %zu %zu %zu %zu %zu %zu %zu %zu\n", first.status, out_length, err_length, answer.place.text, answer.place.line,
+           answer.place.column, answer.place.offset, answer.place.end_line, answer.place.end_column, answer.place.end_offset);
     fwrite(first.whole.out, 1, out_length, stdout);
     fwrite(first.whole.err, 1, err_length, stdout);
     free(first.whole.out);

@@ -38,7 +38,21 @@ MORE_SOURCES = (
 SCHEDULES = (b"", b"1*200 0*10", b"7 1*0 x", b"1*1000000 0", b"1*200 2*300 3*300 0*10\n", b"\n\n 1*7 +", b" " * 1_048_577)
 DERIVATIONS = (b"", b"rcap-derivation 1 4 7\ns 6 ref\nx\n", b"rcap-derivation 1 700000 7\n")
 
-LINE = re.compile(rb"(source|schedule):(\d+):(\d+): ")
+LINE = re.compile(rb"(source|schedule):(\d+):(\d+): (.*)")
+
+# What is said of a source of which one byte is at fault.
+OF_A_BYTE = (b"bad byte", b"not closed", b"bad number", b"bad escape", b"too many tokens")
+
+# A token, where one begins: a doc, a text, a name, a number, a sign.
+TOKEN = re.compile(rb'"""(?:(?!""").|\n)*"""+|"(?:\\.|[^"\\])*"|_?[A-Za-z]\w*\'*|\d\w*|[=!<>]=|=>|.', re.ASCII)
+
+WORD = re.compile(rb"[^ \t\r\n]*")
+
+# The line under the source's line in an explanation: carets, and where a piece ends that goes on after its first line.
+CARETS = re.compile(rb" +\| [ \t]*(\^+)(?: \.\. (\d+):(\d+))?")
+
+# The most bytes of a line that an explanation shows, and how many of those before the piece if there are more than FAR.
+SHOWN, NEAR, FAR = 160, 60, 100
 
 
 @dataclasses.dataclass(frozen=True)
@@ -60,7 +74,7 @@ class Case:
 
 @dataclasses.dataclass(frozen=True)
 class Answer:
-    """What is answered: a status, both texts, and the text, line, column and offset of the place."""
+    """What is answered: a status, both texts, and the place: its text, its line, column and offset, and those of its end."""
 
     status: int
     out: bytes
@@ -68,16 +82,50 @@ class Answer:
     place: tuple
 
 
+def offset_of(text, row, column):
+    """The number of bytes before a place in a text."""
+    return sum(len(it) + 1 for it in text.split(b"\n")[: row - 1]) + column - 1
+
+
+def explained_end(source, offset):
+    """The end of what an explanation of a source has carets under, from the byte at this offset on."""
+    carets = CARETS.fullmatch(wanted(Case("explain", source)).out.split(b"\n")[2])
+    if carets[2] is not None:
+        return offset_of(source, int(carets[2]), int(carets[3]))
+    before = len(source[:offset].split(b"\n")[-1])
+    rest = source[offset:].split(b"\n")[0]
+    # A caret stands under each character.
+    ends = [at for at in range(1, len(rest) + 1) if at == len(rest) or rest[at] & 0xC0 != 0x80]
+    size = ends[len(carets[1]) - 1]
+    if size == SHOWN - (before if before <= FAR else NEAR) and size < len(rest):
+        raise AssertionError(f"no more than {size} bytes are shown of {source[offset:][:size]}")
+    return offset + size
+
+
+def end_of(case, number, offset, said):
+    """The end of the piece that starts at a byte, worked out from what is said of it, and from the text."""
+    if number == 2:
+        return WORD.match(case.beside, offset).end()
+    if said in OF_A_BYTE:
+        return offset + 1
+    if said in (b"unexpected", b"nested too deep") or said.startswith((b"too many", b"text too long")):
+        token = TOKEN.match(case.source, offset)
+        return offset if token is None else token.end()
+    return explained_end(case.source, offset)
+
+
 def place_of(case, line):
     """The place that a line names, worked out from the line and the text."""
     found = LINE.match(line)
     if found is None:
-        return 0, 0, 0, 0
+        return (0,) * 7
     number = 1 if found[1] == b"source" else 2
     text = case.source if number == 1 else case.beside
     row, column = int(found[2]), int(found[3])
-    before = text.split(b"\n")[: row - 1]
-    return number, row, column, sum(len(it) + 1 for it in before) + column - 1
+    offset = offset_of(text, row, column)
+    end = end_of(case, number, offset, found[4])
+    before = text[:end].split(b"\n")
+    return number, row, column, offset, len(before), len(before[-1]) + 1, end
 
 
 def write(case, folder):

@@ -35,7 +35,17 @@ part: the value `a` is C iso
 rule define: the value has the form iso, an alias, and `b`, an iso, takes only iso^
 hint: write `consume a`: it has the form iso^, and after it the name cannot be used
 """
-REFUSAL = "b.pony: status 1, line 5, column 5, byte 70\n" + EXPLANATION
+PLACE = "line 5, column 5, bytes 70 to 86"
+REFUSAL = f"b.pony: status 1, {PLACE}\n" + EXPLANATION
+
+# The same source with a token too many, which has no explanation.
+ASTRAY = ACCEPTED + "    let b: C iso = else\n"
+ASTRAY_REFUSAL = """astray.pony: status 3, line 5, column 20, bytes 85 to 89
+source:5:20: unexpected
+    let b: C iso = else
+                   ^^^^
+"""
+EMPTY_REFUSAL = "empty.pony: status 3, line 1, column 1, bytes 0 to 0\nsource:1:1: unexpected\n\n^\n"
 
 ACCEPTED_LINE = f"a.pony: accepted, with a derivation of {len(DERIVATION)} bytes\n"
 
@@ -47,7 +57,7 @@ class Examples(unittest.TestCase):
         room = tempfile.TemporaryDirectory(prefix="lib-test-")
         self.addCleanup(room.cleanup)
         self.room = pathlib.Path(room.name)
-        for name, text in {"a.pony": ACCEPTED, "b.pony": REFUSED, "empty.pony": ""}.items():
+        for name, text in {"a.pony": ACCEPTED, "b.pony": REFUSED, "astray.pony": ASTRAY, "empty.pony": ""}.items():
             (self.room / name).write_text(text)
 
     def test_header_in_cpp(self):
@@ -64,11 +74,10 @@ class Examples(unittest.TestCase):
     def test_c(self):
         for compiler in built.COMPILERS:
             program = built.compiled(compiler, (built.LIB / "example.c",))
-            for name, status, out in (("a.pony", 0, DERIVATION), ("b.pony", 1, REFUSAL)):
+            wanted = (("a.pony", 0, DERIVATION), ("b.pony", 1, REFUSAL), ("astray.pony", 3, ASTRAY_REFUSAL), ("empty.pony", 3, EMPTY_REFUSAL))
+            for name, status, out in wanted:
                 ran = built.run([program, name], cwd=self.room)
                 self.assertEqual((ran.returncode, ran.stdout.decode(), ran.stderr), (status, out, b""))
-            ran = built.run([program, "empty.pony"], cwd=self.room)
-            self.assertEqual(ran.stdout.decode(), "empty.pony: status 3, line 1, column 1, byte 0\nsource:1:1: unexpected\n\n^\n")
 
     def test_confirming(self):
         for compiler in built.COMPILERS:
@@ -89,7 +98,7 @@ class Examples(unittest.TestCase):
         (self.room / "out").mkdir()
         (self.room / "out" / "lib").symlink_to(built.library)
         ran = built.must([sys.executable, "-B", copy / "example.py", "a.pony", "b.pony"], cwd=self.room)
-        wanted = ACCEPTED_LINE + "b.pony: status 1, line 5, column 5, byte 70: source:5:5: no rule\n"
+        wanted = ACCEPTED_LINE + f"b.pony: status 1, {PLACE}: source:5:5: no rule\n  let b: C iso = a\n"
         self.assertEqual(ran.stdout.decode(), wanted)
 
     def test_rust(self):
@@ -102,7 +111,7 @@ class Examples(unittest.TestCase):
         built.must(["cargo", "test", "--offline", "--quiet"], cwd=copy, env=surroundings)
         words = ["cargo", "run", "--offline", "--quiet", "--example", "check", "--", self.room / "a.pony", self.room / "b.pony"]
         ran = built.must(words, cwd=copy, env=surroundings)
-        wanted = ACCEPTED_LINE + "b.pony: NoDerivation, line 5, column 5, byte 70: source:5:5: no rule\n"
+        wanted = ACCEPTED_LINE + f"b.pony: NoDerivation, {PLACE}: source:5:5: no rule\n  let b: C iso = a\n"
         self.assertEqual(ran.stdout.decode().replace(f"{self.room}/", ""), wanted)
 
 

@@ -7,7 +7,7 @@ use Rattle.pc_refusals.proofs.Places.{At, at_start, at_next}
 use Rattle.pc_buffers.specs.Finding.{AreOf, AreAt}
 use Rattle.pc_buffers.specs.Fronts.{after_word, after_numbers}
 use Rattle.pc_buffers.specs.declared.marks.Mark.{Mark}
-use Rattle.pc_buffers.specs.declared.place.Place.{Place}
+use Rattle.pc_buffers.specs.declared.start.Start.{Start}
 
 -- The mark is that after so many bytes, and the numbers are those of none of the bytes before it.
 pub record Before (numbers text : Text) (i : ℕ) (m : Mark) : Type 0 where
@@ -41,7 +41,7 @@ next numbers text i m n within b e o l c in_line =
       none = below_more (λ k. AreOf text numbers k → ⊥) i b.none (not_here numbers text i m b e);
     }
 
-pub found : (numbers text : Text) (i : ℕ) (m : Mark) (number : ℕ) (p : Place) → Before numbers text i m → is_some (after_numbers m.line m.column numbers) ≡ true
+pub found : (numbers text : Text) (i : ℕ) (m : Mark) (number : ℕ) (p : Start) → Before numbers text i m → is_some (after_numbers m.line m.column numbers) ≡ true
     → p ≡ record { text = number; line = m.line; column = m.column; offset = m.offset } → AreAt number text numbers p
 found numbers text i m number p b e same =
     let o = b.offset_is in

@@ -1,21 +1,57 @@
--- Where in a text two numbers point, which are all that is left of a line. The contract of a part of `find_place` speaks of it.
+-- Where in a text a line points. The contracts of the parts of `find_place` speak of it.
 use Rattle.std.specs.Prelude.{ℕ, ◌≡◌, ◌≤◌, true, length, take, is_some, Option, Some, None}
 use Rattle.pc_lists.specs.Texts.{Text}
 use Rattle.pc_refusals.specs.Place.{line_behind, column_behind}
+use Rattle.pc_buffers.specs.Ends.{Ending}
 use Rattle.pc_buffers.specs.Fronts.{after_numbers}
+use Rattle.pc_buffers.specs.Places.{PointsNowhere, PointsTo}
 use Rattle.pc_buffers.specs.declared.place.Place.{Place}
+use Rattle.pc_buffers.specs.declared.start.Start.{Start}
+
+-- ---- a whole line
+
+-- It points at this byte of the text, which is that of this number.
+pub record StartsAt (number : ℕ) (name text line : Text) (start : Start) : Type 0 where
+  pub number_is : start.text ≡ number
+  pub within : start.offset ≤ length text
+  pub line_is : start.line ≡ line_behind (take start.offset text)
+  pub column_is : start.column ≡ column_behind (take start.offset text)
+  pub points : PointsTo name text line start.offset
+
+-- What is found where it is looked for in this text.
+abbrev pub Finds : (number : ℕ) → (name text line : Text) → Option Start → Type 0
+Finds number name text line None = PointsNowhere name text line
+Finds number name text line (Some start) = StartsAt number name text line start
+
+-- The piece of a text from here up to this byte.
+abbrev pub place_to : Text → Start → ℕ → Place
+place_to text start at = record {
+  text = start.text;
+  line = start.line;
+  column = start.column;
+  offset = start.offset;
+  end_line = line_behind (take at text);
+  end_column = column_behind (take at text);
+  end_offset = at;
+}
+
+-- The piece starts here, and ends where one ends that does.
+abbrev pub Stretches : Ending → Text → Start → Place → Type 0
+Stretches Ends text start place = (at : ℕ) × Ends start.offset at × (place ≡ place_to text start at)
+
+-- ---- two numbers, which are all that is left of a line
 
 -- They are the line and the column after so many bytes of the text.
 abbrev pub AreOf : (text numbers : Text) → ℕ → Type 0
 AreOf text numbers at = is_some (after_numbers (line_behind (take at text)) (column_behind (take at text)) numbers) ≡ true
 
-pub record AreAt (number : ℕ) (text numbers : Text) (place : Place) : Type 0 where
-  pub number_is : place.text ≡ number
-  pub within : place.offset ≤ length text
-  pub line_is : place.line ≡ line_behind (take place.offset text)
-  pub column_is : place.column ≡ column_behind (take place.offset text)
-  pub are : AreOf text numbers place.offset
+pub record AreAt (number : ℕ) (text numbers : Text) (start : Start) : Type 0 where
+  pub number_is : start.text ≡ number
+  pub within : start.offset ≤ length text
+  pub line_is : start.line ≡ line_behind (take start.offset text)
+  pub column_is : start.column ≡ column_behind (take start.offset text)
+  pub are : AreOf text numbers start.offset
 
-abbrev pub FindsIn : (number : ℕ) → (text numbers : Text) → Option Place → Type 0
+abbrev pub FindsIn : (number : ℕ) → (text numbers : Text) → Option Start → Type 0
 FindsIn number text numbers None = (at : ℕ) → at ≤ length text → AreOf text numbers at → ⊥
-FindsIn number text numbers (Some place) = AreAt number text numbers place
+FindsIn number text numbers (Some start) = AreAt number text numbers start

@@ -1,6 +1,10 @@
+pub mod Ends
 pub mod Finding
 pub mod Fronts
 pub mod Holding
+pub mod Laws
 pub mod Laying
 pub mod Places
 pub mod Points
+pub mod Refused
+pub mod Spans

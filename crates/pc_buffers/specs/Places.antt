@@ -1,7 +1,8 @@
 -- Where a line points.
-use Rattle.std.specs.Prelude.{ℕ, ◌≡◌, ◌≤◌, ◌++◌, length, take, codes, decimal, Option, Some, None}
+use Rattle.std.specs.Prelude.{ℕ, ◌≡◌, ◌≤◌, ◌++◌, length, take, codes, decimal}
 use Rattle.pc_lists.specs.Texts.{Text}
 use Rattle.pc_refusals.specs.Place.{line_behind, column_behind}
+use Rattle.pc_buffers.specs.Ends.{Ending}
 use Rattle.pc_buffers.specs.declared.place.Place.{Place}
 
 -- How a line begins that points at a byte: `NAME:LINE:COLUMN: `.
@@ -16,23 +17,22 @@ BeginsWith line front = (rest : Text) × (line ≡ front ++ rest)
 abbrev pub PointsTo : (name text line : Text) → ℕ → Type 0
 PointsTo name text line at = BeginsWith line (place_front name (line_behind (take at text)) (column_behind (take at text)))
 
--- It points at this place of the text, which is that of this number.
-pub record PointsAt (number : ℕ) (name text line : Text) (place : Place) : Type 0 where
+-- It points at this piece of the text, which is that of this number: at its first byte, and the piece ends where one ends that
+-- starts there.
+pub record PointsAt (number : ℕ) (name text : Text) (Ends : Ending) (line : Text) (place : Place) : Type 0 where
   pub number_is : place.text ≡ number
   pub within : place.offset ≤ length text
   pub line_is : place.line ≡ line_behind (take place.offset text)
   pub column_is : place.column ≡ column_behind (take place.offset text)
   pub points : PointsTo name text line place.offset
+  pub ends : Ends place.offset place.end_offset
+  pub end_line_is : place.end_line ≡ line_behind (take place.end_offset text)
+  pub end_column_is : place.end_column ≡ column_behind (take place.end_offset text)
 
 -- It points at no byte of the text, and not at its end.
 abbrev pub PointsNowhere : (name text line : Text) → Type 0
 PointsNowhere name text line = (at : ℕ) → at ≤ length text → PointsTo name text line at → ⊥
 
--- What is found where it is looked for in this text.
-abbrev pub Finds : (number : ℕ) → (name text line : Text) → Option Place → Type 0
-Finds number name text line None = PointsNowhere name text line
-Finds number name text line (Some place) = PointsAt number name text line place
-
 -- No place, all of whose numbers are 0.
 abbrev pub no_place : Place
-no_place = record { text = 0; line = 0; column = 0; offset = 0 }
+no_place = record { text = 0; line = 0; column = 0; offset = 0; end_line = 0; end_column = 0; end_offset = 0 }

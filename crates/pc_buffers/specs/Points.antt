@@ -1,5 +1,6 @@
 -- The place at which a line points, among the texts of a call.
 use Rattle.std.specs.Prelude.{ℕ, ◌≡◌, ◌⊎◌, codes}
+use Rattle.pc_buffers.specs.Ends.{Ending, SpansTo, WordTo}
 use Rattle.pc_buffers.specs.Places.{PointsAt, PointsNowhere, no_place}
 use Rattle.pc_buffers.specs.declared.place.Place.{Place}
 use Rattle.pc_lists.specs.Texts.{Text}
@@ -14,24 +15,32 @@ Pointing = Text → Place → Type 0
 abbrev pub PointsAway : Pointing
 PointsAway line place = place ≡ no_place
 
--- At a byte of the text of this number and this name, or else elsewhere.
-abbrev pub PointsInto : (number : ℕ) → (name text : Text) → Pointing → Pointing
-PointsInto number name text Else line place = PointsAt number name text line place ⊎ (PointsNowhere name text line × Else line place)
+-- At a byte of the text of this number and this name, with the end of the piece that starts there, or else elsewhere.
+abbrev pub PointsInto : (number : ℕ) → (name text : Text) → Ending → Pointing → Pointing
+PointsInto number name text Ends Else line place = PointsAt number name text Ends line place ⊎ (PointsNowhere name text line × Else line place)
+
+-- At the first byte of the span at which the source is refused, or else elsewhere.
+abbrev pub InSource : Text → Pointing → Pointing
+InSource source = PointsInto 1 (codes "source") source (SpansTo source)
+
+-- At the first byte of a word of the schedule, or away.
+abbrev pub InSchedule : Text → Pointing
+InSchedule schedule = PointsInto 2 (codes "schedule") schedule (WordTo schedule) PointsAway
 
 -- Into the source, or away.
 abbrev pub PointsIntoSource : Text → Pointing
-PointsIntoSource source = PointsInto 1 (codes "source") source PointsAway
+PointsIntoSource source = InSource source PointsAway
 
 -- Into the source, or else into the schedule, or away.
 abbrev pub PointsIntoBoth : (source schedule : Text) → Pointing
-PointsIntoBoth source schedule = PointsInto 1 (codes "source") source (PointsInto 2 (codes "schedule") schedule PointsAway)
+PointsIntoBoth source schedule = InSource source (InSchedule schedule)
 
 -- ---- whatever is beside the source
 
 abbrev pub PointsBeside : Beside → Pointing
 PointsBeside Nothing = PointsAway
 PointsBeside (Derivation derivation) = PointsAway
-PointsBeside (Schedule schedule) = PointsInto 2 (codes "schedule") schedule.now PointsAway
+PointsBeside (Schedule schedule) = InSchedule schedule.now
 
 abbrev pub Points : Text → Beside → Pointing
-Points source beside = PointsInto 1 (codes "source") source (PointsBeside beside)
+Points source beside = InSource source (PointsBeside beside)

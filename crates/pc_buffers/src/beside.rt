@@ -3,18 +3,9 @@ ghost use Rattle.std.specs.Prelude.{◌≡◌, List, ℕ, Some, codes, IfOk, OnO
 ghost use Rattle.std.specs.Str.{bytes_eq};
 ghost use Rattle.pc_io.specs.Entries.{held};
 ghost use Rattle.pc_buffers.specs.Holding.{AddsBeside, HoldsTexts};
-ghost use Rattle.pc_buffers.specs.Points.{Points, PointsBeside};
 
-use crate::finding::find_place;
-use crate::place::{NO_PLACE, Place};
 use pc_io::NeverFiles;
 use std::alloc::{AllocError, Global};
-
-/// The number of the source among the texts of a call.
-const FIRST_TEXT: usize = 1;
-
-/// The number of the text beside it.
-const SECOND_TEXT: usize = 2;
 
 /// What a command is given beside its source.
 #[derive(Clone, Copy, Debug)]
@@ -50,28 +41,4 @@ pub fn make_files(
     files.add("source", source)?;
     add_beside(&mut files, beside)?;
     Ok(files)
-}
-
-// The place in the text beside the source at which a line points.
-fn find_beside(line: &[u8], beside: Beside<'_>) -> Place
-    ensures { PointsBeside beside.entry line.now result }
-{
-    match beside {
-        Beside::Nothing => NO_PLACE,
-        Beside::Derivation(_) => NO_PLACE,
-        Beside::Schedule(bytes) => match find_place(line, "schedule", bytes, SECOND_TEXT) {
-            Some(place) => place,
-            None => NO_PLACE,
-        },
-    }
-}
-
-/// The place at which a line points. No line names a byte of a derivation.
-pub fn find_in(line: &[u8], source: &[u8], beside: Beside<'_>) -> Place
-    ensures { Points source.now beside.entry line.now result }
-{
-    match find_place(line, "source", source, FIRST_TEXT) {
-        Some(place) => place,
-        None => find_beside(line, beside),
-    }
 }

@@ -5,12 +5,15 @@ ghost use Rattle.pc_buffers.specs.Places.{no_place};
 ghost use Rattle.pc_buffers.specs.Points.{Points};
 
 use crate::answer::{Answer, OUT_OF_MEMORY, refuse_memory};
-use crate::beside::{Beside, find_in};
+use crate::beside::Beside;
 use crate::laying::lay;
+use crate::pointing::find_place;
+use std::alloc::Global;
 
 /// Hands over what a command answered on these texts: its status, what it wrote and its line, as far as there is room for them, and
-/// the place at which the line points. If memory ran out, no text and no place are handed over.
+/// the place at which the line points. If memory ran out, also in looking for that place, no text and no place are handed over.
 pub fn hand_over(
+    alloc: Global,
     status: u8,
     written: &[u8],
     line: &[u8],
@@ -20,15 +23,20 @@ pub fn hand_over(
     err: &mut [u8],
     answer: &mut Answer,
 ) -> u8
-    ensures status { result ≡ status }
-    ensures texts { status ≢ 11 → Holds (buffer out.old out.new answer.new.out_length) written.now × Holds (buffer err.old err.new answer.new.err_length) line.now × Points source.now beside.entry line.now answer.new.place }
-    ensures memory { status ≡ 11 → IsUntouched (buffer out.old out.new answer.new.out_length) × IsUntouched (buffer err.old err.new answer.new.err_length) × (answer.new.place ≡ no_place) }
+    ensures status { result ≢ 11 → result ≡ status }
+    ensures texts { result ≢ 11 → Holds (buffer out.old out.new answer.new.out_length) written.now × Holds (buffer err.old err.new answer.new.err_length) line.now × Points source.now beside.entry line.now answer.new.place }
+    ensures memory { result ≡ 11 → IsUntouched (buffer out.old out.new answer.new.out_length) × IsUntouched (buffer err.old err.new answer.new.err_length) × (answer.new.place ≡ no_place) }
 {
     if status == OUT_OF_MEMORY {
         return refuse_memory(answer);
     }
-    answer.place = find_in(line, source, beside);
-    answer.out_length = lay(out, written);
-    answer.err_length = lay(err, line);
-    status
+    match find_place(alloc, line, source, beside) {
+        Ok(place) => {
+            answer.place = place;
+            answer.out_length = lay(out, written);
+            answer.err_length = lay(err, line);
+            status
+        }
+        Err(_) => refuse_memory(answer),
+    }
 }

@@ -56,34 +56,35 @@ never_fails entries taken (Some (explain source)) name f = never_at entries take
 never_rose : Rose 0 0 → ⊥
 never_rose r = omega (arith, r)
 
-module _ (entries : List Entry) (taken : ℕ) (source : Text) (beside : Beside) (holds : HoldsTexts entries source beside) (words : List Text) (out err : Text) (status : ℕ) (a b : Buffer) (place : Place) where
-  whole : (status ≡ 11 → ⊥) → Holds a out → Holds b err → Points source beside err place
+module _ (entries : List Entry) (taken : ℕ) (source : Text) (beside : Beside) (holds : HoldsTexts entries source beside) (words : List Text) (out err : Text) (status result : ℕ) (a b : Buffer) (place : Place) where
+  -- the command's status is a verdict's, and it is answered
+  whole : (status ≡ 11 → ⊥) → result ≡ status → Holds a out → Holds b err → Points source beside err place
       → ((status ≡ 11) ⊎ ((v : Verdict) × IsVerdict (shelf entries taken) words v × (status ≡ v.status) × Appends (Some []) (Some out) v.out × Appends (Some []) (Some err) v.err))
-      → Answers (IsVerdictOn source beside words) (Points source beside) status a b place
-  whole other l m p (inl e) = absurd (other e)
-  whole other l m p (inr h) =
-      verdict h.0 (entries, holds, taken, h.1) h.2 (subst (Holds a) h.3 l) (subst (Holds b) h.4 m) (subst (λ (t : Text). Points source beside t place) h.4 p)
+      → Answers (IsVerdictOn source beside words) (Points source beside) result a b place
+  whole other same l m p (inl e) = absurd (other e)
+  whole other same l m p (inr h) =
+      verdict h.0 (entries, holds, taken, h.1) (same ∙ h.2) (subst (Holds a) h.3 l) (subst (Holds b) h.4 m) (subst (λ (t : Text). Points source beside t place) h.4 p)
 
-  -- What is handed over of a status.
-  by_status : (is_memory : Bool) → (status == 11) ≡ is_memory → (status ≢ 11 → Holds a out × Holds b err × Points source beside err place)
-      → (status ≡ 11 → IsUntouched a × IsUntouched b × (place ≡ no_place))
+  -- What is handed over of a status, by what is answered.
+  by_result : (is_memory : Bool) → (result == 11) ≡ is_memory → (result ≢ 11 → result ≡ status) → (result ≢ 11 → Holds a out × Holds b err × Points source beside err place)
+      → (result ≡ 11 → IsUntouched a × IsUntouched b × (place ≡ no_place))
       → ((status ≡ 11) ⊎ ((v : Verdict) × IsVerdict (shelf entries taken) words v × (status ≡ v.status) × Appends (Some []) (Some out) v.out × Appends (Some []) (Some err) v.err))
-      → Answers (IsVerdictOn source beside words) (Points source beside) status a b place
-  by_status true e handed untouched h = let u = untouched (eqb-true status 11 e) in no_memory (eqb-true status 11 e) u.0 u.1 u.2
-  by_status false e handed untouched h =
-      let other : status ≡ 11 → ⊥ = λ s. true≢false (sym (ap (λ (n : ℕ). n == 11) s) ∙ e) in
-      let p = handed other in whole other p.0 p.1 p.2 h
+      → Answers (IsVerdictOn source beside words) (Points source beside) result a b place
+  by_result true e same handed untouched h = let u = untouched (eqb-true result 11 e) in no_memory (eqb-true result 11 e) u.0 u.1 u.2
+  by_result false e same handed untouched h =
+      let other : result ≡ 11 → ⊥ = λ s. true≢false (sym (ap (λ (n : ℕ). n == 11) s) ∙ e) in
+      let p = handed other in whole (λ s. other (same other ∙ s)) (same other) p.0 p.1 p.2 h
 
   -- The sinks were empty, nothing failed, and what the command answered was handed over.
   pub answers : (old_out old_err : Text) → old_out ≡ [] → old_err ≡ []
       → Completes (IsVerdict (shelf entries taken) words) (FailedIn (shelf entries taken) words) (change (Some old_out) (Some out) 0 0) (change (Some old_err) (Some err) 0 0) status
-      → (status ≢ 11 → Holds a out × Holds b err × Points source beside err place) → (status ≡ 11 → IsUntouched a × IsUntouched b × (place ≡ no_place))
-      → Answers (IsVerdictOn source beside words) (Points source beside) status a b place
-  answers old_out old_err e f done handed untouched =
+      → (result ≢ 11 → result ≡ status) → (result ≢ 11 → Holds a out × Holds b err × Points source beside err place) → (result ≡ 11 → IsUntouched a × IsUntouched b × (place ≡ no_place))
+      → Answers (IsVerdictOn source beside words) (Points source beside) result a b place
+  answers old_out old_err e f done same handed untouched =
       let begins : Completes (IsVerdict (shelf entries taken) words) (FailedIn (shelf entries taken) words) (change (Some []) (Some out) 0 0) (change (Some []) (Some err) 0 0) status =
       subst (λ (x : Text). Completes (IsVerdict (shelf entries taken) words) (FailedIn (shelf entries taken) words) (change (Some x) (Some out) 0 0) (change (Some []) (Some err) 0 0) status) e
       (subst (λ (x : Text). Completes (IsVerdict (shelf entries taken) words) (FailedIn (shelf entries taken) words) (change (Some old_out) (Some out) 0 0) (change (Some x) (Some err) 0 0) status) f done) in
-      by_status (status == 11) refl handed untouched (begins (λ name g. never_fails entries taken (command_of words) name g) never_rose never_rose)
+      by_result (result == 11) refl same handed untouched (begins (λ name g. never_fails entries taken (command_of words) name g) never_rose never_rose)
 
 -- The texts that are handed over are those that the sinks hold.
 pub handed : (source : Text) (beside : Beside) (status : ℕ) (a b : Buffer) (place : Place) (written out line err : Text) → written ≡ out → line ≡ err
@@ -99,6 +100,10 @@ refused V P status out err n m place s a b p = no_memory s (a, refl) (b, refl) p
 pub not_accepting : (status : ℕ) → status ≡ 11 → IsAccepting status → ⊥
 not_accepting status e (inl z) = omega (arith, e, z)
 not_accepting status e (inr z) = omega (arith, e, z)
+
+-- What is answered as accepting is the command's status.
+pub accepting_status : (status result : ℕ) → (result ≢ 11 → result ≡ status) → IsAccepting result → IsAccepting status
+accepting_status status result same accepting = subst IsAccepting (same (λ e. not_accepting result e accepting)) accepting
 
 -- What answers a verdict answers whatever follows from it.
 pub answers_as : (V W : Verdict → Type 0) (P : Pointing) (status : ℕ) (a b : Buffer) (place : Place) → ((v : Verdict) → V v → W v) → Answers V P status a b place → Answers W P status a b place

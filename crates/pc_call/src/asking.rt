@@ -37,6 +37,7 @@ fn ask_files(
     let mut referee = Rules;
     let status = rcap(alloc, words, files, &mut to_out, &mut to_err, &mut referee);
     hand_over(
+        alloc,
         status,
         to_out.bytes(),
         to_err.bytes(),

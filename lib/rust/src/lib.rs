@@ -3,6 +3,7 @@
 //! `lib/rcap.h` says what a call answers. A call takes up to a mebibyte of stack.
 
 use std::fmt;
+use std::ops::Range;
 
 /// What a command answers with its texts.
 #[derive(Clone, Copy, Debug, PartialEq, Eq)]
@@ -61,7 +62,7 @@ pub enum Text {
     Schedule,
 }
 
-/// The byte at which a line points.
+/// The byte at which a line points, and the end of the piece of the text that starts there.
 #[derive(Clone, Copy, Debug, PartialEq, Eq)]
 pub struct Place {
     pub text: Text,
@@ -71,6 +72,19 @@ pub struct Place {
     pub column: usize,
     /// The number of bytes before it.
     pub offset: usize,
+    /// One more than the number of line ends before the end.
+    pub end_line: usize,
+    /// One more than the number of bytes since the last of them.
+    pub end_column: usize,
+    /// The number of bytes up to the end.
+    pub end_offset: usize,
+}
+
+impl Place {
+    /// The bytes of the piece, by their offsets in the text.
+    pub fn bytes(&self) -> Range<usize> {
+        self.offset..self.end_offset
+    }
 }
 
 /// What a command answers.
@@ -266,6 +280,9 @@ fn place_of(place: &calls::Place) -> Option<Place> {
         line: place.line,
         column: place.column,
         offset: place.offset,
+        end_line: place.end_line,
+        end_column: place.end_column,
+        end_offset: place.end_offset,
     })
 }
 
@@ -278,6 +295,9 @@ mod calls {
         pub line: usize,
         pub column: usize,
         pub offset: usize,
+        pub end_line: usize,
+        pub end_column: usize,
+        pub end_offset: usize,
     }
 
     #[repr(C)]
@@ -470,9 +490,13 @@ mod tests {
                 text: Text::Source,
                 line: 5,
                 column: 5,
-                offset: 70
+                offset: 70,
+                end_line: 5,
+                end_column: 21,
+                end_offset: 86
             })
         );
+        assert_eq!(&REFUSED[refused.place.unwrap().bytes()], b"let b: C iso = a");
     }
 
     #[test]
@@ -513,7 +537,10 @@ mod tests {
                 text: Text::Schedule,
                 line: 1,
                 column: 7,
-                offset: 6
+                offset: 6,
+                end_line: 1,
+                end_column: 8,
+                end_offset: 7
             })
         );
     }
@@ -528,7 +555,10 @@ mod tests {
                 text: Text::Source,
                 line: 1,
                 column: 1,
-                offset: 0
+                offset: 0,
+                end_line: 1,
+                end_column: 1,
+                end_offset: 0
             })
         );
     }

@@ -7,7 +7,7 @@ loop-byte-init c = first c.args.numbers.now c.args.text.now c.first_mark-mark.re
 
 pub returns-then-is_named : goal.returns-then-is_named
 returns-then-is_named c =
-    found c.args.numbers.now c.args.text.now c.loop-byte.byte-index c.loop-byte.mark c.args.number c.place_of.result c.loop-byte.invariant (sym c.is_named.ensures ∙ c.if-is_named.true) c.place_of.ensures
+    found c.args.numbers.now c.args.text.now c.loop-byte.byte-index c.loop-byte.mark c.args.number c.start_of.result c.loop-byte.invariant (sym c.is_named.ensures ∙ c.if-is_named.true) c.start_of.ensures
 
 pub loop-byte-preserved : goal.loop-byte-preserved
 loop-byte-preserved c =
@@ -16,7 +16,7 @@ loop-byte-preserved c =
 
 pub returns-then-is_named-2 : goal.returns-then-is_named-2
 returns-then-is_named-2 c =
-    found c.args.numbers.now c.args.text.now c.loop-byte.byte-index c.loop-byte.mark c.args.number c.place_of-then-is_named-2.result c.loop-byte.invariant (sym c.is_named-2.ensures ∙ c.if-is_named-2.true) c.place_of-then-is_named-2.ensures
+    found c.args.numbers.now c.args.text.now c.loop-byte.byte-index c.loop-byte.mark c.args.number c.start_of-then-is_named-2.result c.loop-byte.invariant (sym c.is_named-2.ensures ∙ c.if-is_named-2.true) c.start_of-then-is_named-2.ensures
 
 pub returns : goal.returns
 returns c = nowhere c.args.numbers.now c.args.text.now c.loop-byte.byte-index c.loop-byte.mark c.loop-byte-test.false c.loop-byte.invariant (sym c.is_named-2.ensures ∙ c.if-is_named-2.false)

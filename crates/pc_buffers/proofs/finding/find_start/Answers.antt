@@ -1,7 +1,7 @@
 use Rattle.std.proofs.Common.{sym, ap, ◌∙◌}
 use Rattle.pc_buffers.specs.Fronts.{after_word}
 use Rattle.pc_buffers.proofs.Numbers.{found_after, found_without}
-use Rattle.pc_buffers.proofs.finding.find_place.Goals as goal
+use Rattle.pc_buffers.proofs.finding.find_start.Goals as goal
 
 pub returns-in-Some : goal.returns-in-Some
 returns-in-Some c =

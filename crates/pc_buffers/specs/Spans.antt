@@ -1,0 +1,45 @@
+-- What the parts of `refused_span` answer.
+use Rattle.std.specs.Prelude.{ℕ, ◌≡◌, ◌==◌, List, Option, Some, None, find, option_map, slice_get}
+use Rattle.pc_caps.specs.declared.span.Span.{Span}
+use Rattle.pc_check.specs.declared.fault.CheckFault.{CheckFault}
+use Rattle.pc_check.specs.declared.fault.CheckFault.TheVariants as fault
+use Rattle.pc_core.specs.CoreData.{CoreData}
+use Rattle.pc_core.specs.declared.nodes.Node.{Node}
+use Rattle.pc_explain.specs.Explanation.{decl_span, method_span, no_span}
+use Rattle.pc_expr.specs.declared.fault.ParseFault.{ParseFault}
+use Rattle.pc_expr.specs.declared.fault.ParseFault.TheVariants as syntax
+use Rattle.pc_lex.specs.declared.fault.LexFault.{LexFault}
+use Rattle.pc_lex.specs.declared.fault.LexFault.TheVariants as lexing
+use Rattle.pc_lists.specs.Texts.{Text}
+use Rattle.pc_names.specs.declared.fault.NameFault.{NameFault}
+use Rattle.pc_names.specs.declared.fault.NameFault.TheVariants as naming
+use Rattle.pc_token.specs.declared.kinds.Token.{Token}
+use Rattle.pc_buffers.specs.Refused.{lex_span, name_span}
+
+abbrev pub node_span : Option Node → Span
+node_span None = no_span
+node_span (Some x) = x.span
+
+-- The first token that begins at this byte.
+abbrev pub token_span : List Token → ℕ → Option Span
+token_span tokens at = option_map (λ (token : Token). token.span) (find (λ token. token.span.start == at) tokens)
+
+-- Of a fault, if it is not that memory ran out, this is the span.
+abbrev pub IsLexSpan : Text → LexFault → Option Span → Type 0
+IsLexSpan bytes lexing.Memory span = ⊥
+IsLexSpan bytes f span = span ≡ lex_span bytes f
+
+abbrev pub IsTokenSpan : List Token → ParseFault → Option Span → Type 0
+IsTokenSpan tokens (syntax.Unexpected p) span = span ≡ token_span tokens p
+IsTokenSpan tokens (syntax.TooDeep p) span = span ≡ token_span tokens p
+IsTokenSpan tokens syntax.Memory span = ⊥
+
+abbrev pub IsNameSpan : NameFault → Option Span → Type 0
+IsNameSpan naming.Memory span = ⊥
+IsNameSpan f span = span ≡ name_span f
+
+abbrev pub IsCoreSpan : CoreData → CheckFault → Option Span → Type 0
+IsCoreSpan core (fault.Decl f) span = span ≡ Some (decl_span core f)
+IsCoreSpan core (fault.NoRule n l s ann) span = span ≡ Some (node_span (slice_get core.nodes n))
+IsCoreSpan core (fault.Unset m ann) span = span ≡ Some (method_span (slice_get core.methods m))
+IsCoreSpan core fault.Memory span = ⊥
