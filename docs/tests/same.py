@@ -127,7 +127,7 @@ def look_at_lines(found, results):
             results.check(row.cells["Lines"] == lines, f"{page.name}:{row.line}: lines", f"the files have {lines}")
             listed |= set(named)
     # The record `CoreOf` takes a limit from the files on the verdict, which the headline does not rest on.
-    wanted = imports(HEADLINE, leave_out=("pc_top", "pc_refusals")) | imports([("pc_file_spec", "Cores"), ("pc_grammar", "FileAnswers"), ("pc_lex", "Answers")])
+    wanted = imports(HEADLINE, leave_out=("pc_top", "pc_refusals")) | imports([("pc_core_relation", "Files"), ("pc_grammar", "FileAnswers"), ("pc_lex", "Answers")])
     results.check(listed == wanted, f"{page.name}: what the headline imports", f"{sorted(listed ^ wanted)}")
     whole = imports(CONTRACT)
     inner = [it for it in whole if it[1].startswith(INNER)]
