@@ -110,6 +110,12 @@ class Checkout:
             assert time.monotonic() < end, f"rt {verb} was not called {number} times"
             time.sleep(0.02)
 
+    def wait_for_call(self, verb, crate):
+        end = time.monotonic() + SECONDS_TO_WAIT
+        while crate not in self.calls(verb):
+            assert time.monotonic() < end, f"rt {verb} was not called for {crate}"
+            time.sleep(0.02)
+
     def processes(self):
         """The processes that were started for this checkout, by what stands in their environment."""
         mark = os.fsencode(f"STAND_IN={self.stand_in}")

@@ -27,17 +27,18 @@ class ProveTest(LauncherTest):
             self.assertEqual(stamp.read_text(), self.checkout.source(crate).read_text())
 
     def start_and_stop(self, number):
-        """Starts to prove, and stops it by a signal while the second library is built."""
-        self.checkout.tell("seconds.lib", "0.1")
+        """Starts to prove, and stops it by a signal while the crates above the first one are built, `right` among them."""
+        held = ("hold.lib.left", "hold.lib.right")
+        for name in held:
+            self.checkout.tell(name)
         command = self.checkout.start("--prove")
-        self.checkout.wait_for_calls("built", 1)
-        self.checkout.tell("hold.lib")
-        self.checkout.wait_for_calls("lib", 2)
+        self.checkout.wait_for_call("lib", "right")
         os.kill(command.pid, number)
         out, err = command.communicate(timeout=60)
         if number != signal.SIGKILL:
             self.assert_nothing_runs()
-        self.checkout.take_back("hold.lib")
+        for name in held:
+            self.checkout.take_back(name)
         return command.returncode, out, err
 
 
@@ -129,6 +130,7 @@ class Interrupted(ProveTest):
         self.start_and_stop(signal.SIGTERM)
         cache = self.checkout.room / "home" / ".cache" / "rcap"
         begun = {it.parent.parent.parent for it in cache.glob("*/copy-*/crates/right/out/incremental")}
+        self.assertEqual(len(begun), 1)
         self.checkout.tell("fail.lib.right")
         self.prove()
         self.assertEqual({it.parent.parent.parent for it in cache.glob("*/copy-*/crates/right/out/incremental")}, begun)
