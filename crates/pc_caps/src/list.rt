@@ -1,6 +1,6 @@
 //! The list in which every layer keeps its values.
 ghost use Rattle.std.specs.Option.{option_copied};
-ghost use Rattle.std.specs.Prelude.{◌≡◌, [], ◌∷◌, ◌++◌, ◌<◌, Some, length, take, slice_get, slice_set, ◌↔◌, IsTrue, IfOk, MatchOption, OnOk, OnErr, OnSome};
+ghost use Rattle.std.specs.Prelude.{◌≡◌, [], ◌∷◌, ◌++◌, ◌<◌, ◌-◌, Some, length, take, slice_get, slice_set, ◌↔◌, IsTrue, IsSome, IfOk, OnOk, OnErr};
 
 use std::alloc::{AllocError, Global};
 use std::marker::Model;
@@ -45,9 +45,11 @@ impl<T: Drop> List<T> {
 }
 
 impl<T> List<T> {
-    /// Takes the last value out. `None` exactly where the list is empty.
+    /// Takes the value at the last place out, and leaves those before it. An empty list has no last place, and stays empty.
+    #[tactic(auto, using(crate::proofs::Lasts::last_of, crate::proofs::Lasts::before_last))]
     pub fn pop(&mut self) -> Option<T>
-        ensures { MatchOption result ((self.old ≡ []) × (self.new ≡ [])) (λ last. self.old ≡ self.new ++ last ∷ []) }
+        ensures last { result ≡ slice_get self.old (length self.old - 1) }
+        ensures front { self.new ≡ take (length self.old - 1) self.old }
     {
         self.row.pop()
     }
@@ -61,19 +63,19 @@ impl<T> List<T> {
         exchange(&mut self.row, place, value)
     }
 
-    /// The value at a place, counted from 0. `None` exactly where there is none.
-    pub fn get(&self, at: usize) -> Option<&T>
-        ensures value { option_copied result ≡ slice_get self.now at }
-        ensures within { OnSome result (at < length self.now) }
+    /// The value at a place, if the place is below the length. Places are counted from 0.
+    pub fn get(&self, place: usize) -> Option<&T>
+        ensures placed { IsSome result ↔ (place < length self.now) }
+        ensures found { option_copied result ≡ slice_get self.now place }
     {
-        self.row.get(at)
+        self.row.get(place)
     }
 
-    /// Whether there is no value.
+    /// Whether the length is 0.
     pub fn is_empty(&self) -> bool
-        ensures { IsTrue result ↔ (self.now ≡ []) }
+        ensures { IsTrue result ↔ (length self.now ≡ 0) }
     {
-        self.row.is_empty()
+        self.row.len() == 0
     }
 
     /// How many values there are.
