@@ -12,7 +12,7 @@ use Rattle.pc_lex.specs.declared.fault.LexFault.{LexFault}
 use Rattle.pc_lex.specs.declared.fault.LexFault.TheVariants as lexing
 use Rattle.pc_lex.specs.Pieces.{FirstFault}
 use Rattle.pc_lists.specs.Texts.{Text}
-use Rattle.pc_names.specs.Laws.{OfFile}
+use Rattle.pc_names.specs.Names.{OfFile}
 use Rattle.pc_names.specs.declared.fault.NameFault.{NameFault}
 use Rattle.pc_names.specs.declared.fault.NameFault.TheVariants as naming
 use Rattle.pc_refusals.specs.Accepting.{Typing}

@@ -14,11 +14,12 @@ use Rattle.pc_explain.specs.Explanation.{decl_span}
 use Rattle.pc_file_spec.specs.Cores.{Stands}
 use Rattle.pc_grammar.specs.FileAnswers as answer
 use Rattle.pc_lists.specs.Places.{Ascends}
-use Rattle.pc_names.specs.Laws.{OfFile}
+use Rattle.pc_names.specs.Names.{OfFile}
 use Rattle.pc_names.specs.declared.fault.NameFault.{NameFault}
 use Rattle.pc_refusals.proofs.OneSource.{SourceLaws}
 use Rattle.pc_rules.specs.Valid.{NoRule, Unset}
-use Rattle.pc_sub.specs.Declarations.{DeclOk, NoFaultWhereFit, first_fault}
+use Rattle.pc_sub.specs.Declarations.{DeclOk, first_fault}
+use Rattle.pc_sub.specs.DeclarationLaws.{NoFaultWhereFit}
 use Rattle.pc_sub.specs.declared.faults.DeclFault.{DeclFault}
 use Rattle.pc_text_order.specs.Laws.{TokensAscend, starts}
 use Rattle.pc_token.specs.declared.kinds.Token.{Token}

@@ -5,7 +5,7 @@ ghost use Rattle.pc_expr.specs.Gives.{EndsWithEnd};
 ghost use Rattle.pc_file_spec.specs.Cores.{Stands};
 ghost use Rattle.pc_lex.specs.Limits.{bytes_limit};
 ghost use Rattle.pc_lists.specs.Places.{Ascends};
-ghost use Rattle.pc_names.specs.Laws.{OfFile};
+ghost use Rattle.pc_names.specs.Names.{OfFile};
 ghost use Rattle.pc_text_order.specs.Laws.{starts};
 ghost use Rattle.pc_tree.specs.View.{file_view};
 ghost use Rattle.pc_buffers.specs.Refused as spec;

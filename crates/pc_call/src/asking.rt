@@ -2,7 +2,8 @@
 ghost use Rattle.std.specs.Prelude.{◌≡◌};
 ghost use Rattle.pc_args.specs.Asked.{texts};
 ghost use Rattle.pc_refusals.specs.Verdict.{IsAccepting};
-ghost use Rattle.pc_top.specs.CoreOf.{HasIsolatedCore, HasSafeCore, IsDerivable};
+ghost use Rattle.pc_top.specs.CoreOf.{HasSafeCore, IsDerivable};
+ghost use Rattle.pc_top.specs.IsolatedCore.{HasIsolatedCore};
 ghost use Rattle.pc_buffers.specs.Holding.{HoldsTexts};
 ghost use Rattle.pc_buffers.specs.Laying.{buffer};
 ghost use Rattle.pc_buffers.specs.Points.{Points};

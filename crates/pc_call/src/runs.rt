@@ -1,7 +1,8 @@
 //! The commands of a source and a schedule.
 ghost use Rattle.std.specs.Prelude.{◌≡◌, ◌≢◌, ◌↔◌};
 ghost use Rattle.pc_refusals.specs.Verdict.{IsAccepting};
-ghost use Rattle.pc_top.specs.CoreOf.{HasIsolatedCore, HasSafeCore, IsDerivable, IsUnderivable};
+ghost use Rattle.pc_top.specs.CoreOf.{HasSafeCore, IsDerivable, IsUnderivable};
+ghost use Rattle.pc_top.specs.IsolatedCore.{HasIsolatedCore};
 ghost use Rattle.pc_buffers.specs.Laying.{buffer};
 ghost use Rattle.pc_buffers.specs.Points.{PointsIntoBoth};
 ghost use Rattle.pc_call.specs.Answers.{Answers};

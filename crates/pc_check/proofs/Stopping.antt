@@ -35,7 +35,8 @@ use Rattle.pc_rules.proofs.Bridge.{by_number}
 use Rattle.pc_rules.proofs.Agreeing.{define_inv, slot_parts}
 use Rattle.pc_check.specs.declared.sources.Source.{Source}
 use Rattle.pc_check.specs.Sources.{Sourced}
-use Rattle.pc_check.specs.Inference.{inferred_slot, with_slot, with_inferred, masks_from, rules_for, or_else, first_note, is_body, lacks_field, leaves_unset}
+use Rattle.pc_check.specs.Inference.{inferred_slot, with_slot, with_inferred, rules_for, or_else, first_note, is_body, lacks_field, leaves_unset}
+use Rattle.pc_check.specs.SourceMasks.{masks_from}
 use Rattle.pc_check.specs.Faults.{StopsAt, LeavesUnset}
 use Rattle.pc_check.specs.Walked.{Walked}
 use Rattle.pc_core.proofs.Homes.{home, home_method}

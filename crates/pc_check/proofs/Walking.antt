@@ -30,7 +30,8 @@ use Rattle.pc_rules.proofs.Agreeing.{body_method}
 use Rattle.pc_check.specs.declared.sources.Source.{Source}
 use Rattle.pc_check.specs.declared.sources.Source.TheVariants as source
 use Rattle.pc_check.specs.Sources.{Comes, Placed}
-use Rattle.pc_check.specs.Inference.{masks_in, masks_behind, inferred_slot, with_slot, with_inferred, masks_from, note_of, or_else, first_note, is_body, lacks_field, leaves_unset}
+use Rattle.pc_check.specs.Inference.{inferred_slot, with_slot, with_inferred, note_of, or_else, first_note, is_body, lacks_field, leaves_unset}
+use Rattle.pc_check.specs.SourceMasks.{masks_in, masks_behind, masks_from}
 use Rattle.pc_check.specs.Walked.{Walked}
 use Rattle.pc_rules.proofs.Homes.{children_before}
 use Rattle.pc_check.proofs.Definitions.{inferred_inv, other_place}

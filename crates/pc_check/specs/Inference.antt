@@ -1,4 +1,5 @@
 -- What follows from a node and the notes before it: its slot's type and its note.
+-- ---- the types of slots
 use Rattle.std.specs.Prelude.{ℕ, ◌+◌, Bool, true, false, ◌&&◌, not, List, [], ◌∷◌, map, Option, Some, None, slice_get, slice_set}
 use Rattle.pc_caps.specs.Tables.{stored}
 use Rattle.pc_caps.specs.declared.capability.Cap.{Cap}
@@ -16,15 +17,9 @@ use Rattle.pc_ann.specs.declared.annotation.Note.{Note}
 use Rattle.pc_ann.specs.declared.annotation.Ann.{Ann}
 use Rattle.pc_ann.specs.declared.annotation.Rule.{Rule}
 use Rattle.pc_ann.specs.declared.annotation.Rule.TheVariants as rule
-use Rattle.pc_masks.specs.Masks.{empty}
 use Rattle.pc_rules.specs.declared.said.Said.{Said}
-use Rattle.pc_rules.specs.Parts.{Ty, Masks, constructs, full, after, type_of, one_child}
+use Rattle.pc_rules.specs.Parts.{Ty, Masks, constructs, full, type_of, one_child}
 use Rattle.pc_rules.specs.Rules.{says}
-use Rattle.pc_check.specs.Sources.{start_masks}
-use Rattle.pc_check.specs.declared.sources.Source.{Source}
-use Rattle.pc_check.specs.declared.sources.Source.TheVariants as source
-
--- ---- the types of slots
 
 -- What a slot has before its definition: the written type, or any where none is written.
 abbrev pub written_type : Option (ℕ × Cap) → ℕ × Cap
@@ -62,21 +57,6 @@ abbrev pub with_inferred : CoreData → Ann → Node → Ann
 with_inferred core ann x = with_slot ann (inferred_slot core ann x x.kind)
 
 -- ---- masks
-
-abbrev pub masks_in : CoreData → Option Method → Masks
-masks_in core None = (empty, empty)
-masks_in core (Some f) = start_masks core f
-
-abbrev pub masks_behind : Option Note → Masks
-masks_behind None = (empty, empty)
-masks_behind (Some t) = after t
-
--- The masks of a source.
-abbrev pub masks_from : CoreData → Ann → Source → Masks
-masks_from core ann (source.Start m) = masks_in core (slice_get core.methods m)
-masks_from core ann (source.Behind s) = masks_behind (slice_get ann.notes s)
-
--- ---- notes
 
 -- The rules for nodes of a kind.
 abbrev pub rules_for : NodeKind → List Rule

@@ -1,4 +1,5 @@
 pub mod Sources
+pub mod SourceMasks
 pub mod Inference
 pub mod Faults
 pub mod Walked

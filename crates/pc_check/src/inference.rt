@@ -1,6 +1,7 @@
 //! The note of a node, by the notes before it.
 ghost use Rattle.std.specs.Prelude.{◌≡◌, slice_get};
 ghost use Rattle.pc_check.specs.Inference as spec;
+ghost use Rattle.pc_check.specs.SourceMasks as sources;
 
 use crate::sources::Source;
 use pc_ann::{Ann, Note, Rule};
@@ -10,7 +11,7 @@ use pc_rules::{Said, constructs, full, says, start_live, start_set};
 
 // The masks with which a method starts.
 fn masks_in(core: &Core, method: u32) -> (Mask, Mask)
-    ensures { result ≡ spec.masks_in core.now (slice_get core.now.methods method) }
+    ensures { result ≡ sources.masks_in core.now (slice_get core.now.methods method) }
 {
     match core.method_at(method) {
         None => (Mask::first(0), Mask::first(0)),
@@ -20,7 +21,7 @@ fn masks_in(core: &Core, method: u32) -> (Mask, Mask)
 
 // The masks behind a node.
 fn masks_behind(ann: &Ann, node: u32) -> (Mask, Mask)
-    ensures { result ≡ spec.masks_behind (slice_get ann.now.notes node) }
+    ensures { result ≡ sources.masks_behind (slice_get ann.now.notes node) }
 {
     match ann.notes.get(node as usize) {
         None => (Mask::first(0), Mask::first(0)),
@@ -30,7 +31,7 @@ fn masks_behind(ann: &Ann, node: u32) -> (Mask, Mask)
 
 /// The masks of a source.
 pub(crate) fn masks_from(core: &Core, ann: &Ann, source: Source) -> (Mask, Mask)
-    ensures { result ≡ spec.masks_from core.now ann.now source }
+    ensures { result ≡ sources.masks_from core.now ann.now source }
 {
     match source {
         Source::Start(method) => masks_in(core, method),

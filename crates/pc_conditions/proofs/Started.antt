@@ -25,7 +25,7 @@ use Rattle.pc_rules.specs.Valid.{Reaches, is_else}
 use Rattle.pc_rules.specs.Valid.Reaches.{first_child, else_branch, next_child}
 use Rattle.pc_rules.proofs.Agreeing.{slots_within}
 use Rattle.pc_core.proofs.Homes.{home, home_method}
-use Rattle.pc_core.specs.Methods.{this_slot}
+use Rattle.pc_core.specs.MethodKinds.{this_slot}
 use Rattle.pc_rules.proofs.Homes.{children_before}
 use Rattle.pc_rules.proofs.Slotted.{this_known}
 use Rattle.pc_check.specs.Inference.{with_inferred, inferred_slot, with_slot, unwritten}

@@ -4,7 +4,8 @@ use Rattle.pc_core.specs.CoreData.{CoreData}
 use Rattle.pc_lists.specs.Ranges.{Follow}
 use Rattle.pc_lists.specs.Places.{Each, Differ}
 use Rattle.pc_core.specs.Lookup.{node_end}
-use Rattle.pc_core.specs.Entities.{HasBuiltIn, HasMain, EntityFits}
+use Rattle.pc_core.specs.Entities.{HasBuiltIn}
+use Rattle.pc_core.specs.EntityFits.{HasMain, EntityFits}
 use Rattle.pc_core.specs.Methods.{MethodFits}
 use Rattle.pc_core.specs.Nodes.{NodeFits}
 

@@ -1,7 +1,9 @@
 pub mod CoreData
 pub mod Lookup
 pub mod MethodKeys
+pub mod EntityFits
 pub mod Entities
+pub mod MethodKinds
 pub mod Methods
 pub mod Nodes
 pub mod Formed

@@ -8,6 +8,7 @@ use Rattle.pc_core.specs.declared.nodes.Node.{Node}
 use Rattle.pc_core.specs.CoreData.{CoreData}
 use Rattle.pc_lists.specs.Options.{◌>>=◌}
 use Rattle.pc_lists.specs.Lookup.{place_of}
+use Rattle.pc_core.specs.declared.declarations.MethodKind.{MethodKind}
 
 -- The methods of an entity.
 abbrev pub own_methods : CoreData → EntityDef → List Method
@@ -53,3 +54,7 @@ IsField core entity name i =
 abbrev pub IsMethod : CoreData → (entity name method : ℕ) → Type 0
 IsMethod core entity name m =
     (y : Method) × (slice_get core.methods m ≡ Some y) × (y.entity ≡ entity) × (y.name ≡ name)
+
+-- A method of this kind.
+abbrev pub NamesMethod : CoreData → MethodKind → ℕ → Type 0
+NamesMethod core k m = (x : Method) × (slice_get core.methods m ≡ Some x) × (x.kind ≡ k)

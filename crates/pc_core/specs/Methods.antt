@@ -6,16 +6,13 @@ use Rattle.pc_caps.specs.declared.capability.Cap.TheVariants as cap
 use Rattle.pc_caps.specs.declared.capability.Form.TheVariants as form
 use Rattle.pc_caps.specs.Limits.{slot_limit}
 use Rattle.pc_tree.specs.declared.kinds.EntityKind.{EntityKind}
-use Rattle.pc_tree.specs.declared.kinds.EntityKind.TheVariants as kind
 use Rattle.pc_tree.specs.declared.kinds.MethodWord.{MethodWord}
-use Rattle.pc_tree.specs.declared.kinds.MethodWord.TheVariants as word
 use Rattle.pc_tree.specs.Kinds.{is_abstract, may_stand}
 use Rattle.pc_tree.specs.BuiltIn.{none_entity}
 use Rattle.pc_core.specs.declared.declarations.EntityDef.{EntityDef}
 use Rattle.pc_core.specs.declared.declarations.Method.{Method}
 use Rattle.pc_core.specs.declared.declarations.MethodKind.{MethodKind}
 use Rattle.pc_core.specs.declared.declarations.MethodKind.TheVariants as method
-use Rattle.pc_core.specs.declared.declarations.ParamInfo.{ParamInfo}
 use Rattle.pc_core.specs.declared.nodes.Slot.{Slot}
 use Rattle.pc_core.specs.declared.nodes.SlotKind.{SlotKind}
 use Rattle.pc_core.specs.declared.nodes.SlotKind.TheVariants as slot
@@ -25,19 +22,7 @@ use Rattle.pc_core.specs.declared.nodes.NodeKind.TheVariants as node
 use Rattle.pc_core.specs.CoreData.{CoreData}
 use Rattle.pc_lists.specs.Places.{Each, Has}
 use Rattle.pc_core.specs.Lookup.{own_slots, own_nodes}
-
--- The kind of a constructor, and of a method with this word: an actor's constructor spawns it.
-abbrev pub constructor_kind : EntityKind → MethodKind
-constructor_kind kind.Class = method.New
-constructor_kind kind.Actor = method.Spawn
-constructor_kind kind.Primitive = method.New
-constructor_kind kind.Trait = method.New
-constructor_kind kind.Interface = method.New
-
-abbrev pub word_kind : EntityKind → MethodWord → MethodKind
-word_kind e word.Fun = method.Fun
-word_kind e word.Be = method.Be
-word_kind e word.New = constructor_kind e
+use Rattle.pc_core.specs.MethodKinds.{word_kind, this_slot, param_slot}
 
 -- A method of this kind stands in such an entity: it is one with a word that may stand there.
 abbrev pub StandsIn : MethodKind → EntityKind → Type 0
@@ -50,13 +35,6 @@ ResultFits method.Fun x = Unit {0}
 ResultFits method.Be x = (x.receiver ≡ cap.Ref) × (x.result ≡ (none_entity, form.Val))
 ResultFits method.New x = (x.receiver ≡ cap.Ref) × (x.result.0 ≡ x.entity) × ((k : Cap) × (x.result.1 ≡ unalias k))
 ResultFits method.Spawn x = (x.receiver ≡ cap.Ref) × (x.result ≡ (x.entity, form.Tag))
-
--- The slot of `this`, and that of a parameter.
-abbrev pub this_slot : ℕ → Method → Slot
-this_slot m x = record { method = m; kind = slot.This; depth = 0; written = Some (x.entity, x.receiver) }
-
-abbrev pub param_slot : ℕ → ParamInfo → Slot
-param_slot m p = record { method = m; kind = slot.Param; depth = 0; written = Some (p.entity, p.cap) }
 
 abbrev pub is_local : SlotKind → Bool
 is_local slot.Let = true

@@ -6,7 +6,6 @@ use Rattle.pc_tree.specs.declared.kinds.Op.TheVariants as op
 use Rattle.pc_tree.specs.BuiltIn.{none_entity, first_own}
 use Rattle.pc_core.specs.declared.declarations.EntityDef.{EntityDef}
 use Rattle.pc_core.specs.declared.declarations.Method.{Method}
-use Rattle.pc_core.specs.declared.declarations.MethodKind.{MethodKind}
 use Rattle.pc_core.specs.declared.declarations.MethodKind.TheVariants as method
 use Rattle.pc_core.specs.declared.nodes.Slot.{Slot}
 use Rattle.pc_core.specs.declared.nodes.Node.{Node}
@@ -15,6 +14,7 @@ use Rattle.pc_core.specs.declared.nodes.NodeKind.TheVariants as node
 use Rattle.pc_core.specs.CoreData.{CoreData}
 use Rattle.pc_lists.specs.Places.{Each}
 use Rattle.pc_core.specs.Methods.{is_local}
+use Rattle.pc_core.specs.Lookup.{NamesMethod}
 
 -- A node of this kind has k children.
 abbrev pub HasArity : NodeKind → ℕ → Type 0
@@ -59,10 +59,6 @@ is_binary o = true
 -- A primitive whose value is written: None, or one of the file.
 abbrev pub NamesPrimitive : CoreData → ℕ → Type 0
 NamesPrimitive core e = (e ≡ none_entity) ⊎ ((first_own ≤ e) × ((x : EntityDef) × (slice_get core.entities e ≡ Some x) × (x.kind ≡ kind.Primitive)))
-
--- A method of this kind.
-abbrev pub NamesMethod : CoreData → MethodKind → ℕ → Type 0
-NamesMethod core k m = (x : Method) × (slice_get core.methods m ≡ Some x) × (x.kind ≡ k)
 
 -- A slot of the node's method, other than that of `this`.
 abbrev pub NamesSlot : CoreData → (method slot : ℕ) → Type 0

@@ -15,12 +15,12 @@ use Rattle.pc_tree.specs.declared.kinds.MethodWord.TheVariants as word
 use Rattle.pc_tree.specs.Tree as t
 use Rattle.pc_core.specs.declared.declarations.Method.{Method}
 use Rattle.pc_core.specs.CoreData.{CoreData}
-use Rattle.pc_core.specs.Methods.{constructor_kind, word_kind}
+use Rattle.pc_core.specs.MethodKinds.{constructor_kind, word_kind}
 use Rattle.pc_lists.specs.Texts.{Text}
-use Rattle.pc_members.specs.Words.{is_new, field_texts, method_texts, built_in_names, entity_names}
+use Rattle.pc_members.specs.Words.{is_new, field_texts, method_texts, built_in_names, entity_names, or_nil}
 use Rattle.pc_tree.specs.BuiltIn.{first_own}
-use Rattle.pc_members.specs.Members.{Member, written, added, members, member_text, is_constructor}
-use Rattle.pc_members.specs.Reach.{or_nil}
+use Rattle.pc_members.specs.Members.{Member, written, added, member_text, is_constructor}
+use Rattle.pc_members.specs.MemberLists.{members}
 use Rattle.pc_body_spec.specs.Scopes.{Context, Known, Constructor}
 use Rattle.pc_file_spec.specs.Members.{Owned, owned}
 use Rattle.pc_file_spec.specs.Known as known

@@ -15,13 +15,14 @@ use Rattle.pc_core.specs.declared.declarations.EntityDef.{EntityDef}
 use Rattle.pc_core.specs.declared.declarations.Method.{Method}
 use Rattle.pc_core.specs.CoreData.{CoreData}
 use Rattle.pc_core.specs.Entities.{HasBuiltIn}
-use Rattle.pc_members.specs.Chains.{IsAbove, Closes, IsFounded, Leads}
+use Rattle.pc_members.specs.Chains.{IsAbove, Closes, Leads}
+use Rattle.pc_members.specs.Founded.{IsFounded}
 use Rattle.pc_tree.specs.BuiltIn.{first_own}
 use Rattle.pc_members.specs.Chains as chain
-use Rattle.pc_members.specs.Members.{Member, members}
+use Rattle.pc_members.specs.Members.{Member}
+use Rattle.pc_members.specs.MemberLists.{members}
 use Rattle.pc_members.specs.Words as words
-use Rattle.pc_members.specs.Words.{built_in_names, entity_names, field_texts, method_texts}
-use Rattle.pc_members.specs.Reach.{or_nil}
+use Rattle.pc_members.specs.Words.{built_in_names, entity_names, field_texts, method_texts, or_nil}
 use Rattle.pc_members.proofs.Closings.{no_entity}
 use Rattle.pc_names.proofs.Founded.{collected_founded}
 use Rattle.pc_file_spec.specs.Members.{Owned, owned}

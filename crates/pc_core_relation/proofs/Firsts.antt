@@ -10,7 +10,8 @@ use Rattle.pc_tree.specs.declared.kinds.EntityKind.{EntityKind}
 use Rattle.pc_tree.specs.Tree as t
 use Rattle.pc_lists.specs.Texts.{Text}
 use Rattle.pc_members.specs.Words.{is_among}
-use Rattle.pc_members.specs.Members.{firsts, taken, is_takable}
+use Rattle.pc_members.specs.Members.{is_takable}
+use Rattle.pc_members.specs.MemberLists.{firsts, taken}
 use Rattle.pc_members.proofs.Differences.{among_has, has_among}
 use Rattle.pc_core_relation.specs.Members.{IsFirstOfName, AreFirstOfNames, AnyMethod}
 use Rattle.pc_core_relation.proofs.Lists.{only_one, one_order}

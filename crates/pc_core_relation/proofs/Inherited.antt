@@ -7,8 +7,10 @@ use Rattle.pc_tree.specs.declared.names.Name.{Name}
 use Rattle.pc_tree.specs.Kinds.{is_abstract}
 use Rattle.pc_tree.specs.Tree as t
 use Rattle.pc_members.specs.Words.{has_added}
-use Rattle.pc_members.specs.Chains.{Closes, IsFounded}
-use Rattle.pc_members.specs.Members.{Member, written, firsts, entity_named, of_entity, of_each, trait_methods, abstract_methods, without_body, own_texts, taken, taken_over, added_if, abstract_members, concrete_members, members}
+use Rattle.pc_members.specs.Chains.{Closes}
+use Rattle.pc_members.specs.Founded.{IsFounded}
+use Rattle.pc_members.specs.Members.{Member, written, without_body, own_texts, added_if}
+use Rattle.pc_members.specs.MemberLists.{firsts, entity_named, of_entity, of_each, trait_methods, abstract_methods, taken, taken_over, abstract_members, concrete_members, members}
 use Rattle.pc_names.proofs.Founded.{collected_founded}
 use Rattle.pc_members.proofs.Named.{named_is, one_entity}
 use Rattle.pc_members.proofs.Ranks.{Target, target, named_by, rank_at, rank_less, rank_few, steady}

@@ -14,7 +14,8 @@ use Rattle.pc_core.specs.declared.nodes.Slot.{Slot}
 use Rattle.pc_core.specs.CoreData.{CoreData}
 use Rattle.pc_core.specs.Lookup.{own_slots}
 use Rattle.pc_members.specs.Words.{entity_names}
-use Rattle.pc_members.specs.Members.{Member, written, added, members, member_text}
+use Rattle.pc_members.specs.Members.{Member, written, added, member_text}
+use Rattle.pc_members.specs.MemberLists.{members}
 use Rattle.pc_body_spec.specs.Scopes.{Context}
 use Rattle.pc_body_spec.specs.Slots.{local_slot, type_of, written_of}
 use Rattle.pc_file_spec.specs.Members.{Owned}

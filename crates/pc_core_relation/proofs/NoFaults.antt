@@ -23,7 +23,8 @@ use Rattle.pc_names.specs.declared.fault.NameFault.TheVariants as fault
 use Rattle.pc_names.specs.declared.fault.Which.TheVariants as which
 use Rattle.pc_members.specs.Words.{is_among, built_in_names, texts_of, entity_names, field_texts, method_texts, has_added}
 use Rattle.pc_members.specs.Tables.{with_name, with_traits, trait_names}
-use Rattle.pc_members.specs.Chains.{Closes, IsFounded}
+use Rattle.pc_members.specs.Chains.{Closes}
+use Rattle.pc_members.specs.Founded.{IsFounded}
 use Rattle.pc_members.specs.Members.{added_text, own_texts}
 use Rattle.pc_members.specs.Reach.{has}
 use Rattle.pc_members.proofs.Completed.{among_parts}

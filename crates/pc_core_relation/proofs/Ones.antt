@@ -26,11 +26,12 @@ use Rattle.pc_core.specs.Entities.{print_method, built_in, built_in_value, out_f
 use Rattle.pc_core.specs.Lookup.{own_methods}
 use Rattle.pc_members.specs.Words as words
 use Rattle.pc_lists.specs.Texts.{Text}
-use Rattle.pc_members.specs.Words.{built_in_names, entity_names}
-use Rattle.pc_members.specs.Chains.{IsFounded, numbers_of}
+use Rattle.pc_members.specs.Words.{built_in_names, entity_names, or_nil}
+use Rattle.pc_members.specs.Founded.{IsFounded}
+use Rattle.pc_members.specs.Edges.{numbers_of}
 use Rattle.pc_tree.specs.BuiltIn.{first_own}
-use Rattle.pc_members.specs.Members.{Member, members}
-use Rattle.pc_members.specs.Reach.{or_nil}
+use Rattle.pc_members.specs.Members.{Member}
+use Rattle.pc_members.specs.MemberLists.{members}
 use Rattle.pc_names.specs.Counts.{count_faults}
 use Rattle.pc_names.specs.Names.{NamesData, Collected}
 use Rattle.pc_file_spec.specs.Members.{Owned, owned, members_from}

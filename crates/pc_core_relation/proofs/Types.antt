@@ -12,7 +12,7 @@ use Rattle.pc_tree.specs.declared.names.TypeRef.{TypeRef}
 use Rattle.pc_core.specs.declared.declarations.EntityDef.{EntityDef}
 use Rattle.pc_core.specs.CoreData.{CoreData}
 use Rattle.pc_lists.specs.Texts.{Text}
-use Rattle.pc_members.specs.Chains.{numbers_of}
+use Rattle.pc_members.specs.Edges.{numbers_of}
 use Rattle.pc_body_spec.specs.Scopes.{Known}
 use Rattle.pc_body_spec.specs.Slots.{cap_or, type_of}
 use Rattle.pc_file_spec.specs.Signatures.{or_value, type_in}

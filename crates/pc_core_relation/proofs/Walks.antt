@@ -18,8 +18,9 @@ use Rattle.pc_core.specs.declared.nodes.Slot.{Slot}
 use Rattle.pc_core.specs.declared.nodes.SlotKind.TheVariants as slot
 use Rattle.pc_core.specs.CoreData.{CoreData}
 use Rattle.pc_core.specs.Lookup.{own_slots, node_end}
-use Rattle.pc_core.specs.Methods.{param_slot, this_slot}
-use Rattle.pc_members.specs.Members.{Member, written, added, members, member_text, member_span}
+use Rattle.pc_core.specs.MethodKinds.{param_slot, this_slot}
+use Rattle.pc_members.specs.Members.{Member, written, added, member_text, member_span}
+use Rattle.pc_members.specs.MemberLists.{members}
 use Rattle.pc_body_spec.specs.Roses.{Rose, put}
 use Rattle.pc_caps.specs.Limits.{node_limit}
 use Rattle.pc_body_spec.specs.Scopes.{Context, Known, text_from}

@@ -8,9 +8,8 @@ use Rattle.pc_core.specs.declared.declarations.MethodKind.TheVariants as method
 use Rattle.pc_core.specs.CoreData.{CoreData}
 use Rattle.pc_core.specs.Lookup.{own_methods}
 use Rattle.pc_lists.specs.Texts.{Text}
-use Rattle.pc_members.specs.Words.{field_texts}
+use Rattle.pc_members.specs.Words.{field_texts, or_nil}
 use Rattle.pc_members.specs.Members.{Member, member_text}
-use Rattle.pc_members.specs.Reach.{or_nil}
 use Rattle.pc_body_spec.specs.Scopes.{Context, Known, Constructor, Placed}
 
 -- A method of this kind makes an object.

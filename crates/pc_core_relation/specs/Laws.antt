@@ -4,7 +4,8 @@ use Rattle.pc_lists.specs.Places.{Has}
 use Rattle.pc_tree.specs.Tree as t
 use Rattle.pc_core.specs.declared.nodes.Node.{Node}
 use Rattle.pc_core.specs.CoreData.{CoreData}
-use Rattle.pc_members.specs.Members.{Member, members}
+use Rattle.pc_members.specs.Members.{Member}
+use Rattle.pc_members.specs.MemberLists.{members}
 use Rattle.pc_names.specs.declared.fault.NameFault.{NameFault}
 use Rattle.pc_names.specs.Names.{NamesData, Collected}
 use Rattle.pc_body_spec.specs.Roses.{Rose, put}

@@ -19,7 +19,7 @@ use Rattle.pc_core.specs.declared.declarations.ParamInfo.{ParamInfo}
 use Rattle.pc_core.specs.declared.nodes.Slot.{Slot}
 use Rattle.pc_core.specs.CoreData.{CoreData}
 use Rattle.pc_core.specs.Lookup.{own_slots}
-use Rattle.pc_core.specs.Methods.{constructor_kind, word_kind, this_slot, param_slot}
+use Rattle.pc_core.specs.MethodKinds.{constructor_kind, word_kind, this_slot, param_slot}
 use Rattle.pc_members.specs.Members.{Member, written, added}
 use Rattle.pc_body_spec.specs.Roses.{Rose}
 use Rattle.pc_body_spec.specs.Bodies.{body_of, added_body}

@@ -3,7 +3,8 @@ use Rattle.std.proofs.Common.{◌≡◌, ℕ, suc, List, [], ◌∷◌, ◌++◌
 use Rattle.pc_tree.specs.Tree as t
 use Rattle.pc_names.specs.declared.fault.NameFault.{NameFault}
 use Rattle.pc_body_spec.specs.Scopes.{Context}
-use Rattle.pc_members.specs.Members.{Member, members}
+use Rattle.pc_members.specs.Members.{Member}
+use Rattle.pc_members.specs.MemberLists.{members}
 use Rattle.pc_file_spec.specs.Members.{Owned, owned, members_from}
 use Rattle.pc_file_spec.specs.Known.{known_of, texts_of}
 use Rattle.pc_file_spec.specs.Signatures.{placed_of, context_of}

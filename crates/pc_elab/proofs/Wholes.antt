@@ -19,7 +19,8 @@ use Rattle.pc_tree.specs.BuiltIn.{first_own}
 use Rattle.pc_names.specs.Names.{NamesData, Collected}
 use Rattle.pc_text_order.specs.Laws.{BodiesAscend}
 use Rattle.pc_body_spec.specs.Scopes.{Context}
-use Rattle.pc_members.specs.Members.{Member, members}
+use Rattle.pc_members.specs.Members.{Member}
+use Rattle.pc_members.specs.MemberLists.{members}
 use Rattle.pc_file_spec.specs.Members.{members_from}
 use Rattle.pc_file_spec.specs.Known.{known_of, known_from, texts_of, built_in_known}
 use Rattle.pc_file_spec.specs.Order as o

@@ -3,8 +3,8 @@ use Rattle.std.specs.Prelude.{ℕ, suc, ◌+◌, List, [], ◌∷◌, map, lengt
 use Rattle.pc_tree.specs.Tree as t
 use Rattle.pc_core.specs.declared.declarations.EntityDef.{EntityDef}
 use Rattle.pc_names.specs.Names.{NamesData}
-use Rattle.pc_members.specs.Chains.{numbers_of}
-use Rattle.pc_members.specs.Reach.{or_nil}
+use Rattle.pc_members.specs.Edges.{numbers_of}
+use Rattle.pc_members.specs.Words.{or_nil}
 use Rattle.pc_body_spec.specs.Scopes.{Known, Context}
 use Rattle.pc_members.specs.Members.{Member}
 use Rattle.pc_file_spec.specs.Known.{default_cap, constructors_from}

@@ -3,7 +3,7 @@ use Rattle.std.specs.Prelude.{ℕ, ◌+◌, List, ◌∷◌, ◌++◌, map, leng
 use Rattle.pc_core.specs.declared.declarations.ParamInfo.{ParamInfo}
 use Rattle.pc_core.specs.declared.nodes.Slot.{Slot}
 use Rattle.pc_core.specs.declared.nodes.SlotKind.TheVariants as slot
-use Rattle.pc_core.specs.Methods.{param_slot}
+use Rattle.pc_core.specs.MethodKinds.{param_slot}
 use Rattle.pc_body_spec.specs.Scopes.{Context}
 use Rattle.pc_body_spec.specs.Slots.{Local, local_slot}
 use Rattle.pc_members.specs.Members.{Member, written, added}

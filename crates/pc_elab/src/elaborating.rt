@@ -5,7 +5,7 @@ ghost use Rattle.pc_core.specs.Formed.{Formed};
 ghost use Rattle.pc_names.specs.Names.{Collected};
 ghost use Rattle.pc_file_spec.specs.Cores.{Stands, core_of};
 ghost use Rattle.pc_file_spec.specs.Known.{known_of, texts_of};
-ghost use Rattle.pc_members.specs.Members.{members};
+ghost use Rattle.pc_members.specs.MemberLists.{members};
 ghost use Rattle.pc_members.specs.Views.{table_view};
 ghost use Rattle.pc_elab.specs.Cores as spec;
 

@@ -2,7 +2,7 @@
 ghost use Rattle.std.specs.Prelude.{◌≡◌, ◌++◌, map, IfOk, OnOk};
 ghost use Rattle.std.specs.Option.{option_copied};
 ghost use Rattle.pc_tree.specs.View.{entity_view};
-ghost use Rattle.pc_core.specs.Methods as methods;
+ghost use Rattle.pc_core.specs.MethodKinds as methods;
 ghost use Rattle.pc_members.specs.Views.{member_view};
 ghost use Rattle.pc_body_spec.specs.Slots as local_specs;
 ghost use Rattle.pc_file_spec.specs.Signatures as spec;

@@ -15,7 +15,8 @@ use Rattle.pc_core.specs.declared.nodes.Node.{Node}
 use Rattle.pc_lists.specs.Texts.{Text}
 use Rattle.pc_rules.specs.Parts.{Masks}
 use Rattle.pc_rules.specs.Valid.{KeepsWritten, MeetsReached}
-use Rattle.pc_sub.specs.Declarations.{DeclOk, NoFaultWhereFit, first_fault}
+use Rattle.pc_sub.specs.Declarations.{DeclOk, first_fault}
+use Rattle.pc_sub.specs.DeclarationLaws.{NoFaultWhereFit}
 use Rattle.pc_sub.specs.declared.faults.DeclFault.{DeclFault}
 use Rattle.pc_token.specs.declared.kinds.Token.{Token}
 use Rattle.pc_explain.specs.Explanation.{all_of, declaration_text, node_text, reasons_of, scene_of, stop_at, unset_text}

@@ -4,10 +4,10 @@ use Rattle.std.specs.List.{list_any}
 use Rattle.std.specs.Str.{bytes_eq}
 use Rattle.pc_lists.specs.Texts.{Text}
 use Rattle.pc_tree.specs.Tree as t
-use Rattle.pc_members.specs.Chains.{edges_of}
-use Rattle.pc_members.specs.Members.{Member, member_text, members}
+use Rattle.pc_members.specs.Edges.{edges_of}
+use Rattle.pc_members.specs.Members.{Member, member_text, or_none}
+use Rattle.pc_members.specs.MemberLists.{members}
 use Rattle.pc_members.specs.Reach.{above_all}
-use Rattle.pc_members.specs.Rounds.{or_none}
 use Rattle.pc_names.specs.Names.{name_faults}
 use Rattle.pc_names.specs.declared.fault.NameFault.{NameFault}
 use Rattle.pc_window.specs.Quoting.{quoted}

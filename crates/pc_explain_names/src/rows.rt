@@ -3,10 +3,9 @@ ghost use Rattle.std.specs.Prelude.{◌≡◌, ◌++◌, map, true, IfOk, OnOk};
 ghost use Rattle.std.specs.Option.{option_map};
 ghost use Rattle.pc_explain_names.specs.Homes.{last_of};
 ghost use Rattle.pc_explain_names.specs.Rows as spec;
-ghost use Rattle.pc_members.specs.Members.{members};
+ghost use Rattle.pc_members.specs.MemberLists.{members};
 ghost use Rattle.pc_members.specs.Views.{member_view, members_view, table_view};
-ghost use Rattle.pc_names.specs.Laws.{OfFile};
-ghost use Rattle.pc_names.specs.Names.{Collected};
+ghost use Rattle.pc_names.specs.Names.{OfFile, Collected};
 ghost use Rattle.pc_tree.specs.View.{file_view};
 
 use crate::lists::{MOST, between, push_rest};

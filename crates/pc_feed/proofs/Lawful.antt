@@ -26,7 +26,8 @@ use Rattle.pc_judge.specs.Faults.{FirstFault, KeepsType, Passes}
 use Rattle.pc_judge.proofs.Exact.{not_valid, one_first}
 use Rattle.pc_feed.specs.declared.fault.StreamFault.TheVariants as fault
 use Rattle.pc_feed.specs.Lines.{slots_in, notes_in, so_far}
-use Rattle.pc_feed.specs.Asked.{numbered, IsFoundRight, IsAsked}
+use Rattle.pc_feed.specs.Asked.{IsFoundRight, IsAsked}
+use Rattle.pc_feed.specs.Numbered.{numbered}
 use Rattle.pc_feed.specs.Laws.{OneIsAsked, OneEnd, ValidAsksAll}
 use Rattle.pc_feed.proofs.Sayings.{notes_of_nodes, notes_of_slots, slots_app, numbered_length, take_all}
 

@@ -9,7 +9,7 @@ use Rattle.pc_deriv.specs.declared.line.Line.{Line}
 use Rattle.pc_deriv.specs.declared.line.Line.TheVariants as line
 use Rattle.pc_deriv.specs.Lines.{slot_of}
 use Rattle.pc_feed.specs.Lines.{slots_in, notes_in}
-use Rattle.pc_feed.specs.Asked.{numbered}
+use Rattle.pc_feed.specs.Numbered.{numbered}
 use Rattle.pc_feed.specs.Steps.{first_nodes}
 
 -- ---- notes

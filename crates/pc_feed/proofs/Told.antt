@@ -14,7 +14,8 @@ use Rattle.pc_referee.specs.Asked.{Pairs}
 use Rattle.pc_feed.specs.Waiting.{Begins}
 use Rattle.pc_feed.specs.declared.judging.Judging.{Judging}
 use Rattle.pc_feed.specs.Lines.{counts_in, notes_in, so_far}
-use Rattle.pc_feed.specs.Asked.{numbered, IsFoundRight, IsAsked, Grew, GrewPart}
+use Rattle.pc_feed.specs.Asked.{IsFoundRight, IsAsked, Grew, GrewPart}
+use Rattle.pc_feed.specs.Numbered.{numbered}
 use Rattle.pc_feed.specs.Streams.{Stands, no_line, behind_head, NothingWrong, Found, JudgedBy, Judged}
 use Rattle.pc_feed.specs.Steps.{GrewBy, first_nodes}
 use Rattle.pc_feed.proofs.Sayings.{notes_app, first_nodes_more}

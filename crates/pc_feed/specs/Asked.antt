@@ -1,18 +1,13 @@
 -- What a referee is asked of a derivation's text: its nodes in order, up to the first thing that is wrong.
-use Rattle.std.specs.Prelude.{◌≡◌, ◌↔◌, ℕ, ◌+◌, ◌<◌, ◌≤◌, List, [], ◌∷◌, ◌++◌, length, take, Option, Some, None, slice_get}
+use Rattle.std.specs.Prelude.{◌≡◌, ◌↔◌, ℕ, ◌+◌, ◌<◌, ◌≤◌, List, ◌++◌, length, take, Option, Some, None, slice_get}
 use Rattle.pc_core.specs.declared.nodes.Slot.{Slot}
 use Rattle.pc_core.specs.CoreData.{CoreData}
-use Rattle.pc_ann.specs.declared.annotation.Note.{Note}
 use Rattle.pc_rules.specs.Rules.{MeetsRule}
 use Rattle.pc_judge.specs.Faults.{KeepsType, Passes}
 use Rattle.pc_referee.specs.Asked.{Pairs}
 use Rattle.pc_deriv.specs.declared.line.Line.{Line}
 use Rattle.pc_feed.specs.Lines.{counts_in, slots_in, notes_in, so_far}
-
--- notes with the numbers of their nodes, from this number on
-abbrev pub numbered : ℕ → List Note → Pairs
-numbered n [] = []
-numbered n (t ∷ ts) = (n, t) ∷ numbered (n + 1) ts
+use Rattle.pc_feed.specs.Numbered.{numbered}
 
 -- The counts are the core's, and each slot so far has the type that is written for it, if one is.
 pub record Opens (core : CoreData) (ls : List Line) : Type 0 where

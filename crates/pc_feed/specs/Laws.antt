@@ -8,7 +8,8 @@ use Rattle.pc_deriv.specs.declared.line.Line.{Line}
 use Rattle.pc_deriv.specs.Faults.{IsText}
 use Rattle.pc_referee.specs.Asked.{Pairs}
 use Rattle.pc_feed.specs.Lines.{lines_in}
-use Rattle.pc_feed.specs.Asked.{numbered, IsAsked}
+use Rattle.pc_feed.specs.Asked.{IsAsked}
+use Rattle.pc_feed.specs.Numbered.{numbered}
 use Rattle.pc_feed.specs.Feeding.{Answer, EndsSo}
 
 -- At most one list of nodes is asked.

@@ -1,6 +1,7 @@
 pub mod Waiting
 pub mod WaitingLaws
 pub mod Lines
+pub mod Numbered
 pub mod Asked
 pub mod Streams
 pub mod Feeding

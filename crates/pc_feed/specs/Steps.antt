@@ -19,7 +19,7 @@ use Rattle.pc_feed.specs.declared.fault.StreamFault.TheVariants as fault
 use Rattle.pc_feed.specs.declared.judging.Judging.{Judging}
 use Rattle.pc_feed.specs.declared.reading.Reading.{Reading}
 use Rattle.pc_feed.specs.Lines.{lines_in, fault_in, notes_in}
-use Rattle.pc_feed.specs.Asked.{numbered}
+use Rattle.pc_feed.specs.Numbered.{numbered}
 use Rattle.pc_feed.specs.Feeding.{Answer}
 use Rattle.pc_feed.specs.Streams.{Found, Judged, ReadSo}
 

@@ -16,7 +16,7 @@ use Rattle.pc_lists.specs.Texts.{Text}
 use Rattle.pc_members.specs.Words.{built_in_names, texts_of, entity_names}
 use Rattle.pc_tree.specs.BuiltIn.{first_own}
 use Rattle.pc_members.specs.Chains as chain
-use Rattle.pc_members.specs.Members.{of_each, trait_methods}
+use Rattle.pc_members.specs.MemberLists.{of_each, trait_methods}
 use Rattle.pc_members.proofs.Differences.{same_text, equal_texts}
 use Rattle.pc_members.proofs.Named.{named_is}
 use Rattle.pc_file_spec.specs.Laws.{WrittenAbove}

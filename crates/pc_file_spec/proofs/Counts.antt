@@ -11,7 +11,7 @@ use Rattle.pc_names.specs.Faults.{where_}
 use Rattle.pc_names.specs.Counts.{method_count, count_faults}
 use Rattle.pc_caps.specs.Limits.{method_limit}
 use Rattle.pc_tree.specs.BuiltIn.{first_own}
-use Rattle.pc_members.specs.Members.{members}
+use Rattle.pc_members.specs.MemberLists.{members}
 use Rattle.pc_file_spec.specs.Members.{owned, members_from}
 use Rattle.pc_names.proofs.Founded.{where_none}
 use Rattle.pc_file_spec.proofs.Collects.{Collects}

@@ -16,7 +16,8 @@ use Rattle.pc_tree.specs.Tree as t
 use Rattle.pc_tree.proofs.KindFacts.{no_new, same_methods}
 use Rattle.pc_core.specs.declared.declarations.Method.{Method}
 use Rattle.pc_core.specs.declared.declarations.ParamInfo.{ParamInfo}
-use Rattle.pc_core.specs.Methods.{constructor_kind, word_kind, StandsIn, ResultFits}
+use Rattle.pc_core.specs.Methods.{StandsIn, ResultFits}
+use Rattle.pc_core.specs.MethodKinds.{constructor_kind, word_kind}
 use Rattle.pc_lists.specs.Places.{Each, Has, Ascends}
 use Rattle.pc_lists.proofs.Elements.{ascends_none}
 use Rattle.pc_lists.proofs.Gets.{map_get}

@@ -14,20 +14,21 @@ use Rattle.pc_core.specs.declared.declarations.EntityDef.{EntityDef}
 use Rattle.pc_core.specs.declared.declarations.FieldInfo.{FieldInfo}
 use Rattle.pc_core.specs.declared.declarations.Method.{Method}
 use Rattle.pc_core.specs.CoreData.{CoreData}
-use Rattle.pc_core.specs.Entities.{built_in, built_in_value, out_field, print_method, EntityFits, IsAbstract, Names, Leads, one, more}
+use Rattle.pc_core.specs.Entities.{built_in, built_in_value, out_field, print_method, IsAbstract, Names, Leads, one, more}
+use Rattle.pc_core.specs.EntityFits.{EntityFits}
 use Rattle.pc_core.specs.Lookup.{own_methods, field_name, method_name}
 use Rattle.pc_lists.specs.Places.{Each, Has, Differ, Ascends, IsIn}
 use Rattle.pc_lists.specs.Texts.{Text}
-use Rattle.pc_members.specs.Words.{built_in_names, texts_of, entity_names}
-use Rattle.pc_members.specs.Words.{field_texts, method_texts}
-use Rattle.pc_members.specs.Reach.{or_nil}
-use Rattle.pc_members.specs.Chains.{IsAbove, numbers_of}
+use Rattle.pc_members.specs.Words.{built_in_names, texts_of, entity_names, field_texts, method_texts, or_nil}
+use Rattle.pc_members.specs.Chains.{IsAbove}
+use Rattle.pc_members.specs.Edges.{numbers_of}
 use Rattle.pc_tree.specs.BuiltIn.{first_own}
 use Rattle.pc_members.specs.Chains as chain
 use Rattle.pc_members.proofs.Differences.{equal_texts}
 use Rattle.pc_members.proofs.Named.{is_trait_named}
 use Rattle.pc_members.proofs.Closings.{numbers_only, numbers_all, no_entity}
-use Rattle.pc_members.specs.Members.{Member, written, added, members, member_text}
+use Rattle.pc_members.specs.Members.{Member, written, added, member_text}
+use Rattle.pc_members.specs.MemberLists.{members}
 use Rattle.pc_file_spec.specs.Members.{Owned, owned}
 use Rattle.pc_file_spec.specs.Known as known
 use Rattle.pc_file_spec.specs.Parts.{Parts}

@@ -14,8 +14,8 @@ use Rattle.pc_tree.specs.declared.file.ParamDef.{ParamDef}
 use Rattle.pc_tree.specs.Kinds.{is_abstract}
 use Rattle.pc_tree.specs.Tree as t
 use Rattle.pc_core.specs.CoreData.{CoreData}
-use Rattle.pc_core.specs.Entities.{HasMain}
-use Rattle.pc_core.specs.Methods.{word_kind}
+use Rattle.pc_core.specs.EntityFits.{HasMain}
+use Rattle.pc_core.specs.MethodKinds.{word_kind}
 use Rattle.pc_names.specs.declared.fault.NameFault.TheVariants as fault
 use Rattle.pc_members.specs.Words.{is_new}
 use Rattle.pc_tree.specs.BuiltIn.{first_own}
@@ -23,7 +23,8 @@ use Rattle.pc_members.proofs.Differences.{equal_texts}
 use Rattle.pc_names.specs.Mains.{is_actor, is_val, is_env, takes_env, begins, is_main, main_faults}
 use Rattle.pc_lists.proofs.Bools.{true_false}
 use Rattle.pc_body_spec.specs.Slots.{cap_or}
-use Rattle.pc_members.specs.Members.{written, abstract_members, concrete_members, members}
+use Rattle.pc_members.specs.Members.{written}
+use Rattle.pc_members.specs.MemberLists.{abstract_members, concrete_members, members}
 use Rattle.pc_file_spec.specs.Members.{Owned, owned}
 use Rattle.pc_file_spec.specs.Known.{known_of}
 use Rattle.pc_file_spec.specs.Signatures.{param_of}

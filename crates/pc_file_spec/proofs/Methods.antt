@@ -18,7 +18,7 @@ use Rattle.pc_core.specs.Methods.{MethodFits, SlotsFit, LocalFits, BodyFits}
 use Rattle.pc_lists.specs.Places.{Each, Has}
 use Rattle.pc_tree.specs.BuiltIn.{first_own}
 use Rattle.pc_body_spec.specs.Slots.{local_slot}
-use Rattle.pc_members.specs.Members.{members}
+use Rattle.pc_members.specs.MemberLists.{members}
 use Rattle.pc_file_spec.specs.Members.{Owned}
 use Rattle.pc_file_spec.specs.Known.{known_of}
 use Rattle.pc_file_spec.specs.Signatures.{context_of, slots_from, locals_of}

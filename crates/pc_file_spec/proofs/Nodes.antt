@@ -15,8 +15,10 @@ use Rattle.pc_core.specs.declared.nodes.NodeKind.{NodeKind}
 use Rattle.pc_core.specs.declared.nodes.NodeKind.TheVariants as node
 use Rattle.pc_core.specs.declared.nodes.Slot.{Slot}
 use Rattle.pc_core.specs.CoreData.{CoreData}
-use Rattle.pc_core.specs.Methods.{constructor_kind, word_kind, Uses, is_local, param_slot}
-use Rattle.pc_core.specs.Nodes.{NodeFits, NamesFit, NamesPrimitive, NamesMethod, NamesSlot, NamesLocal}
+use Rattle.pc_core.specs.Methods.{Uses, is_local}
+use Rattle.pc_core.specs.MethodKinds.{constructor_kind, word_kind, param_slot}
+use Rattle.pc_core.specs.Nodes.{NodeFits, NamesFit, NamesPrimitive, NamesSlot, NamesLocal}
+use Rattle.pc_core.specs.Lookup.{NamesMethod}
 use Rattle.pc_lists.specs.Places.{Each, Has}
 use Rattle.pc_members.specs.Words.{is_new}
 use Rattle.pc_tree.specs.BuiltIn.{first_own}
@@ -25,7 +27,8 @@ use Rattle.pc_body_spec.specs.Scopes.{Context, Known, Constructor}
 use Rattle.pc_body_spec.specs.Slots.{Local, local_slot, local_kind}
 use Rattle.pc_body_spec.specs.Meanings.{Names, IsOfKind, IsConstructor}
 use Rattle.pc_body_spec.specs.Laws.{HasChildren}
-use Rattle.pc_members.specs.Members.{Member, written, added, members, is_constructor}
+use Rattle.pc_members.specs.Members.{Member, written, added, is_constructor}
+use Rattle.pc_members.specs.MemberLists.{members}
 use Rattle.pc_file_spec.specs.Members.{Owned, owned}
 use Rattle.pc_file_spec.specs.Known.{known_of, known_from, built_in_known}
 use Rattle.pc_file_spec.specs.Signatures.{context_of, slots_from, own_this, params_of, locals_of, kind_of}

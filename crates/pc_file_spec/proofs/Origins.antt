@@ -14,12 +14,12 @@ use Rattle.pc_tree.proofs.KindFacts.{created, no_fields}
 use Rattle.pc_lists.specs.Places.{Has, Differ}
 use Rattle.pc_lists.proofs.Gets.{map_get}
 use Rattle.pc_lists.specs.Texts.{Text}
-use Rattle.pc_members.specs.Words.{is_among, has_added, has_constructor}
-use Rattle.pc_members.specs.Words.{field_texts, method_texts}
+use Rattle.pc_members.specs.Words.{is_among, has_added, has_constructor, field_texts, method_texts}
 use Rattle.pc_members.proofs.Differences.{differ_push}
 use Rattle.pc_members.proofs.Named.{named_is, one_entity, is_trait_named}
 use Rattle.pc_lists.proofs.Bools.{true_false, first_true, second_true}
-use Rattle.pc_members.specs.Members.{Member, written, added, firsts, entity_named, of_entity, of_each, trait_methods, abstract_methods, without_body, added_text, own_texts, is_takable, taken, taken_over, added_if, abstract_members, concrete_members, members, member_text}
+use Rattle.pc_members.specs.Members.{Member, written, added, without_body, added_text, own_texts, is_takable, added_if, member_text}
+use Rattle.pc_members.specs.MemberLists.{firsts, entity_named, of_entity, of_each, trait_methods, abstract_methods, taken, taken_over, abstract_members, concrete_members, members}
 use Rattle.pc_file_spec.specs.Order.{InPlace}
 use Rattle.pc_lists.proofs.Elements.{has_on, has_either, differ_none}
 use Rattle.pc_names.proofs.Founded.{Adds, adds_differ}

@@ -8,7 +8,8 @@ use Rattle.pc_tree.specs.Tree as t
 use Rattle.pc_core.specs.declared.declarations.EntityDef.{EntityDef}
 use Rattle.pc_lists.specs.Ranges.{Follow}
 use Rattle.pc_body_spec.specs.Scopes.{Known, Constructor}
-use Rattle.pc_members.specs.Members.{Member, members, member_text, is_constructor}
+use Rattle.pc_members.specs.Members.{Member, member_text, is_constructor}
+use Rattle.pc_members.specs.MemberLists.{members}
 use Rattle.pc_file_spec.specs.Members.{Owned, owned, members_from}
 use Rattle.pc_file_spec.specs.Known.{known_from, constructors_from}
 use Rattle.pc_file_spec.specs.Cores.{entity_of, entities_from}

@@ -9,7 +9,7 @@ use Rattle.pc_core.specs.CoreData.{CoreData}
 use Rattle.pc_lists.specs.Places.{Has, Ascends}
 use Rattle.pc_members.specs.Words.{entity_names}
 use Rattle.pc_members.specs.Reach.{above_all}
-use Rattle.pc_members.specs.Chains.{edges_of}
+use Rattle.pc_members.specs.Edges.{edges_of}
 use Rattle.pc_names.specs.Names.{Collected, name_faults}
 use Rattle.pc_members.proofs.Closings.{closes}
 use Rattle.pc_lists.proofs.Bools.{true_false}

@@ -11,7 +11,7 @@ use Rattle.pc_tree.specs.declared.file.ParamDef.{ParamDef}
 use Rattle.pc_tree.specs.Tree as t
 use Rattle.pc_core.specs.declared.nodes.Node.{Node}
 use Rattle.pc_lists.specs.Places.{Each}
-use Rattle.pc_core.specs.Methods.{param_slot}
+use Rattle.pc_core.specs.MethodKinds.{param_slot}
 use Rattle.pc_body_spec.specs.Roses.{Rose, Numbered, put}
 use Rattle.pc_body_spec.specs.Scopes.{Context}
 use Rattle.pc_body_spec.specs.Bodies.{body_of, added_body}

@@ -16,7 +16,8 @@ use Rattle.pc_tree.specs.BuiltIn.{first_own}
 use Rattle.pc_members.proofs.Differences.{has_among, among_has}
 use Rattle.pc_members.proofs.Named.{named_is, one_entity}
 use Rattle.pc_members.specs.Chains as chain
-use Rattle.pc_members.specs.Members.{Member, written, added, entity_named, of_each, abstract_methods, without_body, added_text, own_texts, is_takable, taken, taken_over, added_if, abstract_members, concrete_members, members, member_text}
+use Rattle.pc_members.specs.Members.{Member, written, added, without_body, added_text, own_texts, is_takable, added_if, member_text}
+use Rattle.pc_members.specs.MemberLists.{entity_named, of_each, abstract_methods, taken, taken_over, abstract_members, concrete_members, members}
 use Rattle.pc_file_spec.specs.Laws.{WrittenAbove, TraitsHaveNoBodies, BodiesAreTaken, BodiesAreThere}
 use Rattle.pc_names.proofs.Founded.{Adds}
 use Rattle.pc_file_spec.proofs.Collects.{Collects, collects}

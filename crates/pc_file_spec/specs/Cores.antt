@@ -9,13 +9,12 @@ use Rattle.pc_core.specs.CoreData.{CoreData}
 use Rattle.pc_core.specs.Entities.{built_in, built_in_value, out_field}
 use Rattle.pc_names.specs.declared.fault.NameFault.{NameFault}
 use Rattle.pc_lists.specs.Texts.{Text}
-use Rattle.pc_members.specs.Words.{entity_names}
-use Rattle.pc_members.specs.Chains.{numbers_of}
+use Rattle.pc_members.specs.Words.{entity_names, or_nil}
+use Rattle.pc_members.specs.Edges.{numbers_of}
 use Rattle.pc_tree.specs.BuiltIn.{first_own}
-use Rattle.pc_members.specs.Reach.{or_nil}
 use Rattle.pc_names.specs.Names.{NamesData, Collected}
 use Rattle.pc_body_spec.specs.Scopes.{Known, text_from}
-use Rattle.pc_members.specs.Members.{members}
+use Rattle.pc_members.specs.MemberLists.{members}
 use Rattle.pc_file_spec.specs.Known.{texts_of, known_of, default_cap}
 use Rattle.pc_file_spec.specs.Signatures.{type_in}
 use Rattle.pc_file_spec.specs.Parts.{Parts, if_ok, parts_of}

@@ -11,7 +11,8 @@ use Rattle.pc_members.specs.Tables.{with_names}
 use Rattle.pc_body_spec.specs.Scopes.{Known, Constructor}
 use Rattle.pc_body_spec.specs.Slots.{cap_or}
 use Rattle.pc_body_spec.specs.Texts.{entities_texts}
-use Rattle.pc_members.specs.Members.{Member, members, member_text, is_constructor}
+use Rattle.pc_members.specs.Members.{Member, member_text, is_constructor}
+use Rattle.pc_members.specs.MemberLists.{members}
 
 -- ---- texts
 

@@ -14,7 +14,8 @@ use Rattle.pc_names.specs.Names.{NamesData, Collected}
 use Rattle.pc_members.specs.Words.{field_texts, method_texts}
 use Rattle.pc_body_spec.specs.Texts.{entities_texts}
 use Rattle.pc_tree.specs.declared.names.Name.{Name}
-use Rattle.pc_members.specs.Members.{Member, written, trait_methods, abstract_methods, without_body, is_takable, own_texts, members, member_text}
+use Rattle.pc_members.specs.Members.{Member, written, without_body, is_takable, own_texts, member_text}
+use Rattle.pc_members.specs.MemberLists.{trait_methods, abstract_methods, members}
 use Rattle.pc_file_spec.specs.Known.{texts_of}
 use Rattle.pc_file_spec.specs.Cores.{Stands, IsElabFault}
 use Rattle.pc_file_spec.specs.Order.{InOrder, InPlace}

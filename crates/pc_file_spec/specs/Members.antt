@@ -1,7 +1,8 @@
 -- All members of a file, in the order of their numbers.
 use Rattle.std.specs.Prelude.{ℕ, suc, List, [], ◌∷◌, ◌++◌, map}
 use Rattle.pc_tree.specs.Tree as t
-use Rattle.pc_members.specs.Members.{Member, members}
+use Rattle.pc_members.specs.Members.{Member}
+use Rattle.pc_members.specs.MemberLists.{members}
 
 -- A member, with its entity and the entity's number.
 pub record Owned : Type 0 where

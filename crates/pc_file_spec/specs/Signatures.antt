@@ -18,11 +18,12 @@ use Rattle.pc_core.specs.declared.declarations.MethodKind.{MethodKind}
 use Rattle.pc_core.specs.declared.declarations.ParamInfo.{ParamInfo}
 use Rattle.pc_core.specs.declared.nodes.Slot.{Slot}
 use Rattle.pc_core.specs.declared.nodes.SlotKind.TheVariants as slot
-use Rattle.pc_core.specs.Methods.{constructor_kind, word_kind, param_slot}
+use Rattle.pc_core.specs.MethodKinds.{constructor_kind, word_kind, param_slot}
 use Rattle.pc_members.specs.Words.{field_texts}
 use Rattle.pc_body_spec.specs.Scopes.{Context, Known, Placed, text_of}
 use Rattle.pc_body_spec.specs.Slots.{Local, cap_or, type_of, initial_locals, method_locals, slots_of, added_slots, local_slot}
-use Rattle.pc_members.specs.Members.{Member, written, added, members, member_text, member_span}
+use Rattle.pc_members.specs.Members.{Member, written, added, member_text, member_span}
+use Rattle.pc_members.specs.MemberLists.{members}
 use Rattle.pc_file_spec.specs.Members.{Owned}
 use Rattle.pc_file_spec.specs.Known.{texts_of, known_of}
 

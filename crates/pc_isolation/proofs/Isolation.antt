@@ -26,7 +26,7 @@ use Rattle.pc_regions.proofs.Schedules.{run_in_regions}
 use Rattle.pc_regions.proofs.TakesMessage.{takes_regions}
 use Rattle.pc_regions.proofs.AllKeep.{keeps_regions}
 use Rattle.pc_isolation.specs.Isolated.{Isolated}
-use Rattle.pc_isolation.specs.Laws.{ValidIsIsolated}
+use Rattle.pc_isolation.specs.ValidLaws.{ValidIsIsolated}
 use Rattle.pc_isolation.proofs.Mailed.{Mailed, mailed_is_none's, mailed_is_warm, mailed_once, Shown}
 use Rattle.pc_isolation.proofs.Fields.{leads_from_mailed}
 use Rattle.pc_isolation.proofs.Arguments.{ticket, one_place, inside_argument, seen_from_argument}

@@ -21,7 +21,7 @@ use Rattle.pc_events.proofs.Plans.{plans, step_is}
 use Rattle.pc_events.proofs.Reach.{run_placed, after_placed}
 use Rattle.pc_isolation.specs.Isolated.{keeps, shows, Reaches, waiting_at, Waits, Inside, SeenFrom, Isolated}
 use Rattle.pc_isolation.specs.Passed.{Whole}
-use Rattle.pc_isolation.specs.Laws.{ValidIsPassedWhole}
+use Rattle.pc_isolation.specs.ValidLaws.{ValidIsPassedWhole}
 use Rattle.pc_isolation.proofs.Reaching.{Unwritten, values_kept, reach_on, reach_back, shown}
 use Rattle.pc_isolation.proofs.Steps.{message_kept, nothing_taken}
 use Rattle.pc_isolation.proofs.Takes.{taken_whole}

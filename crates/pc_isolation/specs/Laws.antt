@@ -2,9 +2,6 @@
 -- what a message brings is passed as a whole.
 use Rattle.std.specs.Prelude.{ℕ, List}
 use Rattle.pc_core.specs.CoreData.{CoreData}
-use Rattle.pc_core.specs.Formed.{Formed}
-use Rattle.pc_ann.specs.declared.annotation.Ann.{Ann}
-use Rattle.pc_rules.specs.Valid.{Valid}
 use Rattle.pc_semantics.specs.Runs.{after}
 use Rattle.pc_isolation.specs.Isolated.{Isolated}
 use Rattle.pc_isolation.specs.Passed.{StaysWhole, TakenWhole}
@@ -15,11 +12,3 @@ AlwaysIsolated core = (list : List ℕ) → Isolated core (after core list)
 
 abbrev pub AlwaysPassedWhole : CoreData → Type 0
 AlwaysPassedWhole core = (list : List ℕ) → StaysWhole core (after core list) × TakenWhole core (after core list)
-
--- What has a valid annotation is isolated.
-abbrev pub ValidIsIsolated : Type 0
-ValidIsIsolated = (core : CoreData) (ann : Ann) → Formed core → Valid core ann → AlwaysIsolated core
-
--- What is inside an argument stays inside until its message is taken, and is handed over as a whole.
-abbrev pub ValidIsPassedWhole : Type 0
-ValidIsPassedWhole = (core : CoreData) (ann : Ann) → Formed core → Valid core ann → AlwaysPassedWhole core

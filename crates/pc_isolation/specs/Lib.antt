@@ -1,4 +1,5 @@
 pub mod Isolated
 pub mod Passed
+pub mod ValidLaws
 pub mod Laws
 pub mod Examples

@@ -1,6 +1,6 @@
 //! What is proved of waiting messages. The calls do nothing, and their contracts are the laws.
 ghost use Rattle.pc_isolation.specs.Examples as example;
-ghost use Rattle.pc_isolation.specs.Laws as law;
+ghost use Rattle.pc_isolation.specs.ValidLaws as law;
 
 use pc_semantics::only_moves_change;
 

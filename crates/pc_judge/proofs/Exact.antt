@@ -13,6 +13,7 @@ use Rattle.pc_rules.specs.Valid.{Valid, KeepsWritten}
 use Rattle.pc_judge.specs.declared.faults.JudgeFault.{JudgeFault}
 use Rattle.pc_judge.specs.declared.faults.JudgeFault.TheVariants as fault
 use Rattle.pc_judge.specs.Faults as spec
+use Rattle.pc_judge.specs.Laws as law
 use Rattle.pc_judge.proofs.Bodies.{body_within, one_body}
 
 -- ---- from node to node
@@ -46,7 +47,7 @@ before_seen core ann ys n i f same l at m b =
 
 -- ---- valid or faulted
 
-pub not_valid : spec.NotValid
+pub not_valid : law.NotValid
 not_valid core ann (fault.Decl d) f h v = faulted core d f h v.declarations
 not_valid core ann fault.Shape f h v = h.1 (v.slots, v.notes)
 not_valid core ann (fault.Slot k) f h v = h.2.0.2 (v.written k h.2.0.0 h.2.0.1)
@@ -97,7 +98,7 @@ two_unset core ann m k f h i =
       ]
     ]
 
-pub one_first : spec.OneFirst
+pub one_first : law.OneFirst
 one_first core ann (fault.Decl d) (fault.Decl e) f h i = ap fault.Decl (same_Some d e (sym h ∙ i))
 one_first core ann (fault.Decl d) fault.Shape f h i = absurd (faulted core d f h i.0)
 one_first core ann (fault.Decl d) (fault.Slot k) f h i = absurd (faulted core d f h i.0)

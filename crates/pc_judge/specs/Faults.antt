@@ -5,11 +5,10 @@ use Rattle.pc_core.specs.declared.declarations.Method.{Method}
 use Rattle.pc_core.specs.declared.nodes.Slot.{Slot}
 use Rattle.pc_core.specs.CoreData.{CoreData}
 use Rattle.pc_lists.specs.Places.{Each}
-use Rattle.pc_core.specs.Formed.{Formed}
 use Rattle.pc_ann.specs.declared.annotation.Ann.{Ann}
 use Rattle.pc_sub.specs.Declarations.{DeclOk, first_fault}
 use Rattle.pc_rules.specs.Rules.{MeetsRule}
-use Rattle.pc_rules.specs.Valid.{Valid, KeepsWritten, SetsFields}
+use Rattle.pc_rules.specs.Valid.{KeepsWritten, SetsFields}
 use Rattle.pc_judge.specs.declared.faults.JudgeFault.{JudgeFault}
 use Rattle.pc_judge.specs.declared.faults.JudgeFault.TheVariants as fault
 
@@ -75,11 +74,3 @@ FailsAt core ann n (fault.Unset m) = MeetsRule core ann n × ((x : Method) × (s
 FailsAt core ann n f = ⊥
 
 -- ---- laws
-
--- At most one fault is the first.
-abbrev pub OneFirst : Type 0
-OneFirst = (core : CoreData) (ann : Ann) (f g : JudgeFault) → Formed core → FirstFault core ann f → FirstFault core ann g → f ≡ g
-
--- Where one is, the annotation is not valid.
-abbrev pub NotValid : Type 0
-NotValid = (core : CoreData) (ann : Ann) (f : JudgeFault) → Formed core → FirstFault core ann f → Valid core ann → ⊥

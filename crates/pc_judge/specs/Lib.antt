@@ -1,3 +1,4 @@
+pub mod Laws
 pub mod Faults
 pub mod Computed
 pub mod Example

@@ -1,5 +1,5 @@
 //! What is true of faults. Each call does nothing, and its contract is the law.
-ghost use Rattle.pc_judge.specs.Faults as law;
+ghost use Rattle.pc_judge.specs.Laws as law;
 
 /// A core and an annotation have at most one fault that is first.
 #[tactic(auto, using(crate::proofs::Exact::one_first))]

@@ -13,9 +13,12 @@ use Rattle.pc_tree.specs.Kinds.{is_abstract}
 use Rattle.pc_tree.specs.Tree as t
 use Rattle.pc_lists.specs.Texts.{Text}
 use Rattle.pc_members.specs.Words.{method_texts, entity_names}
-use Rattle.pc_members.specs.Chains.{IsFounded, Closes, numbers_of}
+use Rattle.pc_members.specs.Chains.{Closes}
+use Rattle.pc_members.specs.Founded.{IsFounded}
+use Rattle.pc_members.specs.Edges.{numbers_of}
 use Rattle.pc_tree.specs.BuiltIn.{first_own}
-use Rattle.pc_members.specs.Members.{is_takable, of_entity, of_each, trait_methods, abstract_methods}
+use Rattle.pc_members.specs.Members.{is_takable}
+use Rattle.pc_members.specs.MemberLists.{of_entity, of_each, trait_methods, abstract_methods}
 use Rattle.pc_members.proofs.Ranks.{Target, steady, rank_few}
 use Rattle.pc_member_counts.specs.declared.block.Block.{Block}
 use Rattle.pc_member_counts.specs.Blocks.{nothing, single, followed, takable}

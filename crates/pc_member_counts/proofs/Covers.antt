@@ -11,7 +11,7 @@ use Rattle.pc_tree.specs.Tree as t
 use Rattle.pc_lists.specs.Texts.{Text}
 use Rattle.pc_members.specs.Words.{is_among, method_texts}
 use Rattle.pc_members.specs.Tables.{with_names}
-use Rattle.pc_members.specs.Members.{firsts, entity_named, of_entity, of_each, trait_methods}
+use Rattle.pc_members.specs.MemberLists.{firsts, entity_named, of_entity, of_each, trait_methods}
 use Rattle.pc_members.proofs.Differences.{names_differ, among_has, has_among}
 use Rattle.pc_members.proofs.Completed.{among_parts, names_known}
 use Rattle.pc_members.proofs.Named.{named_is}

@@ -11,7 +11,7 @@ use Rattle.pc_tree.specs.Kinds.{is_abstract}
 use Rattle.pc_tree.specs.Tree as t
 use Rattle.pc_lists.specs.Texts.{Text}
 use Rattle.pc_members.specs.Words.{entity_names}
-use Rattle.pc_members.specs.Chains.{IsFounded}
+use Rattle.pc_members.specs.Founded.{IsFounded}
 use Rattle.pc_members.specs.Rounds.{rank, ClosesOwn, IsReached}
 use Rattle.pc_members.proofs.Ranks.{target, rank_less, rank_few, named_by}
 use Rattle.pc_members.proofs.Rounding.{one_place, same_rank}

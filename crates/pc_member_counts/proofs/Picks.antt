@@ -13,7 +13,8 @@ use Rattle.pc_tree.specs.declared.kinds.EntityKind.{EntityKind}
 use Rattle.pc_tree.specs.Tree as t
 use Rattle.pc_lists.specs.Texts.{Text}
 use Rattle.pc_members.specs.Words.{is_among, method_texts}
-use Rattle.pc_members.specs.Members.{firsts, taken, is_takable}
+use Rattle.pc_members.specs.Members.{is_takable}
+use Rattle.pc_members.specs.MemberLists.{firsts, taken}
 use Rattle.pc_members.proofs.Differences.{same_text, equal_texts}
 use Rattle.pc_member_counts.specs.Totals.{takes}
 use Rattle.pc_member_counts.proofs.Truths.{and_true, and_false, or_false, or_true}

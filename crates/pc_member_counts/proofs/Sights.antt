@@ -8,7 +8,8 @@ use Rattle.pc_tree.specs.Kinds.{is_abstract}
 use Rattle.pc_tree.specs.Tree as t
 use Rattle.pc_lists.specs.Texts.{Text}
 use Rattle.pc_members.specs.Words.{is_among, method_texts}
-use Rattle.pc_members.specs.Members.{firsts, is_takable}
+use Rattle.pc_members.specs.Members.{is_takable}
+use Rattle.pc_members.specs.MemberLists.{firsts}
 use Rattle.pc_members.proofs.Differences.{equal_texts}
 use Rattle.pc_members.proofs.Completed.{among_parts}
 use Rattle.pc_member_counts.specs.Totals.{takes}

@@ -10,7 +10,8 @@ use Rattle.pc_tree.specs.Kinds.{is_abstract}
 use Rattle.pc_tree.specs.Tree as t
 use Rattle.pc_lists.specs.Texts.{Text}
 use Rattle.pc_members.specs.Words.{is_among, method_texts, has_added}
-use Rattle.pc_members.specs.Members.{written, without_body, firsts, taken_over, of_each, trait_methods, abstract_methods, own_texts, added_if, members, abstract_members, concrete_members}
+use Rattle.pc_members.specs.Members.{written, without_body, own_texts, added_if}
+use Rattle.pc_members.specs.MemberLists.{firsts, taken_over, of_each, trait_methods, abstract_methods, members, abstract_members, concrete_members}
 use Rattle.pc_member_counts.specs.Numbers.{method_names}
 use Rattle.pc_member_counts.specs.Totals.{takes, gets, got, own_count, totals}
 use Rattle.pc_member_counts.proofs.Sights.{absent_is, sight_firsts}

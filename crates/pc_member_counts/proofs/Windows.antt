@@ -15,8 +15,9 @@ use Rattle.pc_tree.specs.Kinds.{is_abstract}
 use Rattle.pc_tree.specs.Tree as t
 use Rattle.pc_lists.specs.Texts.{Text}
 use Rattle.pc_members.specs.Words.{is_among, field_texts, method_texts, entity_names, has_added}
-use Rattle.pc_members.specs.Chains.{IsFounded}
-use Rattle.pc_members.specs.Members.{added_text, own_texts, of_each, abstract_methods}
+use Rattle.pc_members.specs.Founded.{IsFounded}
+use Rattle.pc_members.specs.Members.{added_text, own_texts}
+use Rattle.pc_members.specs.MemberLists.{of_each, abstract_methods}
 use Rattle.pc_members.specs.Rounds.{ClosesOwn}
 use Rattle.pc_members.proofs.Completed.{among_parts}
 use Rattle.pc_member_counts.specs.declared.block.Block.{Block}

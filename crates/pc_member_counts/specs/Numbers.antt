@@ -6,7 +6,7 @@ use Rattle.pc_tree.specs.Tree as t
 use Rattle.pc_lists.specs.Texts.{Text}
 use Rattle.pc_members.specs.Words.{field_texts, method_texts, has_added}
 use Rattle.pc_members.specs.Tables.{with_names}
-use Rattle.pc_members.specs.Chains.{numbers_of}
+use Rattle.pc_members.specs.Edges.{numbers_of}
 use Rattle.pc_members.specs.Members.{added_text}
 use Rattle.pc_member_counts.specs.declared.listing.Listing.{Listing}
 

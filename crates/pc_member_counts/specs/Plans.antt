@@ -2,7 +2,7 @@
 use Rattle.std.specs.Prelude.{◌≡◌, ℕ, List, [], map}
 use Rattle.pc_tree.specs.Tree as t
 use Rattle.pc_members.specs.Words.{entity_names}
-use Rattle.pc_members.specs.Chains.{IsFounded}
+use Rattle.pc_members.specs.Founded.{IsFounded}
 use Rattle.pc_members.specs.Rounds.{ClosesOwn}
 use Rattle.pc_member_counts.specs.declared.plan.Plan.{Plan}
 use Rattle.pc_member_counts.specs.Numbers.{listing, method_names}

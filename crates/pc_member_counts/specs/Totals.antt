@@ -8,7 +8,8 @@ use Rattle.pc_tree.specs.Kinds.{is_abstract}
 use Rattle.pc_tree.specs.Tree as t
 use Rattle.pc_lists.specs.Texts.{Text}
 use Rattle.pc_members.specs.Words.{is_among, method_texts, has_added}
-use Rattle.pc_members.specs.Members.{is_takable, of_each, abstract_methods, own_texts}
+use Rattle.pc_members.specs.Members.{is_takable, own_texts}
+use Rattle.pc_members.specs.MemberLists.{of_each, abstract_methods}
 
 -- An entity of this kind takes one of these methods of the name over, if the name is new to it.
 abbrev pub takes : EntityKind → Text → List t.Method → Bool

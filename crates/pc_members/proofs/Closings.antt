@@ -9,9 +9,10 @@ use Rattle.pc_lists.specs.Places.{Has, IsIn}
 use Rattle.pc_tree.specs.declared.names.Name.{Name}
 use Rattle.pc_tree.specs.Tree as t
 use Rattle.pc_lists.specs.Texts.{Text}
-use Rattle.pc_members.specs.Words.{entity_names}
-use Rattle.pc_members.specs.Reach.{next, or_nil, Chain, link, links, reached, ascending, above_all}
-use Rattle.pc_members.specs.Chains.{Names, Leads, one, more, IsAbove, Closes, numbers_of, own_edges, edges_of}
+use Rattle.pc_members.specs.Words.{entity_names, or_nil}
+use Rattle.pc_members.specs.Reach.{next, Chain, link, links, reached, ascending, above_all}
+use Rattle.pc_members.specs.Chains.{Names, Leads, one, more, IsAbove, Closes}
+use Rattle.pc_members.specs.Edges.{numbers_of, own_edges, edges_of}
 use Rattle.pc_tree.specs.BuiltIn.{first_own}
 use Rattle.pc_members.proofs.Reached.{Within, above_length, above_get, ascending_ascends, listed_led, led_listed}
 

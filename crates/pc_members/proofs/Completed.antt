@@ -8,9 +8,11 @@ use Rattle.pc_tree.specs.Tree as t
 use Rattle.pc_lists.specs.Texts.{Text}
 use Rattle.pc_members.specs.Words.{is_among, entity_names, has_added}
 use Rattle.pc_members.specs.Tables.{with_name, with_names}
-use Rattle.pc_members.specs.Chains.{Closes, IsFounded}
-use Rattle.pc_members.specs.Members.{Member, written, without_body, is_takable, taken, of_each, abstract_methods, own_texts, added_if, members, abstract_members, concrete_members}
-use Rattle.pc_members.specs.Rounds.{ClosesOwn, Knows, methods_written, bodiless, taken_members, completed, completed_from, concrete, own_members, or_none, named_all}
+use Rattle.pc_members.specs.Chains.{Closes}
+use Rattle.pc_members.specs.Founded.{IsFounded}
+use Rattle.pc_members.specs.Members.{Member, written, without_body, is_takable, own_texts, added_if, or_none}
+use Rattle.pc_members.specs.MemberLists.{taken, of_each, abstract_methods, members, abstract_members, concrete_members}
+use Rattle.pc_members.specs.Rounds.{ClosesOwn, Knows, methods_written, bodiless, taken_members, completed, completed_from, concrete, own_members, named_all}
 use Rattle.pc_members.proofs.Differences.{equal_texts}
 use Rattle.pc_members.proofs.Ranks.{all_named}
 use Rattle.pc_members.proofs.Rounding.{knows_all}

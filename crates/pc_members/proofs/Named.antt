@@ -11,7 +11,7 @@ use Rattle.pc_lists.proofs.Elements.{has_on, has_either}
 use Rattle.pc_lists.specs.Texts.{Text}
 use Rattle.pc_members.specs.Words.{is_among, built_in_names, texts_of, entity_names}
 use Rattle.pc_members.specs.Tables.{with_name, with_traits, trait_names}
-use Rattle.pc_members.specs.Members.{entity_named}
+use Rattle.pc_members.specs.MemberLists.{entity_named}
 use Rattle.pc_members.proofs.Differences.{equal_texts}
 
 pub named_is : (es : List t.Entity) (name : Text) (f : t.Entity) → entity_named es name ≡ Some f → Has es f × (f.name.text ≡ name)

@@ -15,18 +15,19 @@ use Rattle.pc_tree.specs.Kinds.{is_abstract}
 use Rattle.pc_tree.specs.Tree as t
 use Rattle.pc_lists.specs.Places.{Has, Differ, Ascends}
 use Rattle.pc_lists.specs.Texts.{Text}
-use Rattle.pc_members.specs.Words.{is_among, built_in_names, texts_of, entity_names}
-use Rattle.pc_members.specs.Reach.{or_nil}
+use Rattle.pc_members.specs.Words.{is_among, built_in_names, texts_of, entity_names, or_nil}
 use Rattle.pc_members.specs.Tables.{find_name}
-use Rattle.pc_members.specs.Chains.{entity_at, Names, Leads, one, more, IsAbove, Closes, IsFounded}
+use Rattle.pc_members.specs.Chains.{entity_at, Names, Leads, one, more, IsAbove, Closes}
+use Rattle.pc_members.specs.Founded.{IsFounded}
 use Rattle.pc_tree.specs.BuiltIn.{first_own}
 use Rattle.pc_members.proofs.Differences.{same_text, equal_texts}
 use Rattle.pc_lists.proofs.Bools.{true_false}
 use Rattle.pc_members.proofs.Closings.{nobody, no_entity}
-use Rattle.pc_members.specs.Members.{Member, written, firsts, entity_named, of_entity, of_each, trait_methods, abstract_methods}
+use Rattle.pc_members.specs.Members.{Member, written, or_none}
+use Rattle.pc_members.specs.MemberLists.{firsts, entity_named, of_entity, of_each, trait_methods, abstract_methods}
 use Rattle.pc_lists.proofs.Elements.{has_on}
 use Rattle.pc_members.proofs.Named.{named_is, one_entity, is_trait_named}
-use Rattle.pc_members.specs.Rounds.{first_members, named_all, named_at, or_none, gathered, methods_written}
+use Rattle.pc_members.specs.Rounds.{first_members, named_all, named_at, gathered, methods_written}
 
 -- ---- lists without equal elements
 

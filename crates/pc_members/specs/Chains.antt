@@ -1,14 +1,10 @@
 -- Chains of `is`, from an entity to the traits and interfaces that it stands for.
-use Rattle.std.specs.Prelude.{◌≡◌, ◌↔◌, ℕ, ◌+◌, true, List, [], ◌∷◌, ◌++◌, map, length, Some, None, slice_get, replicate, option_to_list, position}
-use Rattle.pc_lists.specs.Places.{Each, Has, Differ, Ascends}
+use Rattle.std.specs.Prelude.{◌≡◌, ◌↔◌, ℕ, ◌+◌, true, List, ◌++◌, map, length, Some, None, slice_get, replicate}
+use Rattle.pc_lists.specs.Places.{Each, Has, Ascends}
 use Rattle.pc_tree.specs.declared.names.Name.{Name}
 use Rattle.pc_tree.specs.Kinds.{is_abstract}
 use Rattle.pc_tree.specs.Tree as t
-use Rattle.pc_lists.specs.Texts.{Text}
-use Rattle.pc_members.specs.Words.{entity_names, entity_of}
-use Rattle.pc_members.specs.Reach.{Edges}
-use Rattle.pc_members.specs.Tables.{trait_names}
-use Rattle.std.specs.Str.{bytes_eq}
+use Rattle.pc_members.specs.Words.{entity_of}
 use Rattle.pc_tree.specs.BuiltIn.{first_own}
 
 -- The entity of this number.
@@ -34,24 +30,3 @@ IsAbove file a above = Ascends above × ((b : ℕ) → Has above b ↔ Leads fil
 
 abbrev pub Closes : t.File → List (List ℕ) → Type 0
 Closes file lists = (length lists ≡ first_own + length file.entities) × Each (λ a above. IsAbove file a above) lists
-
--- The names of the entities differ, each `is` list names traits and interfaces of the file alone, and none of these leads back to itself.
-pub record IsFounded (file : t.File) : Type 0 where
-  pub names : Differ (entity_names file)
-  pub provides : (e : t.Entity) (n : Name) → Has file.entities e → Has e.provides n → Has (trait_names file.entities) n.text
-  pub straight : (a : ℕ) → InCycle file a → ⊥
-
--- ---- the `is` lists, as edges between numbers
-
--- The numbers of those names that are entities.
-abbrev pub numbers_of : List Text → List Name → List ℕ
-numbers_of entities [] = []
-numbers_of entities (n ∷ ns) = option_to_list (position (bytes_eq n.text) entities) ++ numbers_of entities ns
-
-abbrev pub own_edges : List Text → List t.Entity → Edges
-own_edges entities [] = []
-own_edges entities (e ∷ es) = numbers_of entities e.provides ∷ own_edges entities es
-
--- For each entity, those that its `is` list names. The built-in ones have none.
-abbrev pub edges_of : t.File → Edges
-edges_of file = replicate first_own [] ++ own_edges (entity_names file) file.entities

@@ -1,14 +1,11 @@
 -- What is reached along edges, each number once, in the order in which it is found.
 use Rattle.std.specs.Prelude.{ℕ, zero, suc, ◌+◌, Bool, true, false, List, [], ◌∷◌, ◌++◌, length, Option, Some, None, slice_get, nat_eq, if◌then◌else◌}
 use Rattle.pc_lists.specs.Places.{IsIn}
+use Rattle.pc_members.specs.Words.{or_nil}
 
 -- For each number, those to which an edge goes from it.
 abbrev pub Edges : Type 0
 Edges = List (List ℕ)
-
-abbrev pub or_nil : Option (List ℕ) → List ℕ
-or_nil None = []
-or_nil (Some l) = l
 
 abbrev pub next : Edges → ℕ → List ℕ
 next e a = or_nil (slice_get e a)

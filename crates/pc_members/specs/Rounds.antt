@@ -1,19 +1,18 @@
 -- As the code computes it: the members of a file's entities, first the methods of the traits and interfaces, each behind those that
 -- it names, and then the members of each entity from these.
+-- ---- the methods of traits and interfaces
 use Rattle.std.specs.Prelude.{◌≡◌, ◌⊎◌, ◌&&◌, ◌<◌, Bool, true, false, not, ℕ, ◌-◌, ◌+◌, List, [], ◌∷◌, ◌++◌, map, drop, length, Option, Some, None, slice_get, if◌then◌else◌}
 use Rattle.pc_tree.specs.declared.kinds.EntityKind.{EntityKind}
 use Rattle.pc_tree.specs.declared.names.Name.{Name}
 use Rattle.pc_tree.specs.Kinds.{is_abstract}
 use Rattle.pc_tree.specs.Tree as t
 use Rattle.pc_lists.specs.Texts.{Text}
-use Rattle.pc_members.specs.Words.{is_among, has_added}
+use Rattle.pc_members.specs.Words.{is_among, has_added, or_nil}
 use Rattle.pc_members.specs.Tables.{find_name, with_names}
 use Rattle.pc_members.specs.Chains.{Closes}
 use Rattle.pc_tree.specs.BuiltIn.{first_own}
-use Rattle.pc_members.specs.Reach.{or_nil}
-use Rattle.pc_members.specs.Members.{Member, member_text, written, added, without_body, is_takable, abstract_methods, own_texts, added_if}
-
--- ---- the methods of traits and interfaces
+use Rattle.pc_members.specs.Members.{Member, member_text, written, added, without_body, is_takable, own_texts, added_if, or_none}
+use Rattle.pc_members.specs.MemberLists.{abstract_methods}
 
 -- Of members of one name, the first. Those whose names are known are none of them.
 abbrev pub first_members : List Text → List Member → List Member
@@ -25,10 +24,6 @@ member_texts ms = map member_text ms
 
 -- The members of the entities of these names, where this is the list of all entities' names, those of the language first, and
 -- this the table of the methods of the file's traits and interfaces.
-abbrev pub or_none : Option (List Member) → List Member
-or_none None = []
-or_none (Some ms) = ms
-
 abbrev pub named_at : List (List Member) → Option ℕ → List Member
 named_at table None = []
 named_at table (Some n) = or_none (slice_get table (n - first_own))

@@ -1,5 +1,5 @@
 -- Names of a file, and what is written of types.
-use Rattle.std.specs.Prelude.{ℕ, Bool, true, false, List, [], ◌∷◌, ◌++◌, map, Option, position, codes, if◌then◌else◌}
+use Rattle.std.specs.Prelude.{ℕ, Bool, true, false, List, [], ◌∷◌, ◌++◌, map, Option, position, codes, if◌then◌else◌, Some, None}
 use Rattle.std.specs.List.{list_any}
 use Rattle.std.specs.Str.{bytes_eq}
 use Rattle.pc_lists.specs.Texts.{Text}
@@ -48,3 +48,8 @@ has_constructor e = list_any (λ (m : t.Method). is_new m.word) e.methods
 -- Where constructors may stand, in classes and actors, an entity without one has `create` added.
 abbrev pub has_added : t.Entity → Bool
 has_added e = if has_constructor e then false else may_stand e.kind word.New
+
+-- The numbers that a list of lists has at a place: none, if it does not have the place.
+abbrev pub or_nil : Option (List ℕ) → List ℕ
+or_nil None = []
+or_nil (Some l) = l

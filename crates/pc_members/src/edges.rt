@@ -2,8 +2,7 @@
 ghost use Rattle.std.specs.Prelude.{◌≡◌, ◌++◌, [], map, replicate, IfOk, OnOk};
 ghost use Rattle.pc_tree.specs.BuiltIn.{first_own};
 ghost use Rattle.pc_tree.specs.View.{entity_view, file_view};
-ghost use Rattle.pc_tree.specs.BuiltIn.{first_own};
-ghost use Rattle.pc_members.specs.Chains as spec;
+ghost use Rattle.pc_members.specs.Edges as spec;
 ghost use Rattle.pc_members.specs.Words.{entity_names};
 
 use crate::table::NameTable;

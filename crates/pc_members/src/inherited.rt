@@ -1,9 +1,11 @@
 //! The members of each entity of a file, with what it takes over.
 ghost use Rattle.std.specs.Prelude.{◌≡◌, ◌≤◌, ◌++◌, map, drop, length, slice_get, IfOk, OnOk};
 ghost use Rattle.pc_tree.specs.View.{entity_view, file_view};
-ghost use Rattle.pc_members.specs.Chains.{Closes, IsFounded};
+ghost use Rattle.pc_members.specs.Chains.{Closes};
+ghost use Rattle.pc_members.specs.Founded.{IsFounded};
 ghost use Rattle.pc_tree.specs.BuiltIn.{first_own};
-ghost use Rattle.pc_members.specs.Members.{members};
+ghost use Rattle.pc_members.specs.MemberLists.{members};
+ghost use Rattle.pc_members.specs.Members.{or_none};
 ghost use Rattle.pc_members.specs.Tables.{find_name};
 ghost use Rattle.pc_members.specs.Words.{entity_names};
 ghost use Rattle.pc_members.specs.Rounds as spec;
@@ -124,7 +126,7 @@ fn abstract_members<'a>(
     table: &[List<Member<'a>>],
     place: usize,
 ) -> Result<List<Member<'a>>, AllocError>
-    ensures { IfOk result (λ l. members_view l ≡ map spec.bodiless (spec.or_none (slice_get (table_view table.now) place))) }
+    ensures { IfOk result (λ l. members_view l ≡ map spec.bodiless (or_none (slice_get (table_view table.now) place))) }
 {
     match table.get(place) {
         Some(members) => without_bodies(alloc, members.as_slice()),

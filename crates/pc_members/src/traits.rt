@@ -2,8 +2,8 @@
 ghost use Rattle.std.specs.Prelude.{◌≡◌, ◌++◌, ◌+◌, [], map, length, IfOk, OnOk};
 ghost use Rattle.std.specs.Option.{option_copied};
 ghost use Rattle.pc_tree.specs.View.{entity_view, file_view};
-ghost use Rattle.pc_members.specs.Chains.{IsFounded};
-ghost use Rattle.pc_members.specs.Members.{written};
+ghost use Rattle.pc_members.specs.Founded.{IsFounded};
+ghost use Rattle.pc_members.specs.Members.{or_none, written};
 ghost use Rattle.pc_members.specs.Tables.{find_name, with_names};
 ghost use Rattle.pc_members.specs.Words.{entity_names};
 ghost use Rattle.pc_members.specs.Rounds as spec;
@@ -39,7 +39,7 @@ pub(crate) fn named_at<'t, 'a>(
     table: &'t [List<Member<'a>>],
     name: &Name,
 ) -> Option<&'t List<Member<'a>>>
-    ensures { spec.or_none (maybe_members (option_copied result)) ≡ spec.named_at (table_view table.now) (find_name entities.now name.now.text) }
+    ensures { or_none (maybe_members (option_copied result)) ≡ spec.named_at (table_view table.now) (find_name entities.now name.now.text) }
 {
     let number = entities.find(name.text.as_slice())?;
     table.get((number as usize).saturating_sub(FIRST_OWN as usize))

@@ -17,14 +17,15 @@ use Rattle.pc_names.specs.declared.fault.Which.TheVariants as which
 use Rattle.pc_members.specs.Words.{built_in_names, entity_names}
 use Rattle.pc_names.specs.Faults.{where_, entity_name_faults, declaration_faults}
 use Rattle.pc_members.specs.Reach.{above_all, has}
-use Rattle.pc_members.specs.Chains.{Closes, edges_of}
+use Rattle.pc_members.specs.Chains.{Closes}
+use Rattle.pc_members.specs.Edges.{edges_of}
 use Rattle.pc_tree.specs.BuiltIn.{first_own}
 use Rattle.pc_names.specs.Cycles.{cycle_faults}
 use Rattle.pc_names.specs.Counts.{count_faults}
 use Rattle.pc_names.specs.Mains.{main_faults}
 use Rattle.pc_names.specs.Texts.{other_texts}
-use Rattle.pc_names.specs.Names.{NamesData, Collected, name_faults, above_faults}
-use Rattle.pc_names.specs.Laws.{OfFile, fault_start}
+use Rattle.pc_names.specs.Names.{NamesData, Collected, name_faults, above_faults, OfFile}
+use Rattle.pc_names.specs.Laws.{fault_start}
 use Rattle.pc_names.proofs.Ones.{first_is}
 use Rattle.pc_members.proofs.Closings.{closes}
 use Rattle.pc_names.proofs.OtherTexts.{other_texts_differ}

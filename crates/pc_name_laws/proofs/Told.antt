@@ -19,7 +19,8 @@ use Rattle.pc_tree.specs.BuiltIn.{first_own}
 use Rattle.pc_names.specs.Cycles.{cycle_faults}
 use Rattle.pc_names.specs.Counts.{count_faults}
 use Rattle.pc_names.specs.Mains.{main_faults}
-use Rattle.pc_names.specs.Laws.{OfFile, fault_start, places}
+use Rattle.pc_names.specs.Laws.{fault_start, places}
+use Rattle.pc_names.specs.Names.{OfFile}
 use Rattle.pc_names.proofs.CycleFirsts.{cycle_is_first, no_cycle}
 use Rattle.pc_members.proofs.Closings.{no_entity}
 use Rattle.pc_text_order.proofs.Declarations.{declarations_ascend}

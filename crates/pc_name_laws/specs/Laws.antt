@@ -15,8 +15,7 @@ use Rattle.pc_members.specs.Tables.{trait_names}
 use Rattle.pc_names.specs.Faults.{entity_name_faults, entity_faults}
 use Rattle.pc_names.specs.Counts.{count_faults}
 use Rattle.pc_names.specs.Mains.{main_faults}
-use Rattle.pc_names.specs.Names.{IsNameFault}
-use Rattle.pc_names.specs.Laws.{OfFile}
+use Rattle.pc_names.specs.Names.{IsNameFault, OfFile}
 use Rattle.pc_body_spec.specs.Scopes.{Context}
 use Rattle.pc_body_spec.specs.Faults.{Fault, body_faults, initial_faults}
 use Rattle.pc_members.specs.Members.{written, added}

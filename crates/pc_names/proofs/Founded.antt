@@ -15,7 +15,8 @@ use Rattle.pc_names.specs.declared.fault.Which.TheVariants as which
 use Rattle.pc_lists.specs.Texts.{Text}
 use Rattle.pc_members.specs.Words.{is_among, built_in_names, texts_of, entity_names}
 use Rattle.pc_members.specs.Tables.{trait_names}
-use Rattle.pc_members.specs.Chains.{Closes, IsFounded}
+use Rattle.pc_members.specs.Chains.{Closes}
+use Rattle.pc_members.specs.Founded.{IsFounded}
 use Rattle.pc_tree.specs.BuiltIn.{first_own}
 use Rattle.pc_members.proofs.Differences.{differ_push, among_has}
 use Rattle.pc_names.specs.Faults.{where_, either, provided_faults, added_faults, entity_faults, entities_faults, entity_name_faults, declaration_faults, known_limit}

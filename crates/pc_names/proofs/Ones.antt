@@ -8,8 +8,8 @@ use Rattle.pc_names.specs.declared.fault.NameFault.{NameFault}
 use Rattle.pc_names.specs.declared.fault.NameFault.TheVariants as fault
 use Rattle.pc_names.specs.Faults.{IsFirst}
 use Rattle.pc_members.specs.Chains.{IsAbove}
-use Rattle.pc_names.specs.Names.{name_faults}
-use Rattle.pc_names.specs.Laws.{OfFile, OneClosing, OneFault, NotBoth}
+use Rattle.pc_names.specs.Names.{name_faults, OfFile}
+use Rattle.pc_names.specs.Laws.{OneClosing, OneFault, NotBoth}
 
 -- ---- ascending lists
 

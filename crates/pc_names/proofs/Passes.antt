@@ -9,7 +9,8 @@ use Rattle.pc_names.specs.declared.fault.NameFault.TheVariants as fault
 use Rattle.pc_members.specs.Words.{built_in_names, entity_names}
 use Rattle.pc_names.specs.Faults.{IsFirst, entity_name_faults, declaration_faults}
 use Rattle.pc_members.specs.Reach.{above_all}
-use Rattle.pc_members.specs.Chains.{edges_of, Closes}
+use Rattle.pc_members.specs.Chains.{Closes}
+use Rattle.pc_members.specs.Edges.{edges_of}
 use Rattle.pc_tree.specs.BuiltIn.{first_own}
 use Rattle.pc_lists.specs.Places.{Differ}
 use Rattle.pc_names.specs.Texts.{other_texts}

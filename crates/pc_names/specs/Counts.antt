@@ -2,7 +2,7 @@
 use Rattle.std.specs.Prelude.{ℕ, ◌+◌, List, [], ◌∷◌, ◌++◌, length, nat_lt}
 use Rattle.pc_caps.specs.Limits.{method_limit}
 use Rattle.pc_tree.specs.Tree as t
-use Rattle.pc_members.specs.Members.{members}
+use Rattle.pc_members.specs.MemberLists.{members}
 use Rattle.pc_names.specs.declared.fault.NameFault.{NameFault}
 use Rattle.pc_names.specs.declared.fault.NameFault.TheVariants as fault
 use Rattle.pc_names.specs.declared.fault.Which.TheVariants as which

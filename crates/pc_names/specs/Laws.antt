@@ -12,11 +12,7 @@ use Rattle.pc_names.specs.Faults.{IsFirst, entity_faults}
 use Rattle.pc_members.specs.Chains.{Closes, InCycle, entity_at}
 use Rattle.pc_tree.specs.BuiltIn.{first_own}
 use Rattle.pc_names.specs.Cycles.{cycle_faults}
-use Rattle.pc_names.specs.Names.{NamesData, Collected, IsNameFault}
-
--- A fault other than the want of memory.
-abbrev pub OfFile : NameFault → Type 0
-OfFile f = f ≡ fault.Memory → ⊥
+use Rattle.pc_names.specs.Names.{NamesData, Collected, IsNameFault, OfFile}
 
 -- A file has one list above each of its entities.
 abbrev pub OneClosing : Type 0

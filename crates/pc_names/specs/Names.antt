@@ -11,6 +11,7 @@ use Rattle.pc_tree.specs.BuiltIn.{first_own}
 use Rattle.pc_names.specs.Cycles.{cycle_faults}
 use Rattle.pc_names.specs.Counts.{count_faults}
 use Rattle.pc_names.specs.Mains.{main_faults}
+use Rattle.pc_names.specs.declared.fault.NameFault.TheVariants as fault
 
 -- The names of the entities in the order of their numbers, the other texts, and for each entity those above it.
 pub record NamesData : Type 0 where
@@ -39,3 +40,7 @@ pub record Collected (file : t.File) (names : NamesData) : Type 0 where
 -- The first fault of the file's names.
 abbrev pub IsNameFault : t.File → NameFault → Type 0
 IsNameFault file f = (above : List (List ℕ)) × Closes file above × IsFirst f (name_faults file above)
+
+-- A fault other than running out of memory.
+abbrev pub OfFile : NameFault → Type 0
+OfFile f = f ≡ fault.Memory → ⊥

@@ -1,7 +1,9 @@
 //! The names of a file, or the first thing that is wrong with them.
 ghost use Rattle.std.specs.Prelude.{◌≡◌, ◌+◌, ◌<◌, ◌^◌, [], drop, length, IfOk, IfErr};
 ghost use Rattle.pc_tree.specs.View.{file_view};
-ghost use Rattle.pc_members.specs.Chains.{edges_of, Closes, IsFounded};
+ghost use Rattle.pc_members.specs.Chains.{Closes};
+ghost use Rattle.pc_members.specs.Founded.{IsFounded};
+ghost use Rattle.pc_members.specs.Edges.{edges_of};
 ghost use Rattle.pc_tree.specs.BuiltIn.{first_own};
 ghost use Rattle.pc_names.specs.Cycles.{cycle_faults};
 ghost use Rattle.pc_names.specs.Faults.{Tells, declaration_faults, entity_name_faults};

@@ -6,7 +6,7 @@ use Rattle.pc_lex.specs.declared.fault.LexFault.TheVariants as fault
 use Rattle.pc_deriv.specs.Faults.{IsFault}
 use Rattle.pc_deriv.specs.declared.fault.DerivFault.{DerivFault}
 use Rattle.pc_deriv.specs.declared.fault.DerivFault.TheVariants as deriv
-use Rattle.pc_names.specs.Laws.{OfFile}
+use Rattle.pc_names.specs.Names.{OfFile}
 use Rattle.pc_names.specs.declared.fault.NameFault.{NameFault}
 use Rattle.pc_names.specs.declared.fault.NameFault.TheVariants as names
 use Rattle.pc_lists.specs.Texts.{Text}

@@ -5,7 +5,7 @@ use Rattle.pc_ann.specs.declared.annotation.Ann.{Ann}
 use Rattle.pc_rules.specs.Valid.{Valid}
 use Rattle.pc_deriv.specs.Faults.{IsText}
 use Rattle.pc_referee.specs.Asked.{Pairs}
-use Rattle.pc_feed.specs.Asked.{numbered}
+use Rattle.pc_feed.specs.Numbered.{numbered}
 use Rattle.pc_lists.specs.Texts.{Text}
 
 -- Its list, where it is told, grew by each node with its note, in order.

@@ -7,8 +7,7 @@ use Rattle.pc_lex.specs.Answers.{TokenList}
 use Rattle.pc_lex.specs.Pieces.{FirstFault}
 use Rattle.pc_lex.specs.declared.fault.LexFault.{LexFault}
 use Rattle.pc_core.specs.CoreData.{CoreData}
-use Rattle.pc_names.specs.Laws.{OfFile}
-use Rattle.pc_names.specs.Names.{IsNameFault}
+use Rattle.pc_names.specs.Names.{OfFile, IsNameFault}
 use Rattle.pc_names.specs.declared.fault.NameFault.{NameFault}
 use Rattle.pc_file_spec.specs.Cores.{Stands, IsElabFault}
 use Rattle.pc_refusals.specs.After.{After}

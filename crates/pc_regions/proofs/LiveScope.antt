@@ -14,7 +14,8 @@ use Rattle.pc_core.specs.declared.nodes.NodeKind.TheVariants as node
 use Rattle.pc_core.specs.CoreData.{CoreData}
 use Rattle.pc_lists.specs.Places.{Each}
 use Rattle.pc_core.specs.Lookup.{own_slots}
-use Rattle.pc_core.specs.Methods.{LocalFits, SlotsFit, Uses, this_slot, param_slot}
+use Rattle.pc_core.specs.Methods.{LocalFits, SlotsFit, Uses}
+use Rattle.pc_core.specs.MethodKinds.{this_slot, param_slot}
 use Rattle.pc_core.specs.Nodes.{NamesFit, NamesLocal, NamesSlot, inner_depth}
 use Rattle.pc_masks.specs.declared.mask.Mask.{Mask}
 use Rattle.pc_ann.specs.declared.annotation.Note.{Note}

@@ -15,7 +15,8 @@ use Rattle.pc_core.specs.Formed.{Formed}
 use Rattle.pc_lists.proofs.Gets.{append_get, map_get, range_get}
 use Rattle.pc_core.specs.Lookup.{own_slots}
 use Rattle.pc_lists.proofs.Options.{bind_some, kept}
-use Rattle.pc_core.specs.Methods.{LocalFits, SlotsFit, is_local, this_slot, param_slot}
+use Rattle.pc_core.specs.Methods.{LocalFits, SlotsFit, is_local}
+use Rattle.pc_core.specs.MethodKinds.{this_slot, param_slot}
 use Rattle.pc_core.specs.Nodes.{NamesFit, NamesLocal}
 use Rattle.pc_ann.specs.declared.annotation.Note.{Note}
 use Rattle.pc_ann.specs.declared.annotation.Ann.{Ann}

@@ -15,7 +15,8 @@ use Rattle.pc_core.specs.declared.nodes.NodeKind.TheVariants as node
 use Rattle.pc_core.specs.CoreData.{CoreData}
 use Rattle.pc_lists.specs.Places.{Each}
 use Rattle.pc_core.specs.Lookup.{node_end}
-use Rattle.pc_core.specs.Methods.{LocalFits, BodyFits, Uses, this_slot}
+use Rattle.pc_core.specs.Methods.{LocalFits, BodyFits, Uses}
+use Rattle.pc_core.specs.MethodKinds.{this_slot}
 use Rattle.pc_core.specs.Nodes.{NamesSlot, NamesFit}
 use Rattle.pc_core.specs.Formed.{Formed}
 use Rattle.pc_lists.proofs.Ranges.{run_within}

@@ -21,9 +21,11 @@ use Rattle.pc_semantics.specs.Around.{Move, Stuck, Overflows, Goes, Writes, Make
 use Rattle.pc_semantics.specs.Tasks.{task_move}
 use Rattle.pc_semantics.specs.Step.{delivered, left, made, around, run_task, printed_text, begun, begin_method, take_first, run_frames, step_of, step}
 use Rattle.pc_semantics.specs.Runs.{followed, run_from, after}
-use Rattle.pc_sends.specs.Held.{running, HeldAt, HeldFrom}
+use Rattle.pc_sends.specs.Held.{HeldAt, HeldFrom}
+use Rattle.pc_sends.specs.Running.{running}
 use Rattle.pc_sends.specs.Reach.{Reach, first, next, Posts, Sends, MayWait}
-use Rattle.pc_sends.specs.Laws.{message_of, next_move, Covered, HeldCovers}
+use Rattle.pc_sends.specs.Laws.{message_of, next_move, Covered}
+use Rattle.pc_sends.specs.Covering.{HeldCovers}
 use Rattle.pc_sends.proofs.Homes.{body_in}
 use Rattle.pc_sends.proofs.Moves.{TasksIn, FrameOf, IsThere, Begun, MoveIn}
 use Rattle.pc_sends.proofs.Tasks.{CallNoted, task_in}

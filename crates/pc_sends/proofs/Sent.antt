@@ -11,15 +11,16 @@ use Rattle.pc_core.specs.declared.nodes.NodeKind.TheVariants as nodes
 use Rattle.pc_core.specs.CoreData.{CoreData}
 use Rattle.pc_core.specs.Formed.{Formed}
 use Rattle.pc_core.specs.Members.{methods_within, method_among}
-use Rattle.pc_core.specs.Nodes.{NamesFit, NamesMethod}
+use Rattle.pc_core.specs.Nodes.{NamesFit}
+use Rattle.pc_core.specs.Lookup.{NamesMethod}
 use Rattle.pc_lists.specs.Places.{Has}
 use Rattle.pc_lists.proofs.Bools.{false_true, no_both}
 use Rattle.pc_lists.proofs.Elements.{differ_none}
 use Rattle.pc_lists.proofs.Gets.{get_below, get_within, range_get}
 use Rattle.pc_sends.specs.Growth.{Grown, Turns, OfSome, Sorts}
 use Rattle.pc_sends.specs.Uses.{is_called, Aims, Uses}
-use Rattle.pc_sends.specs.Reach.{Reach, IsSent, Sends}
-use Rattle.pc_sends.specs.Reached.{is_message, IsMessage, ReachedUses, EntityUses, IsUsed, AreSent}
+use Rattle.pc_sends.specs.Reach.{Reach, IsSent, Sends, is_message}
+use Rattle.pc_sends.specs.Reached.{IsMessage, ReachedUses, EntityUses, IsUsed, AreSent}
 use Rattle.pc_sends.proofs.Grows.{grown_same}
 
 -- ---- what is used

@@ -1,5 +1,6 @@
 -- When entities that are noted at nodes tell the truth: over every list of actors, what is called is of the entity that is
 -- noted at the receiver's node.
+-- ---- the call that comes next
 use Rattle.std.specs.Prelude.{◌≡◌, ℕ, List, Option, Some, None, slice_get}
 use Rattle.pc_heap.specs.Objects.{ObjectMap}
 use Rattle.pc_heap.specs.declared.value.Value.{Value}
@@ -15,8 +16,7 @@ use Rattle.pc_semantics.specs.Around.{entity_of}
 use Rattle.pc_semantics.specs.Runs.{run_from, after}
 use Rattle.pc_sends.specs.Entities.{MayBe}
 use Rattle.pc_sends.specs.Uses.{last_of, noted_at}
-
--- ---- the call that comes next
+use Rattle.pc_sends.specs.Running.{running}
 
 abbrev pub invoked : Task → Option ℕ
 invoked (task.Invoke n) = Some n
@@ -38,12 +38,6 @@ call_in core tasks stack = do
 
 abbrev pub call_of : CoreData → Frame → Option (ℕ × Value)
 call_of core f = call_in core f.tasks f.stack
-
--- The frame of actor i that runs.
-abbrev pub running : Configuration → ℕ → Option Frame
-running c i = do
-  a ← slice_get c.actors i
-  slice_get a.frames 0
 
 -- ---- Held
 

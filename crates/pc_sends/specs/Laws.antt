@@ -3,7 +3,6 @@ use Rattle.std.specs.Prelude.{◌≡◌, ℕ, List, [], ◌∷◌, Option, Some,
 use Rattle.pc_core.specs.declared.declarations.Method.{Method}
 use Rattle.pc_core.specs.CoreData.{CoreData}
 use Rattle.pc_lists.specs.Places.{Each}
-use Rattle.pc_core.specs.Formed.{Formed}
 use Rattle.pc_semantics.specs.declared.frames.Frame.{Frame}
 use Rattle.pc_semantics.specs.declared.frames.Task.{Task}
 use Rattle.pc_semantics.specs.declared.mailbox.Message.{Message}
@@ -11,8 +10,7 @@ use Rattle.pc_semantics.specs.Configurations.{Configuration}
 use Rattle.pc_semantics.specs.Around.{Around, Move, Spawns, Sends as Sending}
 use Rattle.pc_semantics.specs.Tasks.{task_move}
 use Rattle.pc_semantics.specs.Step.{around}
-use Rattle.pc_semantics.specs.Runs.{after}
-use Rattle.pc_sends.specs.Held.{running, Held}
+use Rattle.pc_sends.specs.Running.{running}
 use Rattle.pc_sends.specs.Reach.{Reach, Sends, MayWait}
 
 -- The message of a move: that of a new actor's constructor, or that of a behaviour.
@@ -44,6 +42,3 @@ pub record Covered (core : CoreData) (ents : List (Option ℕ)) (c : Configurati
   pub messages : Each (λ i a. Each (λ k m. Reach core ents m.method) a.mailbox) c.actors
   -- what is about to be sent has the pair of the frame's entity and the message's method
   pub sends : (i : ℕ) (x : Method) (m : Message) → IsSending core c i x m → Sends core ents x.entity m.method
-
-abbrev pub HeldCovers : Type 0
-HeldCovers = (core : CoreData) (ents : List (Option ℕ)) → Formed core → Held core ents → (list : List ℕ) → Covered core ents (after core list)

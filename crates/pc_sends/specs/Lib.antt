@@ -1,7 +1,9 @@
 pub mod Entities
 pub mod Uses
+pub mod Running
 pub mod Held
 pub mod Reach
+pub mod Covering
 pub mod Laws
 pub mod Tables
 pub mod Growth

@@ -1,13 +1,14 @@
 -- Which methods may ever begin or be sent, and which entity's methods may send which message.
-use Rattle.std.specs.Prelude.{◌≡◌, ◌⊎◌, ℕ, List, Option, Some, slice_get}
+use Rattle.std.specs.Prelude.{◌≡◌, ◌⊎◌, ℕ, List, Option, Some, slice_get, Bool, true, false}
 use Rattle.pc_core.specs.declared.declarations.Method.{Method}
 use Rattle.pc_core.specs.declared.declarations.MethodKind.TheVariants as method
 use Rattle.pc_core.specs.declared.nodes.NodeKind.{NodeKind}
 use Rattle.pc_core.specs.declared.nodes.NodeKind.TheVariants as nodes
 use Rattle.pc_core.specs.CoreData.{CoreData}
-use Rattle.pc_core.specs.Nodes.{NamesMethod}
+use Rattle.pc_core.specs.Lookup.{NamesMethod}
 use Rattle.pc_semantics.specs.Configurations.{main_create}
 use Rattle.pc_sends.specs.Uses.{Uses}
+use Rattle.pc_core.specs.declared.declarations.MethodKind.{MethodKind}
 
 -- ---- Reach
 
@@ -40,3 +41,10 @@ pub record Sends (core : CoreData) (ents : List (Option ℕ)) (e t : ℕ) : Type
 -- What may wait in a mailbox: the message with which a program begins, or one that something sends.
 abbrev pub MayWait : CoreData → List (Option ℕ) → ℕ → Type 0
 MayWait core ents t = ((e : ℕ) × (main_create core ≡ Some (e, t))) ⊎ ((e : ℕ) × Sends core ents e t)
+
+-- Methods of these kinds are sent: behaviours and the constructors of actors.
+abbrev pub is_message : MethodKind → Bool
+is_message method.Fun = false
+is_message method.Be = true
+is_message method.New = false
+is_message method.Spawn = true

@@ -1,15 +1,13 @@
 -- What was found of the methods in Reach, and what is a message.
-use Rattle.std.specs.Prelude.{◌≡◌, ◌↔◌, ℕ, ◌<◌, Bool, true, false, List, Option, Some, slice_get}
+-- ---- Reach
+use Rattle.std.specs.Prelude.{◌≡◌, ◌↔◌, ℕ, ◌<◌, true, List, Option, Some, slice_get}
 use Rattle.pc_core.specs.declared.declarations.Method.{Method}
-use Rattle.pc_core.specs.declared.declarations.MethodKind.{MethodKind}
 use Rattle.pc_core.specs.declared.declarations.MethodKind.TheVariants as method
 use Rattle.pc_core.specs.CoreData.{CoreData}
 use Rattle.pc_lists.specs.Places.{Each, Has, Differ, Ascends}
 use Rattle.pc_semantics.specs.Configurations.{main_create}
 use Rattle.pc_sends.specs.Uses.{Uses}
-use Rattle.pc_sends.specs.Reach.{Reach, Sends}
-
--- ---- Reach
+use Rattle.pc_sends.specs.Reach.{Reach, Sends, is_message}
 
 -- All that was found is in Reach, and of it what the first k methods use was found as well.
 pub record Found (core : CoreData) (ents : List (Option ℕ)) (k : ℕ) (found : List ℕ) : Type 0 where
@@ -24,13 +22,6 @@ pub record IsReach (core : CoreData) (ents : List (Option ℕ)) (found : List �
   pub exact : (t : ℕ) → (Has found t) ↔ (Reach core ents t)
 
 -- ---- messages
-
--- Methods of these kinds are sent: behaviours and the constructors of actors.
-abbrev pub is_message : MethodKind → Bool
-is_message method.Fun = false
-is_message method.Be = true
-is_message method.New = false
-is_message method.Spawn = true
 
 abbrev pub IsMessage : CoreData → ℕ → Type 0
 IsMessage core t = (x : Method) × (slice_get core.methods t ≡ Some x) × (is_message x.kind ≡ true)

@@ -10,9 +10,8 @@ use Rattle.pc_semantics.specs.declared.mailbox.Message.{Message}
 use Rattle.pc_semantics.specs.Configurations.{Configuration, main_create}
 use Rattle.pc_sends.specs.declared.table.Row.{Row}
 use Rattle.pc_sends.specs.declared.table.Table.{Table}
-use Rattle.pc_sends.specs.Reach.{Reach, Sends}
+use Rattle.pc_sends.specs.Reach.{Reach, Sends, is_message}
 use Rattle.pc_sends.specs.Laws.{IsSending}
-use Rattle.pc_sends.specs.Reached.{is_message}
 
 -- ---- rows
 

@@ -1,6 +1,6 @@
 //! What is proved of every run from what is held of a core. Each call does nothing, and its contract is the law.
 ghost use Rattle.pc_sends.specs.Example as example;
-ghost use Rattle.pc_sends.specs.Laws as law;
+ghost use Rattle.pc_sends.specs.Covering as law;
 
 /// Where what is noted is held: over every list of actors each frame and each waiting message is of a method in Reach, and
 /// what is sent is among the pairs.

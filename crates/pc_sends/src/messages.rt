@@ -4,6 +4,7 @@ ghost use Rattle.pc_lists.specs.Places.{Differ, Has};
 ghost use Rattle.pc_sends.specs.Entities.{ListsMayBe};
 ghost use Rattle.pc_sends.specs.Growth.{Grown, OfSome, Turns};
 ghost use Rattle.pc_sends.specs.Uses.{Known};
+ghost use Rattle.pc_sends.specs.Reach.{is_message};
 ghost use Rattle.pc_sends.specs.Reached as spec;
 
 use crate::found::Found;
@@ -15,7 +16,7 @@ use std::alloc::{AllocError, Global};
 
 /// Whether methods of this kind are sent.
 pub(crate) fn is_message(kind: MethodKind) -> bool
-    ensures { result ≡ spec.is_message kind }
+    ensures { result ≡ is_message kind }
 {
     match kind {
         MethodKind::Be | MethodKind::Spawn => true,

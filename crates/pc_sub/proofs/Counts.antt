@@ -8,7 +8,8 @@ use Rattle.pc_core.specs.declared.declarations.Method.{Method}
 use Rattle.pc_core.specs.declared.nodes.Slot.{Slot}
 use Rattle.pc_core.specs.CoreData.{CoreData}
 use Rattle.pc_core.specs.Lookup.{own_slots}
-use Rattle.pc_core.specs.Methods.{SlotsFit, this_slot, param_slot}
+use Rattle.pc_core.specs.Methods.{SlotsFit}
+use Rattle.pc_core.specs.MethodKinds.{this_slot, param_slot}
 use Rattle.pc_core.specs.Formed.{Formed}
 
 -- The last parameter has a slot.

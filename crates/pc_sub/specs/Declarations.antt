@@ -1,5 +1,6 @@
 -- When the declarations of a core fit each other, and the first one that does not.
-use Rattle.std.specs.Prelude.{◌≡◌, ◌↔◌, ℕ, ◌+◌, Bool, true, false, List, [], ◌∷◌, ◌++◌, Option, None, slice_get, if◌then◌else◌}
+-- ---- what fits
+use Rattle.std.specs.Prelude.{◌≡◌, ℕ, ◌+◌, Bool, true, false, List, [], ◌∷◌, ◌++◌, Option, slice_get, if◌then◌else◌}
 use Rattle.pc_caps.specs.Tables.{sendable}
 use Rattle.pc_caps.specs.declared.capability.Form.{Form}
 use Rattle.pc_caps.specs.declared.capability.Form.TheVariants as form
@@ -9,13 +10,10 @@ use Rattle.pc_core.specs.declared.declarations.MethodKind.{MethodKind}
 use Rattle.pc_core.specs.declared.declarations.MethodKind.TheVariants as method
 use Rattle.pc_core.specs.declared.declarations.ParamInfo.{ParamInfo}
 use Rattle.pc_core.specs.CoreData.{CoreData}
-use Rattle.pc_core.specs.Formed.{Formed}
 use Rattle.pc_lists.specs.Places.{Each}
 use Rattle.pc_sub.specs.declared.faults.DeclFault.{DeclFault}
 use Rattle.pc_sub.specs.declared.faults.DeclFault.TheVariants as fault
 use Rattle.pc_sub.specs.Conforms.{Conforms, conform_faults}
-
--- ---- what fits
 
 -- The result of a class's constructor that its parameters must be sendable for.
 abbrev pub isolates : Form → Bool
@@ -79,7 +77,3 @@ declaration_faults core = parameter_faults 0 core.methods ++ entity_faults core 
 -- The first declaration that fails, or none.
 abbrev pub first_fault : CoreData → Option DeclFault
 first_fault core = slice_get (declaration_faults core) 0
-
--- In a core whose parts fit together, none fails exactly where the declarations fit.
-abbrev pub NoFaultWhereFit : Type 0
-NoFaultWhereFit = (core : CoreData) → Formed core → (first_fault core ≡ None) ↔ DeclOk core

@@ -24,6 +24,7 @@ use Rattle.pc_sub.specs.declared.faults.DeclFault.TheVariants as fault
 use Rattle.pc_sub.specs.Above.{is_chain_iff}
 use Rattle.pc_sub.specs.Conforms as conform
 use Rattle.pc_sub.specs.Declarations as spec
+use Rattle.pc_sub.specs.DeclarationLaws.{NoFaultWhereFit}
 
 -- ---- lists of faults
 
@@ -257,7 +258,7 @@ conform_all core n (y ∷ ys) f h =
 
 -- ---- all declarations
 
-pub fits_without_fault : spec.NoFaultWhereFit
+pub fits_without_fault : NoFaultWhereFit
 fits_without_fault core f = (
   λ c. let k = both (spec.parameter_faults 0 core.methods) (spec.entity_faults core 0 core.entities) c in
       record { sendable = takes_all 0 core.methods k.0; conform = λ e x g. let at : 0 + e ≡ e = omega arith in subst (λ n. Each (λ i b. conform.Conforms core n b) x.provides) at (all_conform core 0 core.entities f k.1 e x g) },

@@ -1,6 +1,7 @@
 pub mod Chain
 pub mod Conforms
 pub mod Sub
+pub mod DeclarationLaws
 pub mod Declarations
 pub mod Above
 pub mod Faults

@@ -1,5 +1,5 @@
 //! What is true of the declarations that fail. The call does nothing, and its contract is the law.
-ghost use Rattle.pc_sub.specs.Declarations as spec;
+ghost use Rattle.pc_sub.specs.DeclarationLaws as spec;
 
 /// In a core whose parts fit together, none fails exactly where the declarations fit.
 #[tactic(auto, using(crate::specs::Faults::fits_without_fault))]

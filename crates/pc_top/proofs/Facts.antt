@@ -5,8 +5,7 @@ use Rattle.pc_core.specs.CoreData.{CoreData}
 use Rattle.pc_elab.specs.Cores.{IsFirstFault, Spelled}
 use Rattle.pc_file_spec.specs.Cores.{IsElabFault}
 use Rattle.pc_grammar.specs.SpellsFile.{SpellsFile}
-use Rattle.pc_names.specs.Laws.{OfFile}
-use Rattle.pc_names.specs.Names.{IsNameFault}
+use Rattle.pc_names.specs.Names.{OfFile, IsNameFault}
 use Rattle.pc_names.specs.declared.fault.NameFault.{NameFault}
 use Rattle.pc_names.specs.declared.fault.NameFault.TheVariants as names
 use Rattle.pc_text_order.specs.Laws.{TokensAscend}

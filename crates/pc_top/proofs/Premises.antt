@@ -3,12 +3,12 @@ use Rattle.pc_choose.specs.Laws.{ListsAreOne}
 use Rattle.pc_check.specs.Laws.{NoneWithoutRule, NoneWithUnset, NoneWithFault, OneNode, OneConstructor, OneKindOfFault}
 use Rattle.pc_explain.specs.Laws.{AcceptedHasNone, ExplanationsAreOne}
 use Rattle.pc_deriv.specs.Laws.{OneAnnotation, NoFaultOfText, OneFault as OneTextFault}
-use Rattle.pc_judge.specs.Faults.{OneFirst, NotValid}
+use Rattle.pc_judge.specs.Laws.{OneFirst, NotValid}
 use Rattle.pc_outcome_laws.specs.Laws.{AnswersAreOne}
 use Rattle.pc_sched_lines.specs.Lines.{LinesAreOne}
 use Rattle.pc_rules.specs.Statements.{OneValid}
 use Rattle.pc_sched.specs.Laws.{OneList, NotBoth, OneFault}
-use Rattle.pc_sub.specs.Declarations.{NoFaultWhereFit}
+use Rattle.pc_sub.specs.DeclarationLaws.{NoFaultWhereFit}
 use Rattle.pc_swap.specs.Laws.{KeptAreNotApart}
 use Rattle.pc_refusals.proofs.OneSource.{SourceLaws}
 use Rattle.pc_top.specs.CoresFormed.{CoresAreFormed}

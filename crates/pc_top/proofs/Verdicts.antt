@@ -4,7 +4,7 @@ use Rattle.std.specs.Io.KnownBytes.{Appends}
 use Rattle.pc_lists.specs.Texts.{Text}
 use Rattle.pc_args.specs.Asked.{Asked, command_of}
 use Rattle.pc_io.specs.Change.{Change}
-use Rattle.pc_isolation.specs.Laws.{ValidIsIsolated, ValidIsPassedWhole}
+use Rattle.pc_isolation.specs.ValidLaws.{ValidIsIsolated, ValidIsPassedWhole}
 use Rattle.pc_regions.specs.Laws.{ValidIsSafe}
 use Rattle.pc_refusals.specs.Answer.{Answer}
 use Rattle.pc_refusals.specs.Answer.Answer.{told as answer_told, file as answer_file, out_failed, err_failed, file_err_failed, no_memory}
@@ -15,7 +15,8 @@ use Rattle.pc_top.specs.Asked.{Accepts, FailedIn, HasNoDerivation, HasNoDerivati
 use Rattle.pc_top.specs.Commands.{IsVerdictOf, OnOutOf, source_of}
 use Rattle.pc_top.specs.Commands.Make.{made_text}
 use Rattle.pc_top.specs.Commands.Sends.{TablesTell}
-use Rattle.pc_top.specs.CoreOf.{DerivableIsIsolated, DerivableIsSafe, IsDerivable}
+use Rattle.pc_top.specs.CoreOf.{DerivableIsSafe, IsDerivable}
+use Rattle.pc_top.specs.IsolatedCore.{DerivableIsIsolated}
 use Rattle.pc_top.specs.CoresFormed.{CoresAreFormed}
 use Rattle.pc_top.specs.Failures.{NoVerdictIsAFailure}
 use Rattle.pc_top.specs.OnOut.{OnOut, Swaps, Traces}

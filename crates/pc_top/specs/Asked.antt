@@ -7,7 +7,8 @@ use Rattle.pc_refusals.specs.Named.{Files}
 use Rattle.pc_refusals.specs.Verdict.{Verdict}
 use Rattle.pc_top.specs.Commands.{FailedOf, IsVerdictOf, infers, source_of}
 use Rattle.pc_top.specs.Commands.Make.{made_text}
-use Rattle.pc_top.specs.CoreOf.{IsDerivable, IsUnderivable, HasIsolatedCore, HasSafeCore}
+use Rattle.pc_top.specs.CoreOf.{IsDerivable, IsUnderivable, HasSafeCore}
+use Rattle.pc_top.specs.IsolatedCore.{HasIsolatedCore}
 
 -- The verdict on the words: a status, a text on out and a line on err.
 abbrev pub IsVerdict : Files → List Text → Verdict → Type 0

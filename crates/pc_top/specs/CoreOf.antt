@@ -4,7 +4,6 @@ use Rattle.pc_core.specs.CoreData.{CoreData}
 use Rattle.pc_grammar.specs.FileAnswers.{IsFileAnswer, spelled}
 use Rattle.pc_lex.specs.Answers.{TokenList}
 use Rattle.pc_core_relation.specs.Files.{IsCoreOf}
-use Rattle.pc_isolation.specs.Laws.{AlwaysIsolated, AlwaysPassedWhole}
 use Rattle.pc_rules.specs.Valid.{Derivable}
 use Rattle.pc_semantics.specs.Safety.{Safe}
 use Rattle.pc_token.specs.declared.kinds.Token.{Token}
@@ -39,13 +38,3 @@ HasSafeCore bytes = (core : CoreData) × CoreOf bytes core × Safe core
 -- A source whose core has a derivation is safe.
 abbrev pub DerivableIsSafe : Type 0
 DerivableIsSafe = (bytes : List ℕ) → IsDerivable bytes → HasSafeCore bytes
-
--- The source has a core, and after every list of actors, of every length, what waits in messages is isolated in depth: not only
--- the arguments themselves, but what fields lead to from them. And what a message brings stays as it is until it is taken, and is
--- then handed over as a whole.
-abbrev pub HasIsolatedCore : List ℕ → Type 0
-HasIsolatedCore bytes = (core : CoreData) × CoreOf bytes core × AlwaysIsolated core × AlwaysPassedWhole core
-
--- In a source whose core has a derivation it is.
-abbrev pub DerivableIsIsolated : Type 0
-DerivableIsIsolated = (bytes : List ℕ) → IsDerivable bytes → HasIsolatedCore bytes

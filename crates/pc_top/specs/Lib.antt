@@ -1,5 +1,6 @@
 pub mod Asked
 pub mod Commands
+pub mod IsolatedCore
 pub mod CoreOf
 pub mod CoresFormed
 pub mod Exact

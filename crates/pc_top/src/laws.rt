@@ -1,6 +1,7 @@
 //! What is proved of the verdict. Each call does nothing, and its contract is the law.
 ghost use Rattle.pc_top.specs.Asked.{RefusedIsUnderivable};
-ghost use Rattle.pc_top.specs.CoreOf.{DerivableIsIsolated, DerivableIsSafe};
+ghost use Rattle.pc_top.specs.CoreOf.{DerivableIsSafe};
+ghost use Rattle.pc_top.specs.IsolatedCore.{DerivableIsIsolated};
 ghost use Rattle.pc_top.specs.CoresFormed.{CoresAreFormed};
 ghost use Rattle.pc_top.specs.Exact.{JudgedAreExact, StatusesAreExact};
 ghost use Rattle.pc_top.specs.Failures.{FailuresAreTold, NoVerdictIsAFailure};

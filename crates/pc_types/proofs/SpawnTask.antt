@@ -18,7 +18,8 @@ use Rattle.pc_core.specs.declared.nodes.NodeKind.{NodeKind}
 use Rattle.pc_core.specs.declared.nodes.NodeKind.TheVariants as nodes
 use Rattle.pc_core.specs.CoreData.{CoreData}
 use Rattle.pc_tree.specs.Kinds.{may_have_fields}
-use Rattle.pc_core.specs.Nodes.{NamesFit, NamesMethod}
+use Rattle.pc_core.specs.Nodes.{NamesFit}
+use Rattle.pc_core.specs.Lookup.{NamesMethod}
 use Rattle.pc_ann.specs.declared.annotation.Note.{Note}
 use Rattle.pc_ann.specs.declared.annotation.Ann.{Ann}
 use Rattle.pc_semantics.specs.declared.frames.Frame.{Frame}

@@ -15,9 +15,8 @@ use Rattle.pc_members.specs.Tables.{trait_names}
 use Rattle.pc_names.specs.Counts.{count_faults, method_count}
 use Rattle.pc_names.specs.Cycles.{cycle_faults}
 use Rattle.pc_names.specs.Faults as spec
-use Rattle.pc_names.specs.Laws.{OfFile}
+use Rattle.pc_names.specs.Names.{OfFile, name_faults}
 use Rattle.pc_names.specs.Mains.{is_main, main_faults}
-use Rattle.pc_names.specs.Names.{name_faults}
 use Rattle.pc_names.specs.declared.fault.NameFault.{NameFault}
 use Rattle.pc_names.specs.declared.fault.NameFault.TheVariants as fault
 use Rattle.pc_tree.specs.BuiltIn.{first_own}

@@ -6,7 +6,8 @@ use Rattle.pc_lists.proofs.Gets.{get_below}
 use Rattle.pc_lists.specs.Places.{Has, IsIn}
 use Rattle.pc_members.proofs.Reached.{Within, led_listed, listed_led}
 use Rattle.pc_members.proofs.Reaches.{get_in, in_get}
-use Rattle.pc_members.specs.Reach.{Chain, Edges, ascending, link, links, next as after, or_nil, reached}
+use Rattle.pc_members.specs.Reach.{Chain, Edges, ascending, link, links, next as after, reached}
+use Rattle.pc_members.specs.Words.{or_nil}
 use Rattle.pc_sends.proofs.Filtered.{Filtered}
 use Rattle.pc_verdicts.proofs.Deciding.{filtered, has_told, turned}
 use Rattle.pc_verdicts.proofs.Same.{Told}

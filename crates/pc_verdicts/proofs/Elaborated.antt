@@ -13,7 +13,7 @@ use Rattle.pc_lex.specs.Limits.{token_limit}
 use Rattle.pc_lists.proofs.Elements.{differ_none}
 use Rattle.pc_lists.specs.Texts.{Text}
 use Rattle.pc_members.proofs.Closings.{closes}
-use Rattle.pc_members.specs.Chains.{edges_of}
+use Rattle.pc_members.specs.Edges.{edges_of}
 use Rattle.pc_members.specs.Reach.{above_all}
 use Rattle.pc_members.specs.Words.{entity_names}
 use Rattle.pc_names.specs.Faults.{IsFirst}

@@ -17,7 +17,8 @@ use Rattle.pc_check.specs.Inference.{first_note, first_types, inferred_slot, not
 use Rattle.pc_core.specs.CoreData.{CoreData}
 use Rattle.pc_core.specs.Formed.{Formed}
 use Rattle.pc_core.specs.Lookup.{field_named}
-use Rattle.pc_core.specs.Methods.{SlotsFit, param_slot, this_slot}
+use Rattle.pc_core.specs.Methods.{SlotsFit}
+use Rattle.pc_core.specs.MethodKinds.{param_slot, this_slot}
 use Rattle.pc_core.specs.Nodes.{NamesFit}
 use Rattle.pc_core.specs.declared.declarations.EntityDef.{EntityDef}
 use Rattle.pc_core.specs.declared.declarations.FieldInfo.{FieldInfo}

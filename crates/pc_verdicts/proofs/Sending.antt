@@ -21,9 +21,9 @@ use Rattle.pc_sends.proofs.Homes.{method_there}
 use Rattle.pc_sends.proofs.Tabled.{RowsTo, rows_all, rows_next, rows_none}
 use Rattle.pc_sends.proofs.There.{reach_below}
 use Rattle.pc_sends.specs.Entities.{IsOne, MayBe}
-use Rattle.pc_sends.specs.Reach.{IsSent, Posts, Reach, Sends}
+use Rattle.pc_sends.specs.Reach.{IsSent, Posts, Reach, Sends, is_message}
 use Rattle.pc_sends.specs.Reach.Reach.{first as begins, next as goes_on}
-use Rattle.pc_sends.specs.Reached.{AreSent, is_message}
+use Rattle.pc_sends.specs.Reached.{AreSent}
 use Rattle.pc_sends.specs.Tables.{IsLater, IsNever, IsOfActor, IsOwnActor, IsTable, row}
 use Rattle.pc_sends.specs.Uses.{Aims, MayCall, Uses, is_called, noted_receiver}
 use Rattle.pc_sends.specs.declared.table.Row.{Row}

@@ -5,7 +5,7 @@ use Rattle.std.specs.Io.KnownBytes.{Appends}
 use Rattle.pc_lists.specs.Texts.{Text}
 use Rattle.pc_args.specs.Asked.{explain, make}
 use Rattle.pc_io.specs.Change.{Change}
-use Rattle.pc_names.specs.Laws.{OfFile}
+use Rattle.pc_names.specs.Names.{OfFile}
 use Rattle.pc_names.specs.declared.fault.NameFault.{NameFault}
 use Rattle.pc_names.specs.declared.fault.NameFault.TheVariants as fault
 use Rattle.pc_tree.specs.Tree as t

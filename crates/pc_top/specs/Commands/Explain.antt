@@ -10,8 +10,7 @@ use Rattle.pc_grammar.specs.FileAnswers.{IsFileAnswer, spelled}
 use Rattle.pc_io.specs.Change.{Change}
 use Rattle.pc_lex.specs.Answers.{TokenList}
 use Rattle.pc_lists.specs.Texts.{Text}
-use Rattle.pc_names.specs.Laws.{OfFile}
-use Rattle.pc_names.specs.Names.{IsNameFault}
+use Rattle.pc_names.specs.Names.{OfFile, IsNameFault}
 use Rattle.pc_names.specs.declared.fault.NameFault.{NameFault}
 use Rattle.pc_names.specs.declared.fault.NameFault.TheVariants as fault
 use Rattle.pc_refusals.specs.FromFile.{FromFile}

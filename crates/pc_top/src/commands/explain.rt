@@ -5,7 +5,7 @@ ghost use Rattle.pc_elab.specs.Cores.{Spelled};
 ghost use Rattle.pc_lex.specs.Answers.{TokenList};
 ghost use Rattle.pc_lex.specs.Limits.{bytes_limit};
 ghost use Rattle.pc_lists.specs.Texts.{Text};
-ghost use Rattle.pc_names.specs.Laws.{OfFile};
+ghost use Rattle.pc_names.specs.Names.{OfFile};
 ghost use Rattle.pc_refusals.specs.Inner.Answering.{AnswersText};
 ghost use Rattle.pc_refusals.specs.Inner.Stages.{StageEnds};
 ghost use Rattle.pc_refusals.specs.Named.{FailedAt, files_change, named, whole};

@@ -1,7 +1,8 @@
 use Rattle.std.proofs.Common.{◌<◌, refl, arith}
 use Rattle.std.specs.Prelude.{◌≡◌, ◌^◌, codes, decimal}
 use Rattle.pc_args.specs.Asked.{schedule_of}
-use Rattle.pc_top.specs.CoreOf.{HasIsolatedCore, HasSafeCore, IsDerivable}
+use Rattle.pc_top.specs.CoreOf.{HasSafeCore, IsDerivable}
+use Rattle.pc_top.specs.IsolatedCore.{HasIsolatedCore}
 use Rattle.pc_buffers.specs.declared.beside.Beside.TheVariants.{Nothing}
 use Rattle.pc_call.proofs.Asked.{answers_as}
 use Rattle.pc_call.proofs.Commands.{schedule_asks, scheduled}

@@ -1,7 +1,8 @@
 use Rattle.std.proofs.Common.{refl}
 use Rattle.std.specs.Prelude.{codes}
 use Rattle.pc_args.specs.Asked.{judge}
-use Rattle.pc_top.specs.CoreOf.{HasIsolatedCore, HasSafeCore, IsDerivable}
+use Rattle.pc_top.specs.CoreOf.{HasSafeCore, IsDerivable}
+use Rattle.pc_top.specs.IsolatedCore.{HasIsolatedCore}
 use Rattle.pc_buffers.specs.declared.beside.Beside.TheVariants.{Derivation}
 use Rattle.pc_call.proofs.Asked.{answers_as}
 use Rattle.pc_call.proofs.Commands.{judge_asks, judged}

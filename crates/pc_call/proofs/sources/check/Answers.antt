@@ -1,7 +1,8 @@
 use Rattle.std.proofs.Common.{refl}
 use Rattle.std.specs.Prelude.{codes}
 use Rattle.pc_args.specs.Asked.{check}
-use Rattle.pc_top.specs.CoreOf.{HasIsolatedCore, HasSafeCore}
+use Rattle.pc_top.specs.CoreOf.{HasSafeCore}
+use Rattle.pc_top.specs.IsolatedCore.{HasIsolatedCore}
 use Rattle.pc_buffers.specs.declared.beside.Beside.TheVariants.{Nothing}
 use Rattle.pc_call.proofs.Asked.{answers_as}
 use Rattle.pc_call.proofs.Commands.{check_asks, checked}

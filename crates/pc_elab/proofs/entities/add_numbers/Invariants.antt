@@ -1,5 +1,5 @@
 use Rattle.std.proofs.Common.{◌≡◌, ◌++◌, drop}
-use Rattle.pc_members.specs.Chains.{numbers_of}
+use Rattle.pc_members.specs.Edges.{numbers_of}
 use Rattle.pc_elab.proofs.entities.add_numbers.Given as goal
 
 abbrev pub invariant-loop-name : goal.invariant-loop-name

@@ -1,6 +1,6 @@
 use Rattle.std.proofs.Common.{◌≡◌, ◌++◌, map, drop}
 use Rattle.pc_tree.specs.View.{entity_view}
-use Rattle.pc_members.specs.Chains.{own_edges}
+use Rattle.pc_members.specs.Edges.{own_edges}
 use Rattle.pc_members.proofs.edges.add_edges.Given as goal
 
 abbrev pub invariant-loop-entity : goal.invariant-loop-entity

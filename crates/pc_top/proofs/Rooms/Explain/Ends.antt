@@ -5,7 +5,7 @@ use Rattle.pc_elab.specs.Cores.{IsFirstFault}
 use Rattle.pc_explain_names.specs.Names.{names_text}
 use Rattle.pc_lex.specs.Answers.{TokenList}
 use Rattle.pc_lists.specs.Texts.{Text}
-use Rattle.pc_names.specs.Laws.{OfFile}
+use Rattle.pc_names.specs.Names.{OfFile}
 use Rattle.pc_names.specs.declared.fault.NameFault.{NameFault}
 use Rattle.pc_names.specs.declared.fault.NameFault.TheVariants as fault
 use Rattle.pc_token.specs.declared.kinds.Token.{Token}

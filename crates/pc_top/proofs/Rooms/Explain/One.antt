@@ -7,7 +7,7 @@ use Rattle.pc_core_relation.specs.Files.{IsCoreOf}
 use Rattle.pc_core_relation.proofs.Ones.{standing_cores_are_made, standing_cores_are_one}
 use Rattle.pc_lex.specs.Answers.{TokenList}
 use Rattle.pc_lists.specs.Texts.{Text}
-use Rattle.pc_names.specs.Laws.{OfFile}
+use Rattle.pc_names.specs.Names.{OfFile}
 use Rattle.pc_names.specs.declared.fault.NameFault.{NameFault}
 use Rattle.pc_token.specs.declared.kinds.Token.{Token}
 use Rattle.pc_tree.specs.Tree as t

@@ -11,7 +11,7 @@ use Rattle.pc_noted_receivers.specs.Laws.{AcceptedHeld}
 use Rattle.pc_noted_receivers.specs.Noted.{entities, noted_in}
 use Rattle.pc_rules.specs.Valid.{Valid}
 use Rattle.pc_semantics.specs.Runs.{after}
-use Rattle.pc_sends.specs.Laws.{HeldCovers}
+use Rattle.pc_sends.specs.Covering.{HeldCovers}
 use Rattle.pc_sends.specs.Reach.{Sends, next}
 use Rattle.pc_sends.specs.Tables.{IsTable}
 use Rattle.pc_sends.specs.declared.table.Table.{Table}

@@ -1,0 +1,9 @@
+-- Notes with the numbers of their nodes, as a referee is asked of them.
+use Rattle.std.specs.Prelude.{ℕ, ◌+◌, List, [], ◌∷◌}
+use Rattle.pc_ann.specs.declared.annotation.Note.{Note}
+use Rattle.pc_referee.specs.Asked.{Pairs}
+
+-- notes with the numbers of their nodes, from this number on
+abbrev pub numbered : ℕ → List Note → Pairs
+numbered n [] = []
+numbered n (t ∷ ts) = (n, t) ∷ numbered (n + 1) ts

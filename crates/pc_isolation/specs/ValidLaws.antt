@@ -1,0 +1,14 @@
+-- What a valid annotation promises of waiting messages.
+use Rattle.pc_core.specs.CoreData.{CoreData}
+use Rattle.pc_core.specs.Formed.{Formed}
+use Rattle.pc_ann.specs.declared.annotation.Ann.{Ann}
+use Rattle.pc_rules.specs.Valid.{Valid}
+use Rattle.pc_isolation.specs.Laws.{AlwaysIsolated, AlwaysPassedWhole}
+
+-- What has a valid annotation is isolated.
+abbrev pub ValidIsIsolated : Type 0
+ValidIsIsolated = (core : CoreData) (ann : Ann) → Formed core → Valid core ann → AlwaysIsolated core
+
+-- What is inside an argument stays inside until its message is taken, and is handed over as a whole.
+abbrev pub ValidIsPassedWhole : Type 0
+ValidIsPassedWhole = (core : CoreData) (ann : Ann) → Formed core → Valid core ann → AlwaysPassedWhole core

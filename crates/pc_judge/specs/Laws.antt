@@ -1,0 +1,16 @@
+-- What holds of the first fault of every annotation.
+use Rattle.std.specs.Prelude.{◌≡◌}
+use Rattle.pc_core.specs.CoreData.{CoreData}
+use Rattle.pc_core.specs.Formed.{Formed}
+use Rattle.pc_ann.specs.declared.annotation.Ann.{Ann}
+use Rattle.pc_rules.specs.Valid.{Valid}
+use Rattle.pc_judge.specs.declared.faults.JudgeFault.{JudgeFault}
+use Rattle.pc_judge.specs.Faults.{FirstFault}
+
+-- At most one fault is the first.
+abbrev pub OneFirst : Type 0
+OneFirst = (core : CoreData) (ann : Ann) (f g : JudgeFault) → Formed core → FirstFault core ann f → FirstFault core ann g → f ≡ g
+
+-- Where one is, the annotation is not valid.
+abbrev pub NotValid : Type 0
+NotValid = (core : CoreData) (ann : Ann) (f : JudgeFault) → Formed core → FirstFault core ann f → Valid core ann → ⊥

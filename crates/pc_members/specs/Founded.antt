@@ -1,0 +1,14 @@
+-- When the `is` lists of a file are right.
+use Rattle.std.specs.Prelude.{ℕ}
+use Rattle.pc_lists.specs.Places.{Has, Differ}
+use Rattle.pc_tree.specs.declared.names.Name.{Name}
+use Rattle.pc_tree.specs.Tree as t
+use Rattle.pc_members.specs.Words.{entity_names}
+use Rattle.pc_members.specs.Tables.{trait_names}
+use Rattle.pc_members.specs.Chains.{InCycle}
+
+-- The names of the entities differ, each `is` list names traits and interfaces of the file alone, and none of these leads back to itself.
+pub record IsFounded (file : t.File) : Type 0 where
+  pub names : Differ (entity_names file)
+  pub provides : (e : t.Entity) (n : Name) → Has file.entities e → Has e.provides n → Has (trait_names file.entities) n.text
+  pub straight : (a : ℕ) → InCycle file a → ⊥
