@@ -3,24 +3,8 @@ docs/theorem.md and the files."""
 
 import re
 
+import lines
 import pages
-
-CRATES = pages.TOP / "crates"
-
-# What the headline and the whole contract rest on, as they are named on the page.
-HEADLINE = [("pc_top", "CoreOf"), ("pc_rules", "Valid"), ("pc_semantics", "Safety")]
-CONTRACT = [
-    *(("pc_top", name) for name in ("Asked", "OnOut", "Referee")),
-    *(("pc_refusals", name) for name in ("Answer", "Complete", "Named", "Verdict")),
-    ("pc_args", "Asked"),
-    ("pc_io", "Change"),
-]
-
-# An import of definitions of a crate: from a file, a file of a folder, or a type of a file. Types that come from the code are
-# `declared`.
-IMPORT = re.compile(r"^use Rattle\.(pc_\w+)\.specs\.(\w+(?:\.\w+)*)", re.MULTILINE)
-
-NOT_WRITTEN = ("declared", "contracts")
 
 # What says only how the parts inside a command end. No clause of the whole call rests on it.
 INNER = "Inner/"
@@ -53,35 +37,6 @@ def look_at_help(found, results):
     results.check("125" in dict(statuses) and "125" in page.text(), "docs/commands.md: the launcher's status", "is missing")
 
 
-def file_of(crate, name):
-    return CRATES / crate / "specs" / f"{name}.antt"
-
-
-def imported(crate, way):
-    """The file of definitions to which the way of an import leads. After it the way may go on to a type of that file."""
-    parts = way.split(".")
-    ways = ["/".join(parts[:count]) for count in range(len(parts), 0, -1)]
-    return crate, next((it for it in ways if file_of(crate, it).exists()), ways[0])
-
-
-def length(files):
-    """How many lines files of definitions have."""
-    return sum(len(file_of(*it).read_text().splitlines()) for it in files)
-
-
-def imports(starts, leave_out=()):
-    """The files of definitions that these import, with them and all that those import."""
-    seen, left = set(), list(starts)
-    while left:
-        one = left.pop()
-        if one not in seen:
-            seen.add(one)
-            ways = IMPORT.findall(file_of(*one).read_text())
-            uses = [imported(*it) for it in ways if it[1].split(".")[0] not in NOT_WRITTEN]
-            left += [it for it in uses if it[0] not in leave_out]
-    return seen
-
-
 def named_in(cell):
     """The files of definitions that a cell names, as "`pc_core`: `specs/Formed`, `Nodes`; types `nodes`"."""
     crate, is_type, found = None, False, []
@@ -104,7 +59,7 @@ def types_in(cell):
         elif name.startswith("pc_"):
             crate, is_type = name, False
         elif is_type:
-            found.append(CRATES / crate / "src" / f"{name}.rt")
+            found.append(lines.CRATES / crate / "src" / f"{name}.rt")
     return found
 
 
@@ -119,25 +74,26 @@ def look_at_lines(found, results):
     listed = set()
     for row in pages.table(page, "Read", "Lines"):
         named = named_in(row.cells["Read"])
-        missing = [it for it in named if not file_of(*it).exists()]
+        missing = [it for it in named if not lines.file_of(*it).exists()]
         missing += [it for it in types_in(row.cells["Read"]) if not it.exists()]
         results.check(not missing, f"{page.name}:{row.line}: files are there", missing)
         if not missing:
-            lines = f"{length(named):,}"
-            results.check(row.cells["Lines"] == lines, f"{page.name}:{row.line}: lines", f"the files have {lines}")
+            count = f"{lines.length(named):,}"
+            results.check(row.cells["Lines"] == count, f"{page.name}:{row.line}: lines", f"the files have {count}")
             listed |= set(named)
-    # The record `CoreOf` takes a limit from the files on the verdict, which the headline does not rest on.
-    wanted = imports(HEADLINE, leave_out=("pc_top", "pc_refusals")) | imports([("pc_core_relation", "Files"), ("pc_grammar", "FileAnswers"), ("pc_lex", "Answers")])
+    wanted, whole = lines.headline(), lines.contract()
     results.check(listed == wanted, f"{page.name}: what the headline imports", f"{sorted(listed ^ wanted)}")
-    whole = imports(CONTRACT)
     inner = [it for it in whole if it[1].startswith(INNER)]
     results.check(not inner, f"{page.name}: no clause rests on how inner parts end", inner)
+    later = [it for it in lines.LATER if it not in whole]
+    results.check(not later, f"{page.name}: the later commands are part of the contract", later)
+    earlier = lines.contract(without=lines.LATER)
     readme = next(it for it in found if it.name == "README.md")
-    for said in (about(length(listed)), about(length(whole))):
-        for it in (page, readme):
-            text = re.sub(r"\s+", " ", it.text())
+    for where, files in ((page, (wanted, lines.isolated(), whole, earlier)), (readme, (lines.isolated(), whole))):
+        text = re.sub(r"\s+", " ", where.text())
+        for said in (about(lines.length(it)) for it in files):
             is_said = said in text or said.removesuffix(" lines") in text
-            results.check(is_said, f"{it.name}: says {said}", "it does not")
+            results.check(is_said, f"{where.name}: says {said}", "it does not")
 
 
 def look(found, results):

@@ -1,0 +1,80 @@
+"""How many lines of definitions have to be read, by what imports what."""
+
+import re
+
+import pages
+
+CRATES = pages.TOP / "crates"
+
+# What the headline and the whole contract rest on, as they are named in docs/theorem.md.
+HEADLINE = [("pc_top", "CoreOf"), ("pc_rules", "Valid"), ("pc_semantics", "Safety")]
+ISOLATION = [("pc_top", "IsolatedCore")]
+CONTRACT = [
+    *(("pc_top", name) for name in ("Asked", "OnOut", "Referee")),
+    *(("pc_refusals", name) for name in ("Answer", "Complete", "Named", "Verdict")),
+    ("pc_args", "Asked"),
+    ("pc_io", "Change"),
+]
+
+# The record `CoreOf` takes a limit from the files on the verdict, which the headline does not rest on.
+OF_VERDICTS = ("pc_top", "pc_refusals")
+OF_CORES = [("pc_core_relation", "Files"), ("pc_grammar", "FileAnswers"), ("pc_lex", "Answers")]
+
+# The definitions of commands that came after the limits on these counts had been set.
+LATER = [("pc_top", f"Commands/{name}") for name in ("Explain", "Events", "Places", "Outcomes")]
+
+# An import of definitions of a crate: from a file, a file of a folder, or a type of a file. Types that come from the code are
+# `declared`.
+IMPORT = re.compile(r"^use Rattle\.(pc_\w+)\.specs\.(\w+(?:\.\w+)*)", re.MULTILINE)
+
+NOT_WRITTEN = ("declared", "contracts")
+
+
+def file_of(crate, name):
+    return CRATES / crate / "specs" / f"{name}.antt"
+
+
+def length(files):
+    """How many lines files of definitions have."""
+    return sum(len(file_of(*it).read_text().splitlines()) for it in files)
+
+
+def imported(crate, way):
+    """The file of definitions to which the way of an import leads. After it the way may go on to a type of that file."""
+    parts = way.split(".")
+    ways = ["/".join(parts[:count]) for count in range(len(parts), 0, -1)]
+    return crate, next((it for it in ways if file_of(crate, it).exists()), ways[0])
+
+
+def imports(starts, leave_out=(), without=()):
+    """The files of definitions that these import, with them and all that those import. Crates may be left out, and files."""
+    seen, left = set(), list(starts)
+    while left:
+        one = left.pop()
+        if one not in seen and one not in without:
+            seen.add(one)
+            ways = IMPORT.findall(file_of(*one).read_text())
+            uses = [imported(*it) for it in ways if it[1].split(".")[0] not in NOT_WRITTEN]
+            left += [it for it in uses if it[0] not in leave_out]
+    return seen
+
+
+def headline():
+    """What the headline rests on."""
+    return imports(HEADLINE, leave_out=OF_VERDICTS) | imports(OF_CORES)
+
+
+def isolated():
+    """What the headline and the clause on isolation rest on."""
+    return headline() | imports(ISOLATION, leave_out=("pc_refusals",))
+
+
+def contract(without=()):
+    """What the whole contract rests on."""
+    return imports(CONTRACT, without=without)
+
+
+def of_imports(files):
+    """How many of the lines of these files are imports."""
+    heads = [re.findall(r"^use [^{\n]*(?:\{[^}]*\})?[^\n]*$", file_of(*it).read_text(), re.MULTILINE) for it in files]
+    return sum(len(head.splitlines()) for found in heads for head in found)
