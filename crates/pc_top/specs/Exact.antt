@@ -6,7 +6,7 @@ use Rattle.pc_deriv.specs.Faults.{IsText}
 use Rattle.pc_rules.specs.Valid.{Valid}
 use Rattle.pc_args.specs.Numbers.{IsSeed, IsSize}
 use Rattle.pc_lists.specs.Texts.{Text}
-use Rattle.pc_args.specs.Asked.{Asked, check, judge, make, swap, upgrade, command_of}
+use Rattle.pc_args.specs.Asked.{Asked, check, judge, make, upgrade, command_of}
 use Rattle.pc_top.specs.Asked.{IsVerdict}
 use Rattle.pc_top.specs.Commands.{HasNumber, infers, source_of}
 use Rattle.pc_top.specs.CoreOf.{CoreOf, IsDerivable, IsUnderivable}

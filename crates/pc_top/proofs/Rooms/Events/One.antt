@@ -1,6 +1,5 @@
 -- No two verdicts on the events of a run differ: the events are one list.
-use Rattle.std.proofs.Common.{◌≡◌, ◌<◌, ℕ, suc, List, Some, Ok, Err, refl, sym, ap, ◌∙◌, subst, arith}
-use Rattle.std.specs.Prelude.{slice_get}
+use Rattle.std.proofs.Common.{◌≡◌, ◌<◌, ℕ, suc, List, Some, Ok, Err, sym, ap, ◌∙◌, subst, arith}
 use Rattle.std.proofs.lemmas.Option.{none-some, same_Some}
 use Rattle.pc_core.specs.CoreData.{CoreData}
 use Rattle.pc_lists.specs.Places.{Has}

@@ -7,7 +7,6 @@ use Rattle.pc_lex.specs.Answers.{TokenList}
 use Rattle.pc_lists.specs.Texts.{Text}
 use Rattle.pc_names.specs.Names.{OfFile}
 use Rattle.pc_names.specs.declared.fault.NameFault.{NameFault}
-use Rattle.pc_names.specs.declared.fault.NameFault.TheVariants as fault
 use Rattle.pc_token.specs.declared.kinds.Token.{Token}
 use Rattle.pc_tree.specs.Tree as t
 use Rattle.pc_refusals.specs.After.After.{goes, stops}

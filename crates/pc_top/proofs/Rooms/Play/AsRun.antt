@@ -2,7 +2,7 @@
 use Rattle.std.proofs.Common.{◌≡◌, ◌≤◌, ◌∙◌, ℕ, List, length, Option, Some, Ok, inl, refl, sym, ap, subst}
 use Rattle.std.specs.Prelude.{IfSome, IsSome}
 use Rattle.std.proofs.lemmas.Option.{none-some}
-use Rattle.pc_args.specs.Asked.{Asked, play, run, schedule_of}
+use Rattle.pc_args.specs.Asked.{Asked, play, run}
 use Rattle.pc_args.specs.Numbers.{IsSeed}
 use Rattle.pc_choose.specs.Lists.{Chosen}
 use Rattle.pc_core.specs.CoreData.{CoreData}
