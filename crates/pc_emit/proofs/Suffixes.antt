@@ -246,11 +246,11 @@ pub first_view : (xs : List Suffix) (x : Suffix) (y : t.Suffix) → slice_get xs
 first_view [] x y h v = absurd (none-some x h)
 first_view (z ∷ xs) x y h v = ap (λ w. Some w) (ap suffix_view (same_Some _ _ h) ∙ v)
 
-pub empty_args : (xs : List Expr) (s : Span) (b : Bool) → (IsTrue b ↔ (xs ≡ [])) → b ≡ is_empty_args (Some (t.args (exprs_view xs) s))
+pub empty_args : (xs : List Expr) (s : Span) (b : Bool) → (IsTrue b ↔ (length xs ≡ 0)) → b ≡ is_empty_args (Some (t.args (exprs_view xs) s))
 empty_args [] s true h = refl
 empty_args [] s false h = absurd (false≢true (h.1 refl))
 empty_args (x ∷ xs) s false h = refl
-empty_args (x ∷ xs) s true h = let e : x ∷ xs ≡ [] = h.0 refl in absurd (omega (arith, ap length e))
+empty_args (x ∷ xs) s true h = let e : length (x ∷ xs) ≡ 0 = h.0 refl in absurd (omega (arith, e))
 
 -- A chain whose nodes wait for what begins it.
 pub chain_opens : (c : Context) (sc sc2 : Scope) (d : ℕ) (e h : Expr) (b : Box Expr Global) (ss xs : List Suffix) (s : Span) (beg : Beginning) (first count : ℕ) (rest : List Suffix)

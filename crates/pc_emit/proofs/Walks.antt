@@ -1,6 +1,7 @@
 -- Laws of the walk's loops.
 use Rattle.std.proofs.Common.{◌≡◌, rules, ℕ, zero, suc, ◌+◌, ◌<◌, ◌≤◌, drop, take, map, length, Bool, true, false, Option, List, [], ◌∷◌, ◌++◌, Some, None, refl, ap, ◌∙◌, sym, Result, Ok, Err, arith}
-use Rattle.std.specs.Prelude.{slice_get, slice_index_or, option_map}
+use Rattle.std.specs.Prelude.{◌-◌, slice_get, slice_index_or, option_map}
+use Rattle.pc_caps.proofs.Lasts.{ends_with}
 use Rattle.std.specs.Result.{OnOk}
 use Rattle.std.proofs.lemmas.Option.{same_Some, none-some, slice_get_read, slice_get-map}
 use Rattle.pc_caps.specs.declared.span.Span.{Span}
@@ -56,6 +57,10 @@ closing_last step (q ∷ ps) p n ns = ap (λ o. and_then o (step q)) (closing_la
 -- So closing it leaves the others to be closed.
 pub closed_last : {P : Type 0} (step : P → ℕ → List Node → Numbered ℕ) (xs ps : List P) (p : P) (n n2 : ℕ) (ns ns2 : List Node) → xs ≡ ps ++ p ∷ [] → step p n ns ≡ Some (n2, ns2) → closing step ps n2 ns2 ≡ closing step xs n ns
 closed_last step xs ps p n n2 ns ns2 h g = sym (ap (λ l. closing step l n ns) h ∙ closing_last step ps p n ns ∙ ap (λ o. and_then o (closing step ps)) g)
+
+-- The last of those that wait is taken out.
+pub last_out : {P : Type 0} (xs ps : List P) (p : P) → Some p ≡ slice_get xs (length xs - 1) → ps ≡ take (length xs - 1) xs → xs ≡ ps ++ p ∷ []
+last_out xs ps p e f = ends_with xs p (sym e) ∙ ap (λ l. l ++ p ∷ []) (sym f)
 
 pub shorter : {P : Type 0} (xs ps : List P) (p : P) → xs ≡ ps ++ p ∷ [] → length ps < length xs
 shorter xs ps p h = omega (arith, ap length h, length-append ps (p ∷ []))

@@ -15,7 +15,7 @@ use Rattle.pc_members.proofs.traits.reach_place.Goals.{else-is_abstract-via-then
 pub returns-in_ok-members : goal.returns-in_ok-members
 returns-in_ok-members c =
     reach_new (file_view c.args.file.now) c.args.entities.now c.args.above.now c.args.rank c.args.place (entity_view c.in-Some.entity.now) (members_view c.in_ok-members.members) (table_view c.args.table.now) (table_view c.replace.new.self) c.requires.names c.requires.closes c.requires.founded
-    (get_map entity_view c.args.file.now.entities c.args.place c.in-Some.entity.now (sym c.in-Some.ensures.value))
+    (get_map entity_view c.args.file.now.entities c.args.place c.in-Some.entity.now (sym c.in-Some.ensures.found))
     (sym c.is_abstract.ensures ∙ c.if-is_abstract.true)
     (sym c.rank_of.ensures ∙ c.if-rank_of-rank.true)
     c.requires.knows
@@ -26,7 +26,7 @@ pub returns-else-is_abstract : goal.returns-else-is_abstract
 returns-else-is_abstract c =
     reach_kept (file_view c.args.file.now) c.args.above.now c.args.rank c.args.place (table_view c.args.table.now)
     (λ e h is g.
-    let same : e ≡ entity_view c.in-Some.entity.now = same_Some e (entity_view c.in-Some.entity.now) (sym h ∙ get_map entity_view c.args.file.now.entities c.args.place c.in-Some.entity.now (sym c.in-Some.ensures.value)) in
+    let same : e ≡ entity_view c.in-Some.entity.now = same_Some e (entity_view c.in-Some.entity.now) (sym h ∙ get_map entity_view c.args.file.now.entities c.args.place c.in-Some.entity.now (sym c.in-Some.ensures.found)) in
     elim c.else-is_abstract.branch [
       | else-is_abstract-via-then-is_abstract+else-rank_of-rank w ↦ w.if-rank_of-rank.false (w.rank_of.ensures ∙ g)
       | else-is_abstract-via-else-is_abstract w ↦ true_false (sym is ∙ ap (λ (x : t.Entity). is_abstract x.kind) same ∙ sym c.is_abstract.ensures ∙ w.if-is_abstract.false)
