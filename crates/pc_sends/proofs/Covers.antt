@@ -24,8 +24,8 @@ use Rattle.pc_semantics.specs.Runs.{followed, run_from, after}
 use Rattle.pc_sends.specs.Held.{HeldAt, HeldFrom}
 use Rattle.pc_sends.specs.Running.{running}
 use Rattle.pc_sends.specs.Reach.{Reach, first, next, Posts, Sends, MayWait}
-use Rattle.pc_sends.specs.Laws.{message_of, next_move, Covered}
-use Rattle.pc_sends.specs.Covering.{HeldCovers}
+use Rattle.pc_sends.specs.Laws.{message_of, next_move}
+use Rattle.pc_sends.specs.Covering.{Covered, HeldCovers}
 use Rattle.pc_sends.proofs.Homes.{body_in}
 use Rattle.pc_sends.proofs.Moves.{TasksIn, FrameOf, IsThere, Begun, MoveIn}
 use Rattle.pc_sends.proofs.Tasks.{CallNoted, task_in}

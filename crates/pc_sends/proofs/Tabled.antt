@@ -13,7 +13,7 @@ use Rattle.pc_semantics.specs.Configurations.{Configuration, main_create}
 use Rattle.pc_sends.specs.declared.table.Table.{Table}
 use Rattle.pc_sends.specs.Growth.{Grown, OfSome, Sorts}
 use Rattle.pc_sends.specs.Reach.{Sends, MayWait}
-use Rattle.pc_sends.specs.Laws.{Covered}
+use Rattle.pc_sends.specs.Covering.{Covered}
 use Rattle.pc_sends.specs.Reached.{IsReach, AreSent}
 use Rattle.pc_sends.specs.Tables.{row, Before, InOrder, IsOfActor, IsLater, IsUnsent, IsNever, IsTable, Tells}
 

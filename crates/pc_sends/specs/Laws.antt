@@ -1,8 +1,7 @@
--- What Held gives over every list of actors.
+-- When an actor is about to send a message.
 use Rattle.std.specs.Prelude.{◌≡◌, ℕ, List, [], ◌∷◌, Option, Some, None, slice_get}
 use Rattle.pc_core.specs.declared.declarations.Method.{Method}
 use Rattle.pc_core.specs.CoreData.{CoreData}
-use Rattle.pc_lists.specs.Places.{Each}
 use Rattle.pc_semantics.specs.declared.frames.Frame.{Frame}
 use Rattle.pc_semantics.specs.declared.frames.Task.{Task}
 use Rattle.pc_semantics.specs.declared.mailbox.Message.{Message}
@@ -11,7 +10,6 @@ use Rattle.pc_semantics.specs.Around.{Around, Move, Spawns, Sends as Sending}
 use Rattle.pc_semantics.specs.Tasks.{task_move}
 use Rattle.pc_semantics.specs.Step.{around}
 use Rattle.pc_sends.specs.Running.{running}
-use Rattle.pc_sends.specs.Reach.{Reach, Sends, MayWait}
 
 -- The message of a move: that of a new actor's constructor, or that of a behaviour.
 abbrev pub message_of : Move → Option Message
@@ -32,13 +30,3 @@ pub record IsSending (core : CoreData) (c : Configuration) (i : ℕ) (x : Method
   pub move : Move
   pub is_move : next_move core (around c i) frame frame.tasks ≡ Some move
   pub sends : message_of move ≡ Some m
-
--- What is known at a configuration.
-pub record Covered (core : CoreData) (ents : List (Option ℕ)) (c : Configuration) : Type 0 where
-  -- each frame is one of a method in Reach
-  pub frames : Each (λ i a. Each (λ k f. Reach core ents f.method) a.frames) c.actors
-  -- each waiting message is Main's first one or has a pair in Sends, so its method is in Reach
-  pub waits : Each (λ i a. Each (λ k m. MayWait core ents m.method) a.mailbox) c.actors
-  pub messages : Each (λ i a. Each (λ k m. Reach core ents m.method) a.mailbox) c.actors
-  -- what is about to be sent has the pair of the frame's entity and the message's method
-  pub sends : (i : ℕ) (x : Method) (m : Message) → IsSending core c i x m → Sends core ents x.entity m.method
