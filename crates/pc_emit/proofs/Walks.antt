@@ -1,7 +1,7 @@
 -- Laws of the walk's loops.
 use Rattle.std.proofs.Common.{◌≡◌, rules, ℕ, zero, suc, ◌+◌, ◌<◌, ◌≤◌, drop, take, map, length, Bool, true, false, Option, List, [], ◌∷◌, ◌++◌, Some, None, refl, ap, ◌∙◌, sym, Result, Ok, Err, arith}
 use Rattle.std.specs.Prelude.{◌-◌, slice_get, slice_index_or, option_map}
-use Rattle.pc_caps.proofs.Lasts.{ends_with}
+use Rattle.pc_caps.proofs.Lasts.{ends_nowhere, ends_with}
 use Rattle.std.specs.Result.{OnOk}
 use Rattle.std.proofs.lemmas.Option.{same_Some, none-some, slice_get_read, slice_get-map}
 use Rattle.pc_caps.specs.declared.span.Span.{Span}
@@ -25,7 +25,7 @@ use Rattle.pc_emit.specs.declared.stop.EmitStop.{EmitStop}
 use Rattle.pc_emit.specs.declared.stop.EmitStop.TheVariants as stop
 use Rattle.pc_emit.specs.declared.waiting.Link.{Link}
 use Rattle.pc_emit.specs.Giving.{Gives}
-use Rattle.pc_emit.specs.Closing.{closing, arm_after, arm_closes, none_closes, seq_closes, name_closes, names_none, is_missing, written_end, written_kind, begun_by, Opens, OpensChain, OpensOne}
+use Rattle.pc_emit.specs.Closing.{TakesLast, closing, arm_after, arm_closes, none_closes, seq_closes, name_closes, names_none, is_missing, written_end, written_kind, begun_by, Opens, OpensChain, OpensOne}
 
 pub on_ok : {A P : Type 0} (r : Result A EmitStop) → P → OnOk r P
 on_ok (Ok a) h = h
@@ -58,9 +58,10 @@ closing_last step (q ∷ ps) p n ns = ap (λ o. and_then o (step q)) (closing_la
 pub closed_last : {P : Type 0} (step : P → ℕ → List Node → Numbered ℕ) (xs ps : List P) (p : P) (n n2 : ℕ) (ns ns2 : List Node) → xs ≡ ps ++ p ∷ [] → step p n ns ≡ Some (n2, ns2) → closing step ps n2 ns2 ≡ closing step xs n ns
 closed_last step xs ps p n n2 ns ns2 h g = sym (ap (λ l. closing step l n ns) h ∙ closing_last step ps p n ns ∙ ap (λ o. and_then o (closing step ps)) g)
 
--- The last of those that wait is taken out.
-pub last_out : {P : Type 0} (xs ps : List P) (p : P) → Some p ≡ slice_get xs (length xs - 1) → ps ≡ take (length xs - 1) xs → xs ≡ ps ++ p ∷ []
-last_out xs ps p e f = ends_with xs p (sym e) ∙ ap (λ l. l ++ p ∷ []) (sym f)
+-- What a list promises of its last value.
+pub takes_last : {P : Type 0} (before after : List P) (given : Option P) → given ≡ slice_get before (length before - 1) → after ≡ take (length before - 1) before → TakesLast before after given
+takes_last before after None e f = let empty : before ≡ [] = ends_nowhere before (sym e) in (empty, f ∙ ap (λ l. take (length l - 1) l) empty)
+takes_last before after (Some p) e f = ends_with before p (sym e) ∙ ap (λ l. l ++ p ∷ []) (sym f)
 
 pub shorter : {P : Type 0} (xs ps : List P) (p : P) → xs ≡ ps ++ p ∷ [] → length ps < length xs
 shorter xs ps p h = omega (arith, ap length h, length-append ps (p ∷ []))

@@ -25,6 +25,11 @@ abbrev pub closing : {P : Type 0} → (P → ℕ → List Node → Numbered ℕ)
 closing step [] n ns = Some (n, ns)
 closing step (p ∷ ps) n ns = and_then (closing step ps n ns) (step p)
 
+-- The last of those that wait is taken out, or none waits.
+abbrev pub TakesLast : {P : Type 0} → (before after : List P) → Option P → Type 0
+TakesLast before after None = (before ≡ []) × (after ≡ [])
+TakesLast before after (Some p) = before ≡ after ++ p ∷ []
+
 -- An arm waits for its `else`; each but the first stands in a sequence of its own.
 abbrev pub arm_after : Bool → (method depth : ℕ) → Span → ℕ → List Node → Numbered ℕ
 arm_after true m d s chosen ns = Some (chosen, ns)

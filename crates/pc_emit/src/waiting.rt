@@ -2,7 +2,7 @@
 ghost use Rattle.std.specs.Prelude.{◌≡◌, ◌∷◌, []};
 ghost use Rattle.pc_body_spec.specs.Roses as roses;
 ghost use Rattle.pc_emit.specs.Giving.{Gives};
-ghost use Rattle.pc_emit.specs.Closing.{closing, arm_closes, link_closes, none_closes, seq_closes, this_closes, written_kind};
+ghost use Rattle.pc_emit.specs.Closing.{TakesLast, closing, arm_closes, link_closes, none_closes, seq_closes, this_closes, written_kind};
 
 use crate::nodes::{double, leaf, one, push, single};
 use crate::setting::Setting;
@@ -37,6 +37,14 @@ pub(crate) struct OpenChain {
     pub(crate) origin: Option<u32>,
 }
 
+// Takes the last of those that wait out of their list.
+#[tactic(auto, using(crate::proofs::Walks::takes_last))]
+fn take_last<P>(waiting: &mut List<P>) -> Option<P>
+    ensures { TakesLast waiting.old waiting.new result }
+{
+    waiting.pop()
+}
+
 /// Puts the nodes of the arms around the last `else`, from the last arm on.
 #[tactic(auto, using(crate::proofs::Walks::closing_last))]
 pub(crate) fn close_arms(
@@ -49,7 +57,7 @@ pub(crate) fn close_arms(
 {
     let mut arms = arms;
     let mut top = last;
-    'close: while let Some(arm) = arms.pop() {
+    'close: while let Some(arm) = take_last(&mut arms) {
         top = close_arm(setting, nodes, arm, top)?;
     }
     Ok(top)
@@ -87,7 +95,7 @@ pub(crate) fn close_links(
 {
     let mut links = links;
     let mut top = origin;
-    'close: while let Some(link) = links.pop() {
+    'close: while let Some(link) = take_last(&mut links) {
         let mut children = link.args;
         children.push(top)?;
         top = push(setting, nodes, link.kind, link.span, children)?;

@@ -1,5 +1,5 @@
-use Rattle.pc_emit.proofs.Walks.{last_out, shorter}
+use Rattle.pc_emit.proofs.Walks.{shorter}
 use Rattle.pc_emit.proofs.waiting.close_links.Goals as goal
 
 pub close-smaller : goal.close-smaller
-close-smaller c = shorter c.close.links c.pop.new.self c.in-Some.link (last_out c.close.links c.pop.new.self c.in-Some.link c.in-Some.ensures.last c.in-Some.ensures.front)
+close-smaller c = shorter c.close.links c.take_last.new.waiting c.in-Some.link c.in-Some.ensures
