@@ -1,6 +1,8 @@
 pub mod NameSteps
 pub mod RuleLetters
 pub mod Digits
+pub mod LastDigits
+pub mod MaskTexts
 pub mod NumberReading
 pub mod NameReading
 pub mod Shown

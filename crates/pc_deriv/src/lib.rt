@@ -9,6 +9,7 @@
 //! Not proved: time. Tests have the example's text, its cuts and variants, and look at no clock.
 #![tactic(auto)]
 
+mod digits;
 mod fault;
 mod front;
 mod laws;

@@ -1,15 +1,18 @@
 //! Writing the derivation text.
-ghost use Rattle.std.specs.Prelude.{◌≡◌, ◌≤◌, ◌++◌, length, IfOk, OnOk};
+ghost use Rattle.std.specs.Prelude.{◌≡◌, ◌≤◌, ◌++◌, length, Some, IsTrue, IfOk, OnOk};
+ghost use Rattle.pc_ann.specs.declared.annotation.Note.{Note};
 ghost use Rattle.std.specs.List.{AllByRecursion};
 ghost use Rattle.pc_deriv.specs.Text as text;
 ghost use Rattle.pc_deriv.specs.declared.version.Version.TheVariants as version;
 ghost use Rattle.pc_deriv.specs.Faults.{IsText};
 ghost use Rattle.pc_deriv.specs.Limits.{slot_limit, node_limit};
 
+use crate::digits::{push_decimal, push_hex};
 use crate::names::{cap_name, form_name, rule_name, version_name};
 use crate::version::{Version, shown_after};
 use pc_ann::{Ann, Note};
 use pc_caps::{Cap, Form, List};
+use pc_masks::Mask;
 use std::alloc::{AllocError, Global};
 
 /// Puts the first line at the end.
@@ -28,18 +31,21 @@ fn push_head(
 }
 
 /// Puts the line of a slot at the end.
-fn push_slot(alloc: Global, out: &mut Vec<u8>, slot: (u32, Cap)) -> Result<(), AllocError>
+fn push_slot(out: &mut Vec<u8>, slot: (u32, Cap)) -> Result<(), AllocError>
     ensures puts { OnOk result (out.new.items ≡ out.old.items ++ text.slot_line slot) }
     ensures fits { text.SlotFits slot }
 {
     let (entity, cap) = slot;
-    let cap = cap_name(cap);
-    let line = format!(in alloc; "s {entity} {cap}\n")?;
-    out.extend_from_slice(line.as_bytes())
+    out.extend_from_slice(b"s ")?;
+    push_decimal(out, entity)?;
+    out.push(b' ')?;
+    out.extend_from_slice(cap_name(cap).as_bytes())?;
+    out.push(b'\n')?;
+    Ok(())
 }
 
 /// Puts the type of a node at the end.
-fn push_type(alloc: Global, out: &mut Vec<u8>, ty: Option<(u32, Form)>) -> Result<(), AllocError>
+fn push_type(out: &mut Vec<u8>, ty: Option<(u32, Form)>) -> Result<(), AllocError>
     ensures puts { OnOk result (out.new.items ≡ out.old.items ++ text.type_text ty) }
     ensures fits { text.TypeFits ty }
 {
@@ -49,57 +55,96 @@ fn push_type(alloc: Global, out: &mut Vec<u8>, ty: Option<(u32, Form)>) -> Resul
             Ok(())
         }
         Some((entity, form)) => {
-            let form = form_name(form);
-            let pair = format!(in alloc; "{entity} {form}")?;
-            out.extend_from_slice(pair.as_bytes())
+            push_decimal(out, entity)?;
+            out.push(b' ')?;
+            out.extend_from_slice(form_name(form).as_bytes())
         }
     }
 }
 
-/// Puts the masks of a node at the end.
-fn push_masks(
-    alloc: Global,
-    out: &mut Vec<u8>,
-    version: Version,
-    note: Note,
-) -> Result<(), AllocError>
-    ensures puts { OnOk result (out.new.items ≡ out.old.items ++ text.masks_text version note) }
-    ensures fits { text.MasksFit note }
+/// Puts a mask at the end, after a blank.
+fn push_mask(out: &mut Vec<u8>, mask: Mask) -> Result<(), AllocError>
+    ensures { OnOk result (out.new.items ≡ out.old.items ++ (text.blank ++ text.mask_text mask)) }
 {
-    let live_before = note.live_before.0;
-    let set_before = note.set_before.0;
-    let live_shown = shown_after(version, note.live_before, note.live_after).0;
-    let set_shown = shown_after(version, note.set_before, note.set_after).0;
-    let masks = format!(in alloc;
-        " {live_before:x} {set_before:x} {live_shown:x} {set_shown:x}\n"
-    )?;
-    out.extend_from_slice(masks.as_bytes())
+    out.push(b' ')?;
+    push_hex(out, mask.0)
 }
 
-/// Puts the line of a node at the end.
+/// Puts a live and a set mask at the end, each after a blank.
+fn push_pair(out: &mut Vec<u8>, live: Mask, set: Mask) -> Result<(), AllocError>
+    ensures { OnOk result (out.new.items ≡ out.old.items ++ (text.blank ++ (text.mask_text live ++ (text.blank ++ text.mask_text set)))) }
+{
+    push_mask(out, live)?;
+    push_mask(out, set)
+}
+
+/// Puts the masks of a node at the end.
+fn push_masks(out: &mut Vec<u8>, version: Version, note: &Note) -> Result<(), AllocError>
+    ensures { OnOk result (out.new.items ≡ out.old.items ++ text.masks_text version note.now) }
+{
+    let live_shown = shown_after(version, note.live_before, note.live_after);
+    let set_shown = shown_after(version, note.set_before, note.set_after);
+    push_pair(out, note.live_before, note.set_before)?;
+    push_pair(out, live_shown, set_shown)?;
+    out.push(b'\n')?;
+    Ok(())
+}
+
+/// Whether two nodes have the same masks.
+fn has_masks_of(note: &Note, other: &Note) -> bool
+    ensures { IsTrue result → (note.now.live_before ≡ other.now.live_before) × (note.now.set_before ≡ other.now.set_before) × (note.now.live_after ≡ other.now.live_after) × (note.now.set_after ≡ other.now.set_after) }
+{
+    note.live_before.0 == other.live_before.0
+        && note.set_before.0 == other.set_before.0
+        && note.live_after.0 == other.live_after.0
+        && note.set_after.0 == other.set_after.0
+}
+
+/// Makes the text of a node's masks out of that of the node before it. Most nodes change no mask.
+#[tactic(auto, using(crate::proofs::MaskTexts::same_masks))]
+fn renew_masks(
+    masks: &mut Vec<u8>,
+    version: Version,
+    before: Option<Note>,
+    note: &Note,
+) -> Result<(), AllocError>
+    requires { (other : Note) → before ≡ Some other → masks.old.items ≡ text.masks_text version other }
+    ensures { OnOk result (masks.new.items ≡ text.masks_text version note.now) }
+{
+    if let Some(other) = before {
+        if has_masks_of(&other, note) {
+            return Ok(());
+        }
+    }
+    masks.clear();
+    push_masks(masks, version, note)
+}
+
+/// Puts the line of a node at the end, whose masks have this text.
 fn push_note(
-    alloc: Global,
     out: &mut Vec<u8>,
     version: Version,
     note: Note,
+    masks: &[u8],
 ) -> Result<(), AllocError>
+    requires { masks.now ≡ text.masks_text version note }
     ensures puts { OnOk result (out.new.items ≡ out.old.items ++ text.note_line version note) }
-    ensures fits { OnOk result (text.NoteFits note) }
+    ensures fits { text.NoteFits note }
 {
-    let rule = rule_name(note.rule);
-    let front = format!(in alloc; "n {rule} ")?;
-    out.extend_from_slice(front.as_bytes())?;
-    push_type(alloc, out, note.ty)?;
-    push_masks(alloc, out, version, note)
+    out.extend_from_slice(b"n ")?;
+    out.extend_from_slice(rule_name(note.rule).as_bytes())?;
+    out.push(b' ')?;
+    push_type(out, note.ty)?;
+    out.extend_from_slice(masks)
 }
 
 /// Puts the lines of slots at the end.
-fn push_slots(alloc: Global, out: &mut Vec<u8>, slots: &[(u32, Cap)]) -> Result<(), AllocError>
+fn push_slots(out: &mut Vec<u8>, slots: &[(u32, Cap)]) -> Result<(), AllocError>
     ensures puts { OnOk result (out.new.items ≡ out.old.items ++ text.lines text.slot_line slots.now) }
     ensures fit { OnOk result (AllByRecursion text.SlotFits slots.now) }
 {
     for slot in slots {
-        push_slot(alloc, out, *slot)?;
+        push_slot(out, *slot)?;
     }
     Ok(())
 }
@@ -114,8 +159,12 @@ fn push_notes(
     ensures puts { OnOk result (out.new.items ≡ out.old.items ++ text.lines (text.note_line version) notes.now) }
     ensures fit { OnOk result (AllByRecursion text.NoteFits notes.now) }
 {
+    let mut masks: Vec<u8> = Vec::new(alloc);
+    let mut before: Option<Note> = None;
     for note in notes {
-        push_note(alloc, out, version, *note)?;
+        renew_masks(&mut masks, version, before, note)?;
+        push_note(out, version, *note, masks.as_slice())?;
+        before = Some(*note);
     }
     Ok(())
 }
@@ -127,7 +176,7 @@ fn write_lines(alloc: Global, version: Version, ann: &Ann) -> Result<List<u8>, A
 {
     let mut out: Vec<u8> = Vec::new(alloc);
     push_head(alloc, &mut out, version, ann.slots.len(), ann.notes.len())?;
-    push_slots(alloc, &mut out, ann.slots.as_slice())?;
+    push_slots(&mut out, ann.slots.as_slice())?;
     push_notes(alloc, &mut out, version, ann.notes.as_slice())?;
     Ok(List::from_vec(out))
 }

@@ -8,6 +8,7 @@ pub mod WordReading
 pub mod Longest
 pub mod PieceReading
 pub mod Reached
+pub mod Blanks
 pub mod OneCut
 pub mod OneFault
 pub mod Together

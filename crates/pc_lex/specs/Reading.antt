@@ -1,5 +1,5 @@
 -- How the piece with which a text begins is read.
-use Rattle.std.specs.Prelude.{ℕ, zero, suc, ◌+◌, ◌-◌, ◌*◌, ◌^◌, nat_lt, Bool, true, false, ◌&&◌, ◌||◌, ◌==◌, List, [], ◌∷◌, length, take, drop, Option, Some, None, Result, Ok, Err, if◌then◌else◌, ◌≡◌, ◌<◌, ◌≤◌, ◌++◌, ⊤}
+use Rattle.std.specs.Prelude.{ℕ, zero, suc, ◌+◌, ◌-◌, ◌*◌, ◌^◌, nat_lt, Bool, true, false, ◌&&◌, ◌||◌, ◌==◌, List, [], ◌∷◌, length, take, drop, slice_index, Option, Some, None, Result, Ok, Err, if◌then◌else◌, ◌≡◌, ◌<◌, ◌≤◌, ◌++◌, ⊤}
 use Rattle.std.specs.List.{prefix_len}
 use Rattle.std.specs.Char.{is_ascii_uppercase, is_ascii_digit, is_digit, digit_value}
 use Rattle.pc_token.specs.declared.signs.Sign.{Sign}
@@ -164,6 +164,11 @@ is_gap (found.Token kind) = false
 -- the step that was made
 abbrev pub Steps : List ℕ → ℕ → Bool → List Token → List Token → ℕ × Bool → Type 0
 Steps text at first old new r = (x : Found × ℕ) × (piece_at (drop at text) ≡ Ok x) × ((r, new) ≡ step_of text at first old x) × (is_gap x.0 ≡ false → length old < token_limit)
+
+-- Blanks are passed from a place on up to another one, and whether a token there would be first on its line.
+pub data Passes (text : List ℕ) (start : ℕ) (begins_line : Bool) : ℕ → Bool → Type 0 where
+  stays : Passes text start begins_line start begins_line
+  blank : {at : ℕ} {first : Bool} → Passes text start begins_line at first → at < length text → is_blank (slice_index text at) ≡ true → Passes text start begins_line (at + 1) (first || slice_index text at == 10)
 
 -- the fault of a step
 abbrev pub Stuck : List ℕ → ℕ → List Token → LexFault → Type 0

@@ -1,14 +1,15 @@
 //! The lexer's loop over a text, piece by piece.
-ghost use Rattle.std.specs.Prelude.{◌≡◌, ◌<◌, ◌≤◌, List as Sequence, length, Ok, Err, IfOk, IfErr};
+ghost use Rattle.std.specs.Prelude.{◌≡◌, ◌<◌, ◌≤◌, ◌||◌, ◌==◌, List as Sequence, length, Ok, Err, IfOk, IfErr};
 ghost use Rattle.pc_token.specs.declared.kinds.Token.{Token};
 ghost use Rattle.pc_lex.specs.declared.fault.LexFault.{LexFault};
 ghost use Rattle.pc_lex.specs.Limits.{bytes_limit};
 ghost use Rattle.pc_lex.specs.Pieces as pieces;
 ghost use Rattle.pc_lex.specs.Pieces.{FirstFault};
 ghost use Rattle.pc_lex.specs.Reading as reading;
-ghost use Rattle.pc_lex.specs.Reading.{Steps, StopWithin, Stuck};
+ghost use Rattle.pc_lex.specs.Reading.{Passes, Steps, StopWithin, Stuck};
 ghost use Rattle.pc_lex.specs.Answers.{TokenList, Refuses, Answers};
 
+use crate::classes::is_blank;
 use crate::fault::LexFault;
 use crate::pieces::{Found, LexStop, piece_at};
 use pc_caps::{List, Span};
@@ -74,6 +75,28 @@ fn step(
     }
 }
 
+/// Whether a token behind a byte would be first on its line.
+fn is_first_behind(first: bool, byte: u8) -> bool
+    ensures { result ≡ (first || byte == 10) }
+{
+    first || byte == b'\n'
+}
+
+/// Where the blanks at a place end, and whether a token there would be first on its line.
+fn pass_blanks(text: &[u8], start: usize, begins: bool) -> (usize, bool)
+    requires { start ≤ length text.now }
+    ensures passes { Passes text.now start begins result.0 result.1 }
+    ensures within { (start ≤ result.0) × (result.0 ≤ length text.now) }
+{
+    let mut at = start;
+    let mut first = begins;
+    'blanks: while at < text.len() && is_blank(text[at]) {
+        first = is_first_behind(first, text[at]);
+        at += 1;
+    }
+    (at, first)
+}
+
 /// Reads a text piece by piece to its end.
 fn read_all(alloc: Global, text: &[u8]) -> Result<List<Token>, LexFault>
     requires { length text.now ≤ bytes_limit }
@@ -83,8 +106,9 @@ fn read_all(alloc: Global, text: &[u8]) -> Result<List<Token>, LexFault>
     let mut tokens: List<Token> = List::new(alloc);
     let mut at: usize = 0;
     let mut first = true;
-    while at < text.len() {
-        (at, first) = step(alloc, text, at, first, &mut tokens)?;
+    'pieces: while at < text.len() {
+        let (end, begins) = step(alloc, text, at, first, &mut tokens)?;
+        (at, first) = pass_blanks(text, end, begins);
     }
     let place = at as u32;
     tokens.push(Token {

@@ -1,2 +1,4 @@
 pub mod WordFacts
+pub mod WordLetters
 pub mod SignFacts
+pub mod SignLetters

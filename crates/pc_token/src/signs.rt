@@ -117,11 +117,32 @@ fn find_sign(signs: &[Sign], text: &[u8]) -> Option<(Sign, usize)>
     None
 }
 
-/// The longest sign with which a text begins, and its length.
-#[tactic(auto, unfolding(crate::specs::Signs::sign_at))]
+/// The longest sign with which a text begins, and its length. Only signs with the text's first byte are looked at.
 pub fn sign_at(text: &[u8]) -> Option<(Sign, usize)>
     ensures value { result ≡ spec.sign_at text.now }
     ensures within { IfSome result (λ found. found.1 ≤ length text.now) }
 {
-    find_sign(&SIGNS, text)
+    if text.is_empty() {
+        return find_sign(&SIGNS, text);
+    }
+    match text[0] {
+        b'=' => find_sign(&[Sign::Arrow, Sign::Equal, Sign::Assign], text),
+        b'!' => find_sign(&[Sign::NotEqual], text),
+        b'<' => find_sign(&[Sign::LessEqual, Sign::Less], text),
+        b'>' => find_sign(&[Sign::GreaterEqual, Sign::Greater], text),
+        b'(' => find_sign(&[Sign::OpenParen], text),
+        b')' => find_sign(&[Sign::CloseParen], text),
+        b',' => find_sign(&[Sign::Comma], text),
+        b'.' => find_sign(&[Sign::Dot], text),
+        b':' => find_sign(&[Sign::Colon], text),
+        b';' => find_sign(&[Sign::Semicolon], text),
+        b'^' => find_sign(&[Sign::Caret], text),
+        b'&' => find_sign(&[Sign::Ampersand], text),
+        b'+' => find_sign(&[Sign::Plus], text),
+        b'-' => find_sign(&[Sign::Minus], text),
+        b'*' => find_sign(&[Sign::Star], text),
+        b'/' => find_sign(&[Sign::Slash], text),
+        b'%' => find_sign(&[Sign::Percent], text),
+        _ => find_sign(&SIGNS, text),
+    }
 }

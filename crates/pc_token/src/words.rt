@@ -131,6 +131,57 @@ pub const WORDS: [Word; 59] = [
     Word::DigestofWord,
 ];
 
+// The words that begin with each letter, in the order of `WORDS`.
+const A_WORDS: [Word; 4] = [Word::ActorWord, Word::AndWord, Word::AsWord, Word::AddressofWord];
+const B_WORDS: [Word; 3] = [Word::BeWord, Word::BoxWord, Word::BreakWord];
+const C_WORDS: [Word; 5] = [
+    Word::ClassWord,
+    Word::ConsumeWord,
+    Word::ContinueWord,
+    Word::CompileErrorWord,
+    Word::CompileIntrinsicWord,
+];
+const D_WORDS: [Word; 2] = [Word::DoWord, Word::DigestofWord];
+const E_WORDS: [Word; 5] = [
+    Word::ElseifWord,
+    Word::ElseWord,
+    Word::EndWord,
+    Word::EmbedWord,
+    Word::ErrorWord,
+];
+const F_WORDS: [Word; 3] = [Word::FunWord, Word::FalseWord, Word::ForWord];
+const I_WORDS: [Word; 8] = [
+    Word::IsWord,
+    Word::IsntWord,
+    Word::IsoWord,
+    Word::IfWord,
+    Word::InterfaceWord,
+    Word::InWord,
+    Word::IfdefWord,
+    Word::IftypeWord,
+];
+const L_WORDS: [Word; 2] = [Word::LetWord, Word::LambdaWord];
+const M_WORDS: [Word; 1] = [Word::MatchWord];
+const N_WORDS: [Word; 2] = [Word::NewWord, Word::NotWord];
+const O_WORDS: [Word; 2] = [Word::OrWord, Word::ObjectWord];
+const P_WORDS: [Word; 1] = [Word::PrimitiveWord];
+const R_WORDS: [Word; 4] = [Word::RefWord, Word::RecoverWord, Word::ReturnWord, Word::RepeatWord];
+const S_WORDS: [Word; 1] = [Word::StructWord];
+const T_WORDS: [Word; 8] = [
+    Word::TraitWord,
+    Word::TrnWord,
+    Word::TagWord,
+    Word::ThenWord,
+    Word::ThisWord,
+    Word::TrueWord,
+    Word::TypeWord,
+    Word::TryWord,
+];
+const U_WORDS: [Word; 2] = [Word::UseWord, Word::UntilWord];
+const V_WORDS: [Word; 2] = [Word::VarWord, Word::ValWord];
+const W_WORDS: [Word; 3] = [Word::WhileWord, Word::WithWord, Word::WhereWord];
+const X_WORDS: [Word; 1] = [Word::XorWord];
+
 /// The spelling of a word.
 pub fn word_text(word: Word) -> &'static [u8]
     ensures { result.now ≡ spec.word_text word }
@@ -210,10 +261,41 @@ fn find_word(words: &[Word], text: &[u8]) -> Option<Word>
     None
 }
 
-/// The word with this spelling.
-#[tactic(auto, unfolding(crate::specs::Words::word_of))]
+/// The word with this spelling. Only words with the text's first byte are looked at.
 pub fn word_of(text: &[u8]) -> Option<Word>
     ensures { result ≡ spec.word_of text.now }
 {
-    find_word(&WORDS, text)
+    if text.is_empty() {
+        return find_word(&WORDS, text);
+    }
+    match text[0] {
+        b'a' => find_word(&A_WORDS, text),
+        b'b' => find_word(&B_WORDS, text),
+        b'c' => find_word(&C_WORDS, text),
+        b'd' => find_word(&D_WORDS, text),
+        b'e' => find_word(&E_WORDS, text),
+        b'f' => find_word(&F_WORDS, text),
+        b'i' => find_word(&I_WORDS, text),
+        b'l' => find_word(&L_WORDS, text),
+        b'm' => find_word(&M_WORDS, text),
+        b'n' => find_word(&N_WORDS, text),
+        b'o' => find_word(&O_WORDS, text),
+        b'p' => find_word(&P_WORDS, text),
+        b'r' => find_word(&R_WORDS, text),
+        b's' => find_word(&S_WORDS, text),
+        b't' => find_word(&T_WORDS, text),
+        b'u' => find_word(&U_WORDS, text),
+        b'v' => find_word(&V_WORDS, text),
+        b'w' => find_word(&W_WORDS, text),
+        b'x' => find_word(&X_WORDS, text),
+        b'g' => None,
+        b'h' => None,
+        b'j' => None,
+        b'k' => None,
+        b'q' => None,
+        b'y' => None,
+        b'z' => None,
+        b'_' => None,
+        _ => find_word(&WORDS, text),
+    }
 }
