@@ -1,7 +1,8 @@
 -- A number whose last digits are in a buffer.
-use Rattle.std.proofs.Common.{◌≡◌, ℕ, zero, suc, ◌+◌, ◌-◌, ◌/◌, ◌%◌, ◌^◌, ◌<◌, ◌≤◌, false, List, [], ◌∷◌, ◌++◌, length, drop, set, sym, ap, ◌∙◌, subst, arith, append_assoc, append-nil}
+use Rattle.std.proofs.Common.{◌≡◌, ℕ, zero, suc, ◌+◌, ◌-◌, ◌*◌, ◌/◌, ◌%◌, ◌^◌, ◌<◌, ◌≤◌, false, List, [], ◌∷◌, ◌++◌, length, drop, set, sym, ap, ◌∙◌, subst, arith, append_assoc, append-nil}
 use Rattle.std.specs.Fmt.{digit_glyph, digits, decimal}
 use Rattle.std.proofs.lemmas.List.{drop-set, drop_all}
+use Rattle.std.proofs.Math.Nat.{pow-succ'}
 use Rattle.std.proofs.lemmas.Fmt.{decimal_step, decimal_digit, hex_one_digit}
 use Rattle.pc_deriv.proofs.Digits.{hex_step}
 
@@ -21,7 +22,10 @@ moved front rest digit = append_assoc front (digit ∷ []) rest
 
 pub hex_room : (front at : ℕ) → 16 ≤ front → front < 16 ^ at → (0 < at) × (front / 16 < 16 ^ (at - 1))
 hex_room front zero high low = absurd (omega (arith, high, low))
-hex_room front (suc at) high low = (omega arith, omega (arith, low))
+hex_room front (suc at) high low =
+    let power : 16 ^ suc at ≡ 16 * 16 ^ at = pow-succ' 16 at in
+    let less : suc at - 1 ≡ at = omega arith in
+    (omega arith, subst (λ n. front / 16 < 16 ^ n) (sym less) (omega (arith, low, power)))
 
 pub hex_put : (number front at : ℕ) (buffer : List ℕ) → 16 ≤ front → front < 2 ^ 64 → 0 < at → at ≤ length buffer → digits 16 false number ≡ digits 16 false front ++ drop at buffer
     → digits 16 false number ≡ digits 16 false (front / 16) ++ drop (at - 1) (set buffer (at - 1) (digit_glyph false (front % 16)))
@@ -43,7 +47,8 @@ decimal_room front (suc at) high low =
     let more : suc at + 1 ≡ suc (suc at) = omega arith in
     let same : suc at - 1 + 1 ≡ suc at = omega arith in
     let below : front < 10 ^ suc (suc at) = subst (λ n. front < 10 ^ n) more low in
-    (omega arith, subst (λ n. front / 10 < 10 ^ n) (sym same) (omega (arith, below)))
+    let power : 10 ^ suc (suc at) ≡ 10 * 10 ^ suc at = pow-succ' 10 (suc at) in
+    (omega arith, subst (λ n. front / 10 < 10 ^ n) (sym same) (omega (arith, below, power)))
 
 pub decimal_put : (number front at : ℕ) (buffer : List ℕ) → 10 ≤ front → front < 2 ^ 32 → 0 < at → at ≤ length buffer → decimal number ≡ decimal front ++ drop at buffer
     → decimal number ≡ decimal (front / 10) ++ drop (at - 1) (set buffer (at - 1) (48 + front % 10))

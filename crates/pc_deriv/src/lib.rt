@@ -9,7 +9,6 @@
 //! Not proved: time. Tests have the example's text, its cuts and variants, and look at no clock.
 #![tactic(auto)]
 
-mod digits;
 mod fault;
 mod front;
 mod laws;
@@ -17,6 +16,7 @@ mod line;
 mod line_state;
 mod lines;
 mod names;
+mod number_writing;
 mod numbers;
 mod pieces;
 mod reading;

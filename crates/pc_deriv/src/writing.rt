@@ -7,8 +7,8 @@ ghost use Rattle.pc_deriv.specs.declared.version.Version.TheVariants as version;
 ghost use Rattle.pc_deriv.specs.Faults.{IsText};
 ghost use Rattle.pc_deriv.specs.Limits.{slot_limit, node_limit};
 
-use crate::digits::{push_decimal, push_hex};
 use crate::names::{cap_name, form_name, rule_name, version_name};
+use crate::number_writing::{push_decimal, push_hex};
 use crate::version::{Version, shown_after};
 use pc_ann::{Ann, Note};
 use pc_caps::{Cap, Form, List};
@@ -120,6 +120,16 @@ fn renew_masks(
     push_masks(masks, version, note)
 }
 
+/// Masks are below 2^64.
+fn show_masks_fit(note: Note)
+    ensures { text.MasksFit note }
+{
+    let _live_before = note.live_before.0;
+    let _set_before = note.set_before.0;
+    let _live_after = note.live_after.0;
+    let _set_after = note.set_after.0;
+}
+
 /// Puts the line of a node at the end, whose masks have this text.
 fn push_note(
     out: &mut Vec<u8>,
@@ -129,8 +139,9 @@ fn push_note(
 ) -> Result<(), AllocError>
     requires { masks.now ≡ text.masks_text version note }
     ensures puts { OnOk result (out.new.items ≡ out.old.items ++ text.note_line version note) }
-    ensures fits { text.NoteFits note }
+    ensures fits { OnOk result (text.NoteFits note) }
 {
+    show_masks_fit(note);
     out.extend_from_slice(b"n ")?;
     out.extend_from_slice(rule_name(note.rule).as_bytes())?;
     out.push(b' ')?;

@@ -9,7 +9,7 @@ loop-note-preserved c =
     let line = note_line c.args.version in
     let notes = c.args.notes.now in
     let i = c.loop-note.note-index in (
-      fits_more NoteFits notes i _ c.loop-note-test.true c.push_note.ensures.fits c.loop-note.invariant.0,
+      fits_more NoteFits notes i _ c.loop-note-test.true c.in_ok-push_note.ensures.fits c.loop-note.invariant.0,
       lines_more line notes i _ c.loop-note.out.items c.push_note.new.out.items (c.args.out.now.items ++ lines line notes) c.loop-note-test.true c.in_ok-push_note.ensures.puts c.loop-note.invariant.1,
       λ other e. masks_stay c.args.version _ other c.renew_masks.new.masks.items c.in_ok-renew_masks.ensures e,
     )

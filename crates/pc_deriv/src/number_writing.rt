@@ -1,6 +1,6 @@
 //! Numbers, as they are written.
 ghost use Rattle.std.specs.Fmt.{digit_glyph, digits};
-ghost use Rattle.std.specs.Prelude.{◌≡◌, ◌++◌, ◌<◌, OnOk, decimal};
+ghost use Rattle.std.specs.Prelude.{◌≡◌, ◌+◌, ◌++◌, ◌<◌, false, OnOk, decimal};
 
 use std::alloc::AllocError;
 
