@@ -1,7 +1,7 @@
 -- A number whose last digits are in a buffer.
-use Rattle.std.proofs.Common.{◌≡◌, ℕ, zero, suc, ◌+◌, ◌-◌, ◌*◌, ◌/◌, ◌%◌, ◌^◌, ◌<◌, ◌≤◌, false, List, [], ◌∷◌, ◌++◌, length, drop, set, sym, ap, ◌∙◌, subst, arith, append_assoc, append-nil}
+use Rattle.std.proofs.Common.{◌≡◌, ℕ, zero, suc, ◌+◌, ◌-◌, ◌*◌, ◌/◌, ◌%◌, ◌^◌, ◌<◌, ◌≤◌, false, List, [], ◌∷◌, ◌++◌, length, take, drop, set, sym, ap, ◌∙◌, subst, arith, append_assoc, append-nil}
 use Rattle.std.specs.Fmt.{digit_glyph, digits, decimal}
-use Rattle.std.proofs.lemmas.List.{drop-set, drop_all}
+use Rattle.std.proofs.lemmas.List.{drop-set, drop_all, take_rest}
 use Rattle.std.proofs.Math.Nat.{pow-succ'}
 use Rattle.std.proofs.lemmas.Fmt.{decimal_step, decimal_digit, hex_one_digit}
 use Rattle.pc_deriv.proofs.Digits.{hex_step}
@@ -9,6 +9,10 @@ use Rattle.pc_deriv.proofs.Digits.{hex_step}
 -- no digit is in the buffer yet
 pub no_digit : (base number at : ℕ) (buffer : List ℕ) → length buffer ≤ at → digits base false number ≡ digits base false number ++ drop at buffer
 no_digit base number at buffer past = sym (ap (λ l. digits base false number ++ l) (drop_all at buffer past) ∙ append-nil (digits base false number))
+
+-- the whole rest of a buffer of this size
+pub rest_all : (buffer : List ℕ) (size at : ℕ) → length buffer ≡ size → take (size - at) (drop at buffer) ≡ drop at buffer
+rest_all buffer size at same = ap (λ n. take (n - at) (drop at buffer)) (sym same) ∙ take_rest buffer at
 
 put_before : (buffer : List ℕ) (at digit : ℕ) → 0 < at → at ≤ length buffer → drop (at - 1) (set buffer (at - 1) digit) ≡ digit ∷ drop at buffer
 put_before buffer at digit some within =
@@ -34,10 +38,11 @@ hex_put number front at buffer high small some within so =
     so ∙ ap (λ l. l ++ drop at buffer) (hex_step front high small) ∙ moved (digits 16 false (front / 16)) (drop at buffer) digit
     ∙ ap (λ l. digits 16 false (front / 16) ++ l) (sym (put_before buffer at digit some within))
 
-pub hex_first : (number front at : ℕ) (buffer old : List ℕ) → front < 16 → digits 16 false number ≡ digits 16 false front ++ drop at buffer
-    → (old ++ digit_glyph false front ∷ []) ++ drop at buffer ≡ old ++ digits 16 false number
-hex_first number front at buffer old low so =
-    moved old (drop at buffer) (digit_glyph false front) ∙ ap (λ l. old ++ l) (sym (so ∙ ap (λ l. l ++ drop at buffer) (hex_one_digit false front low)))
+pub hex_whole : (number front at : ℕ) (buffer : List ℕ) → front < 16 → digits 16 false number ≡ digits 16 false front ++ drop at buffer → digit_glyph false front ∷ drop at buffer ≡ digits 16 false number
+hex_whole number front at buffer low so = sym (so ∙ ap (λ l. l ++ drop at buffer) (hex_one_digit false front low))
+
+pub hex_one : (number glyph : ℕ) (old new : List ℕ) → number < 16 → glyph ≡ digit_glyph false number → new ≡ old ++ glyph ∷ [] → new ≡ old ++ digits 16 false number
+hex_one number glyph old new low is puts = puts ∙ ap (λ d. old ++ d ∷ []) is ∙ ap (λ l. old ++ l) (sym (hex_one_digit false number low))
 
 -- ---- decimal
 
@@ -57,6 +62,8 @@ decimal_put number front at buffer high small some within so =
     so ∙ ap (λ l. l ++ drop at buffer) (decimal_step front high (omega arith)) ∙ moved (decimal (front / 10)) (drop at buffer) digit
     ∙ ap (λ l. decimal (front / 10) ++ l) (sym (put_before buffer at digit some within))
 
-pub decimal_first : (number front at : ℕ) (buffer old : List ℕ) → front < 10 → decimal number ≡ decimal front ++ drop at buffer → (old ++ (48 + front) ∷ []) ++ drop at buffer ≡ old ++ decimal number
-decimal_first number front at buffer old low so =
-    moved old (drop at buffer) (48 + front) ∙ ap (λ l. old ++ l) (sym (so ∙ ap (λ l. l ++ drop at buffer) (decimal_digit front low)))
+pub decimal_whole : (number front at : ℕ) (buffer : List ℕ) → front < 10 → decimal number ≡ decimal front ++ drop at buffer → (48 + front) ∷ drop at buffer ≡ decimal number
+decimal_whole number front at buffer low so = sym (so ∙ ap (λ l. l ++ drop at buffer) (decimal_digit front low))
+
+pub decimal_one : (number glyph : ℕ) (old new : List ℕ) → number < 10 → glyph ≡ 48 + number → new ≡ old ++ glyph ∷ [] → new ≡ old ++ decimal number
+decimal_one number glyph old new low is puts = puts ∙ ap (λ d. old ++ d ∷ []) is ∙ ap (λ l. old ++ l) (sym (decimal_digit number low))

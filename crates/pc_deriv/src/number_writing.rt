@@ -1,6 +1,6 @@
 //! Numbers, as they are written.
 ghost use Rattle.std.specs.Fmt.{digit_glyph, digits};
-ghost use Rattle.std.specs.Prelude.{◌≡◌, ◌+◌, ◌++◌, ◌<◌, false, OnOk, decimal};
+ghost use Rattle.std.specs.Prelude.{◌≡◌, ◌+◌, ◌∷◌, ◌++◌, ◌<◌, false, OnOk, decimal};
 
 use std::alloc::AllocError;
 
@@ -30,7 +30,16 @@ fn hex_glyph(digit: u64) -> u8
     }
 }
 
+/// Puts a byte and those after it at the end.
+fn push_row(out: &mut Vec<u8>, first: u8, rest: &[u8]) -> Result<(), AllocError>
+    ensures { OnOk result (out.new.items ≡ out.old.items ++ first ∷ rest.now) }
+{
+    out.push(first)?;
+    out.extend_from_slice(rest)
+}
+
 /// Puts a number at the end, in decimal.
+#[tactic(auto, using(crate::proofs::LastDigits::decimal_one))]
 pub fn push_decimal(out: &mut Vec<u8>, number: u32) -> Result<(), AllocError>
     ensures { OnOk result (out.new.items ≡ out.old.items ++ decimal number) }
 {
@@ -42,7 +51,7 @@ pub fn push_decimal(out: &mut Vec<u8>, number: u32) -> Result<(), AllocError>
 }
 
 /// Puts the digits of a number at the end, in decimal.
-#[tactic(auto, using(crate::proofs::LastDigits::no_digit, crate::proofs::LastDigits::decimal_room, crate::proofs::LastDigits::decimal_put, crate::proofs::LastDigits::decimal_first))]
+#[tactic(auto, using(crate::proofs::LastDigits::no_digit, crate::proofs::LastDigits::decimal_room, crate::proofs::LastDigits::decimal_put))]
 fn push_decimals(out: &mut Vec<u8>, number: u32) -> Result<(), AllocError>
     ensures { OnOk result (out.new.items ≡ out.old.items ++ decimal number) }
 {
@@ -54,11 +63,11 @@ fn push_decimals(out: &mut Vec<u8>, number: u32) -> Result<(), AllocError>
         last[at] = decimal_glyph(front % 10);
         front /= 10;
     }
-    out.push(decimal_glyph(front))?;
-    out.extend_from_slice(&last[at..])
+    push_row(out, decimal_glyph(front), &last[at..])
 }
 
 /// Puts a number at the end, in hexadecimal.
+#[tactic(auto, using(crate::proofs::LastDigits::hex_one))]
 pub fn push_hex(out: &mut Vec<u8>, number: u64) -> Result<(), AllocError>
     ensures { OnOk result (out.new.items ≡ out.old.items ++ digits 16 false number) }
 {
@@ -70,7 +79,7 @@ pub fn push_hex(out: &mut Vec<u8>, number: u64) -> Result<(), AllocError>
 }
 
 /// Puts the digits of a number at the end, in hexadecimal.
-#[tactic(auto, using(crate::proofs::LastDigits::no_digit, crate::proofs::LastDigits::hex_room, crate::proofs::LastDigits::hex_put, crate::proofs::LastDigits::hex_first))]
+#[tactic(auto, using(crate::proofs::LastDigits::no_digit, crate::proofs::LastDigits::hex_room, crate::proofs::LastDigits::hex_put))]
 fn push_hexes(out: &mut Vec<u8>, number: u64) -> Result<(), AllocError>
     ensures { OnOk result (out.new.items ≡ out.old.items ++ digits 16 false number) }
 {
@@ -82,6 +91,5 @@ fn push_hexes(out: &mut Vec<u8>, number: u64) -> Result<(), AllocError>
         last[at] = hex_glyph(front % 16);
         front /= 16;
     }
-    out.push(hex_glyph(front))?;
-    out.extend_from_slice(&last[at..])
+    push_row(out, hex_glyph(front), &last[at..])
 }
