@@ -1,2 +1,3 @@
 pub mod Homes
 mod Keys
+mod EntitySets

@@ -9,3 +9,7 @@ pub mod Nodes
 pub mod Formed
 pub mod Members
 pub mod Growing
+pub mod Chain
+pub mod Conforms
+pub mod EntitySets
+pub mod Conforming

@@ -4,6 +4,7 @@ ghost use Rattle.std.specs.Option.{option_copied};
 ghost use Rattle.pc_core.specs.Formed.{Formed};
 
 use crate::declarations::{EntityDef, Method};
+use crate::entity_set::EntitySet;
 use crate::index::MethodIndex;
 use crate::nodes::{Node, Slot};
 use pc_caps::List;
@@ -20,10 +21,13 @@ pub struct Core {
     names: List<List<u8>>,
     // Where there is an index, it is that of all the methods.
     pub(crate) index: Option<MethodIndex>,
+    // Where there is a table of what conforms to what, it is right.
+    pub(crate) conforming: Option<List<EntitySet>>,
 }
 
 impl Model for Core {
     ghost use Rattle.pc_core.specs.CoreData.{CoreData};
+    ghost use Rattle.pc_core.specs.Conforming.{TellsConforming};
     ghost use Rattle.pc_core.specs.Formed.{Formed};
     ghost use Rattle.pc_core.specs.MethodKeys.{method_key};
     ghost use Rattle.std.specs.Prelude.{◌≡◌, IfSome, map};
@@ -32,7 +36,7 @@ impl Model for Core {
 
     ghost view = { λ a. record { entities = a.entities; methods = a.methods; slots = a.slots; nodes = a.nodes; names = a.names } };
 
-    ghost invariant = { λ a. Formed (record { entities = a.entities; methods = a.methods; slots = a.slots; nodes = a.nodes; names = a.names }) × IfSome a.index (λ keys. keys ≡ map method_key a.methods) };
+    ghost invariant = { λ a. Formed (record { entities = a.entities; methods = a.methods; slots = a.slots; nodes = a.nodes; names = a.names }) × IfSome a.index (λ keys. keys ≡ map method_key a.methods) × IfSome a.conforming (TellsConforming (record { entities = a.entities; methods = a.methods; slots = a.slots; nodes = a.nodes; names = a.names })) };
 }
 
 impl Core {
@@ -54,6 +58,7 @@ impl Core {
             nodes,
             names,
             index: None,
+            conforming: None,
         }
     }
 

@@ -4,12 +4,15 @@
 //! there, `method` with an index of the methods as without one. How long a look-up takes is not proved.
 #![tactic(auto)]
 
+mod conforming;
 mod cores;
 mod declarations;
+mod entity_set;
 mod index;
 mod lookup;
 mod nodes;
 
 pub use cores::Core;
 pub use declarations::{EntityDef, FieldInfo, Method, MethodKind, ParamInfo};
+pub use entity_set::EntitySet;
 pub use nodes::{Node, NodeKind, Slot, SlotKind};

@@ -20,6 +20,7 @@ use pc_file_spec::cores_are_formed;
 use pc_members::{Member, list_members};
 use pc_names::{NameFault, Names};
 use pc_resolve::{Context, LocalSlots};
+use pc_sub::tabulate;
 use pc_text_order::names_are_in_order;
 use pc_tree::File;
 use std::alloc::{AllocError, Global};
@@ -125,7 +126,7 @@ pub(crate) fn make(alloc: Global, file: &File, names: &Names) -> Result<Made, Na
     make_with(alloc, file, names, table.as_slice())
 }
 
-// The core of what was made, with an index of its methods.
+// The core of what was made, with its tables.
 fn finish(alloc: Global, made: Made) -> Result<Core, AllocError>
     requires { Formed (spec.made_view made) }
     ensures { IfOk result (λ c. c ≡ spec.made_view made) }
@@ -141,7 +142,7 @@ fn finish(alloc: Global, made: Made) -> Result<Core, AllocError>
         nodes,
     } = parts;
     let mut core = Core::from_parts(entities, methods, slots, nodes, names);
-    core.index_methods(alloc).and(Ok(core))
+    tabulate(alloc, &mut core).and(Ok(core))
 }
 
 /// The core of a file whose names were collected. It is `Err` exactly where a member of the file has a fault, and then it

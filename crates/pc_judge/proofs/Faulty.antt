@@ -17,7 +17,7 @@ use Rattle.pc_lists.specs.Places.{Each}
 use Rattle.pc_core.specs.Entities.{print_method}
 use Rattle.pc_ann.specs.declared.annotation.Note.{Note}
 use Rattle.pc_ann.specs.declared.annotation.Rule.TheVariants as rule
-use Rattle.pc_sub.specs.Conforms.{Conforms}
+use Rattle.pc_core.specs.Conforms.{Conforms}
 use Rattle.pc_sub.specs.Declarations.{TakesSendable, DeclOk}
 use Rattle.pc_rules.specs.declared.said.Said.{Said}
 use Rattle.pc_rules.specs.Parts.{constructs, full}

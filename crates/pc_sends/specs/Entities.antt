@@ -5,7 +5,7 @@ use Rattle.pc_core.specs.declared.declarations.EntityDef.{EntityDef}
 use Rattle.pc_core.specs.CoreData.{CoreData}
 use Rattle.pc_core.specs.Entities.{IsAbstract}
 use Rattle.pc_lists.specs.Places.{Has}
-use Rattle.pc_sub.specs.Conforms.{Conforms}
+use Rattle.pc_core.specs.Conforms.{Conforms}
 
 -- The entities are the same, or the second is a trait or an interface to which the first conforms, by its methods.
 abbrev pub IsOne : CoreData → (entity other : ℕ) → Type 0

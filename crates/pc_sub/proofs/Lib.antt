@@ -3,3 +3,7 @@ pub mod Computed
 pub mod Counts
 pub mod Searched
 pub mod Turns
+pub mod StandsAlike
+pub mod Grouping
+pub mod Serving
+pub mod Telling

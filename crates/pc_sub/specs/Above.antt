@@ -8,7 +8,8 @@ use Rattle.pc_core.specs.CoreData.{CoreData}
 use Rattle.pc_lists.specs.Places.{Has}
 use Rattle.pc_core.specs.Entities.{Leads, one, more}
 use Rattle.pc_core.specs.Formed.{Formed}
-use Rattle.pc_sub.specs.Chain.{Chain, is_in, above_in, is_chain}
+use Rattle.pc_core.specs.Chain.{Chain}
+use Rattle.pc_sub.specs.Chain.{is_in, above_in, is_chain}
 use Rattle.pc_lists.proofs.Bools.{false_true}
 
 -- A chain begins at an entity that is there.

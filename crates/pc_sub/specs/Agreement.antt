@@ -9,6 +9,7 @@ use Rattle.pc_core.specs.CoreData.{CoreData}
 use Rattle.pc_core.specs.Formed.{Formed}
 use Rattle.pc_sub.specs.declared.faults.DeclFault.{DeclFault}
 use Rattle.pc_sub.specs.Chain.{is_chain}
+use Rattle.pc_core.specs.Conforms.{Conforms}
 use Rattle.pc_sub.specs.Conforms as conform
 use Rattle.pc_sub.specs.Sub.{IsInterface, Sub, is_interface, is_sub}
 use Rattle.pc_sub.specs.Above.{is_chain_iff}
@@ -18,7 +19,7 @@ none_is : (o : Option DeclFault) → is_none o ≡ true → o ≡ None
 none_is None e = refl
 none_is (Some x) e = absurd (false_true e)
 
-pub conforms_iff : (core : CoreData) (e b : ℕ) → Formed core → (IsTrue (conform.conforms core e b)) ↔ (conform.Conforms core e b)
+pub conforms_iff : (core : CoreData) (e b : ℕ) → Formed core → (IsTrue (conform.conforms core e b)) ↔ (Conforms core e b)
 conforms_iff core e b f = (
   λ h. conforms core e b (slice_get core.entities b) f refl (none_is _ h),
   λ h. ap is_none (conformed core e b (slice_get core.entities b) f refl h),

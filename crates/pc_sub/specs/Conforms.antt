@@ -1,7 +1,7 @@
--- When an entity has what a trait or an interface declares, and what is wrong of it where it has not.
-use Rattle.std.specs.Prelude.{◌≡◌, ℕ, ◌+◌, Bool, true, false, ◌&&◌, List, [], ◌∷◌, ◌++◌, length, Option, Some, None, slice_get, if◌then◌else◌}
+-- What is wrong of an entity that does not have what a trait or an interface declares: `Conforms`, as it is computed.
+use Rattle.std.specs.Prelude.{ℕ, ◌+◌, Bool, true, false, ◌&&◌, List, [], ◌∷◌, ◌++◌, Option, Some, None, slice_get, if◌then◌else◌}
 use Rattle.std.specs.Option.{is_none}
-use Rattle.pc_caps.specs.Order.{IsBelow, is_below}
+use Rattle.pc_caps.specs.Order.{is_below}
 use Rattle.pc_caps.specs.Tables.{unalias, fits}
 use Rattle.pc_core.specs.declared.declarations.EntityDef.{EntityDef}
 use Rattle.pc_core.specs.declared.declarations.Method.{Method}
@@ -9,39 +9,13 @@ use Rattle.pc_core.specs.declared.declarations.MethodKind.{MethodKind}
 use Rattle.pc_core.specs.declared.declarations.MethodKind.TheVariants as method
 use Rattle.pc_core.specs.declared.declarations.ParamInfo.{ParamInfo}
 use Rattle.pc_core.specs.CoreData.{CoreData}
-use Rattle.pc_lists.specs.Places.{Each}
 use Rattle.pc_lists.specs.Options.{◌>>=◌}
-use Rattle.pc_core.specs.Lookup.{own_methods, method_named, IsMethod}
+use Rattle.pc_core.specs.Lookup.{own_methods, method_named}
 use Rattle.pc_sub.specs.declared.faults.DeclFault.{DeclFault}
 use Rattle.pc_sub.specs.declared.faults.DeclFault.TheVariants as fault
-use Rattle.pc_sub.specs.Chain.{Chain, is_chain}
+use Rattle.pc_sub.specs.Chain.{is_chain}
 
--- ---- what fits
-
--- What a declared method takes at a parameter, the entity's method takes too. Here and below entities are compared by
--- chains of `is` alone, and not by their methods.
-abbrev pub ParamFits : CoreData → ParamInfo → ParamInfo → Type 0
-ParamFits core p q = Chain core p.entity q.entity × IsBelow (unalias p.cap) (unalias q.cap)
-
--- The entity's method y may stand for the method t of a trait or an interface.
-pub record StandsFor (core : CoreData) (t y : Method) : Type 0 where
-  pub count : length y.params ≡ length t.params
-  pub receiver : IsBelow (unalias t.receiver) (unalias y.receiver)
-  pub params : Each (λ i p. (q : ParamInfo) → slice_get y.params i ≡ Some q → ParamFits core p q) t.params
-  pub entity : Chain core y.result.0 t.result.0
-  pub form : IsBelow y.result.1 t.result.1
-
--- The entity has a method of the name and kind of method t, and it may stand for t.
-abbrev pub HasFor : CoreData → ℕ → Method → Type 0
-HasFor core e t = (m : ℕ) × (y : Method) × (IsMethod core e t.name m) × (slice_get core.methods m ≡ Some y) × (y.kind ≡ t.kind) × StandsFor core t y
-
--- An entity conforms to a trait or an interface: it has a method for each of the methods there. To one without methods
--- each entity conforms.
-abbrev pub Conforms : CoreData → (entity above : ℕ) → Type 0
-Conforms core e b = (x : EntityDef) → slice_get core.entities b ≡ Some x → Each (λ i t. HasFor core e t) (own_methods core x)
-
--- ---- what is wrong of an entity
-
+-- A parameter of the declared method fits that of the entity's method.
 abbrev pub param_fits : CoreData → ParamInfo → ParamInfo → Bool
 param_fits core p q = is_chain core p.entity q.entity && fits (unalias p.cap) q.cap
 

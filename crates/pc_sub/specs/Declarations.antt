@@ -13,7 +13,8 @@ use Rattle.pc_core.specs.CoreData.{CoreData}
 use Rattle.pc_lists.specs.Places.{Each}
 use Rattle.pc_sub.specs.declared.faults.DeclFault.{DeclFault}
 use Rattle.pc_sub.specs.declared.faults.DeclFault.TheVariants as fault
-use Rattle.pc_sub.specs.Conforms.{Conforms, conform_faults}
+use Rattle.pc_core.specs.Conforms.{Conforms}
+use Rattle.pc_sub.specs.Conforms.{conform_faults}
 
 -- The result of a class's constructor that its parameters must be sendable for.
 abbrev pub isolates : Form → Bool

@@ -22,6 +22,7 @@ use Rattle.pc_lists.proofs.Options.{bind_some}
 use Rattle.pc_sub.specs.declared.faults.DeclFault.{DeclFault}
 use Rattle.pc_sub.specs.declared.faults.DeclFault.TheVariants as fault
 use Rattle.pc_sub.specs.Above.{is_chain_iff}
+use Rattle.pc_core.specs.Conforms.{ParamFits, StandsFor, HasFor, Conforms}
 use Rattle.pc_sub.specs.Conforms as conform
 use Rattle.pc_sub.specs.Declarations as spec
 use Rattle.pc_sub.specs.DeclarationLaws.{NoFaultWhereFit}
@@ -89,15 +90,15 @@ all_take m (y ∷ ys) h =
 
 -- ---- a method that stands for another
 
-fits_param : (core : CoreData) (p q : ParamInfo) → Formed core → conform.param_fits core p q ≡ true → conform.ParamFits core p q
+fits_param : (core : CoreData) (p q : ParamInfo) → Formed core → conform.param_fits core p q ≡ true → ParamFits core p q
 fits_param core p q f e = let k = and_parts _ _ e in ((is_chain_iff core p.entity q.entity f).0 k.0, (below_iff (unalias p.cap) (unalias q.cap)).0 k.1)
 
-param_fit : (core : CoreData) (p q : ParamInfo) → Formed core → conform.ParamFits core p q → conform.param_fits core p q ≡ true
+param_fit : (core : CoreData) (p q : ParamInfo) → Formed core → ParamFits core p q → conform.param_fits core p q ≡ true
 param_fit core p q f h = and_from _ _ ((is_chain_iff core p.entity q.entity f).1 h.0) ((below_iff (unalias p.cap) (unalias q.cap)).1 h.1)
 
 -- Each parameter of the declared method fits the one at its place.
 abbrev ParamsFit : CoreData → List ParamInfo → List ParamInfo → Type 0
-ParamsFit core ps qs = Each (λ i p. (q : ParamInfo) → slice_get qs i ≡ Some q → conform.ParamFits core p q) ps
+ParamsFit core ps qs = Each (λ i p. (q : ParamInfo) → slice_get qs i ≡ Some q → ParamFits core p q) ps
 
 fit_count : (core : CoreData) (ps qs : List ParamInfo) → conform.params_fit core ps qs ≡ true → length qs ≡ length ps
 fit_count core [] [] e = refl
@@ -110,7 +111,7 @@ fit_each core [] qs f e i p g = absurd (none-some p g)
 fit_each core (r ∷ ps) [] f e i p g = cc e
 fit_each core (r ∷ ps) (s ∷ qs) f e zero p g = λ q h.
     let k = fits_param core r s f (and_parts _ _ e).0 in
-    subst (λ (z : ParamInfo). conform.ParamFits core p z) (same_Some s q h) (subst (λ (z : ParamInfo). conform.ParamFits core z s) (same_Some r p g) k)
+    subst (λ (z : ParamInfo). ParamFits core p z) (same_Some s q h) (subst (λ (z : ParamInfo). ParamFits core z s) (same_Some r p g) k)
 fit_each core (r ∷ ps) (s ∷ qs) f e (suc i) p g = fit_each core ps qs f (and_parts _ _ e).1 i p g
 
 each_fit : (core : CoreData) (ps qs : List ParamInfo) → Formed core → length qs ≡ length ps → ParamsFit core ps qs → conform.params_fit core ps qs ≡ true
@@ -121,7 +122,7 @@ each_fit core (p ∷ ps) (q ∷ qs) f l h =
     let m : length qs ≡ length ps = omega (arith, l) in
     and_from _ _ (param_fit core p q f (h 0 p refl q refl)) (each_fit core ps qs f m (λ i r g. h (suc i) r g))
 
-stands : (core : CoreData) (t y : Method) → Formed core → conform.stands_for core t y ≡ true → conform.StandsFor core t y
+stands : (core : CoreData) (t y : Method) → Formed core → conform.stands_for core t y ≡ true → StandsFor core t y
 stands core t y f e =
     let k = and_parts _ _ e in
     let a = and_parts _ _ k.0 in
@@ -134,7 +135,7 @@ stands core t y f e =
       form = (below_iff y.result.1 t.result.1).0 b.1;
     }
 
-stood : (core : CoreData) (t y : Method) → Formed core → conform.StandsFor core t y → conform.stands_for core t y ≡ true
+stood : (core : CoreData) (t y : Method) → Formed core → StandsFor core t y → conform.stands_for core t y ≡ true
 stood core t y f s =
     and_from _ _
     (and_from _ _ ((below_iff (unalias t.receiver) (unalias y.receiver)).1 s.receiver) (each_fit core t.params y.params f s.count s.params))
@@ -182,7 +183,7 @@ one_method core e name m k f h i =
     let lower = b.0 in
     omega (arith, same, low, lower)
 
-like_has : (core : CoreData) (e n : ℕ) (t : Method) (o : Option (ℕ × Method)) → Formed core → conform.method_like core e t ≡ o → Clean (conform.method_faults core e n t o) → conform.HasFor core e t
+like_has : (core : CoreData) (e n : ℕ) (t : Method) (o : Option (ℕ × Method)) → Formed core → conform.method_like core e t ≡ o → Clean (conform.method_faults core e n t o) → HasFor core e t
 like_has core e n t None f g c = absurd (none-some (fault.MissingMethod e n) (sym c))
 like_has core e n t (Some z) f g c =
     let a = bind_some (method_named core e t.name) _ z g in
@@ -190,7 +191,7 @@ like_has core e n t (Some z) f g c =
     let k = cond_some (conform.same_kind b.0.kind t.kind) (a.0, b.0) z b.2 in
     let y : b.0 ≡ z.1 = ap (λ (p : ℕ × Method). p.1) k.1 in
     let s = stands core t z.1 f (unless (conform.stands_for core t z.1) _ c) in
-    (a.0, b.0, method_found core e t.name a.0 f a.1, b.1, kinds_equal b.0.kind t.kind k.0, subst (λ (w : Method). conform.StandsFor core t w) (sym y) s)
+    (a.0, b.0, method_found core e t.name a.0 f a.1, b.1, kinds_equal b.0.kind t.kind k.0, subst (λ (w : Method). StandsFor core t w) (sym y) s)
 
 -- What is found by a name.
 named_like : (core : CoreData) (e m : ℕ) (t y : Method) → method_named core e t.name ≡ Some m → slice_get core.methods m ≡ Some y → y.kind ≡ t.kind → conform.method_like core e t ≡ Some (m, y)
@@ -204,7 +205,7 @@ named : (core : CoreData) (e name m : ℕ) (o : Option ℕ) → Formed core → 
 named core e name m None f g h = absurd (method_missed core e name f g m (get_below core.methods m h.0 h.1) h)
 named core e name m (Some k) f g h = ap Some (one_method core e name k m f (method_found core e name k f g) h)
 
-has_like : (core : CoreData) (e n : ℕ) (t : Method) → Formed core → conform.HasFor core e t → Clean (conform.method_faults core e n t (conform.method_like core e t))
+has_like : (core : CoreData) (e n : ℕ) (t : Method) → Formed core → HasFor core e t → Clean (conform.method_faults core e n t (conform.method_like core e t))
 has_like core e n t f h =
     let g : method_named core e t.name ≡ Some h.0 = named core e t.name h.0 (method_named core e t.name) f refl h.2 in
     subst (λ o. Clean (conform.method_faults core e n t o)) (sym (named_like core e h.0 t h.1 g h.3 h.4))
@@ -212,57 +213,57 @@ has_like core e n t f h =
 
 -- ---- traits and interfaces
 
-trait_has : (core : CoreData) (e n : ℕ) (ts : List Method) → Formed core → Clean (conform.trait_faults core e n ts) → Each (λ i t. conform.HasFor core e t) ts
+trait_has : (core : CoreData) (e n : ℕ) (ts : List Method) → Formed core → Clean (conform.trait_faults core e n ts) → Each (λ i t. HasFor core e t) ts
 trait_has core e n [] f c i t g = absurd (none-some t g)
-trait_has core e n (s ∷ ts) f c zero t g = subst (conform.HasFor core e) (same_Some s t g) (like_has core e n s (conform.method_like core e s) f refl (both _ _ c).0)
+trait_has core e n (s ∷ ts) f c zero t g = subst (HasFor core e) (same_Some s t g) (like_has core e n s (conform.method_like core e s) f refl (both _ _ c).0)
 trait_has core e n (s ∷ ts) f c (suc i) t g = trait_has core e (n + 1) ts f (both _ _ c).1 i t g
 
-has_trait : (core : CoreData) (e n : ℕ) (ts : List Method) → Formed core → Each (λ i t. conform.HasFor core e t) ts → Clean (conform.trait_faults core e n ts)
+has_trait : (core : CoreData) (e n : ℕ) (ts : List Method) → Formed core → Each (λ i t. HasFor core e t) ts → Clean (conform.trait_faults core e n ts)
 has_trait core e n [] f h = refl
 has_trait core e n (s ∷ ts) f h = together _ _ (has_like core e n s f (h 0 s refl)) (has_trait core e (n + 1) ts f (λ i t g. h (suc i) t g))
 
-pub conforms : (core : CoreData) (e b : ℕ) (o : Option EntityDef) → Formed core → slice_get core.entities b ≡ o → Clean (conform.conform_faults core e o) → conform.Conforms core e b
+pub conforms : (core : CoreData) (e b : ℕ) (o : Option EntityDef) → Formed core → slice_get core.entities b ≡ o → Clean (conform.conform_faults core e o) → Conforms core e b
 conforms core e b None f g c x h = absurd (none-some x (sym g ∙ h))
-conforms core e b (Some y) f g c x h = subst (λ (z : EntityDef). Each (λ i t. conform.HasFor core e t) (own_methods core z)) (same_Some y x (sym g ∙ h)) (trait_has core e y.first_method (own_methods core y) f c)
+conforms core e b (Some y) f g c x h = subst (λ (z : EntityDef). Each (λ i t. HasFor core e t) (own_methods core z)) (same_Some y x (sym g ∙ h)) (trait_has core e y.first_method (own_methods core y) f c)
 
-pub conformed : (core : CoreData) (e b : ℕ) (o : Option EntityDef) → Formed core → slice_get core.entities b ≡ o → conform.Conforms core e b → Clean (conform.conform_faults core e o)
+pub conformed : (core : CoreData) (e b : ℕ) (o : Option EntityDef) → Formed core → slice_get core.entities b ≡ o → Conforms core e b → Clean (conform.conform_faults core e o)
 conformed core e b None f g h = refl
 conformed core e b (Some y) f g h = has_trait core e y.first_method (own_methods core y) f (h y g)
 
-list_conforms : (core : CoreData) (e : ℕ) (bs : List ℕ) → Formed core → Clean (spec.list_faults core e bs) → Each (λ i b. conform.Conforms core e b) bs
+list_conforms : (core : CoreData) (e : ℕ) (bs : List ℕ) → Formed core → Clean (spec.list_faults core e bs) → Each (λ i b. Conforms core e b) bs
 list_conforms core e [] f c i b g = absurd (none-some b g)
-list_conforms core e (a ∷ bs) f c zero b g = subst (conform.Conforms core e) (same_Some a b g) (conforms core e a (slice_get core.entities a) f refl (both _ _ c).0)
+list_conforms core e (a ∷ bs) f c zero b g = subst (Conforms core e) (same_Some a b g) (conforms core e a (slice_get core.entities a) f refl (both _ _ c).0)
 list_conforms core e (a ∷ bs) f c (suc i) b g = list_conforms core e bs f (both _ _ c).1 i b g
 
-list_conformed : (core : CoreData) (e : ℕ) (bs : List ℕ) → Formed core → Each (λ i b. conform.Conforms core e b) bs → Clean (spec.list_faults core e bs)
+list_conformed : (core : CoreData) (e : ℕ) (bs : List ℕ) → Formed core → Each (λ i b. Conforms core e b) bs → Clean (spec.list_faults core e bs)
 list_conformed core e [] f h = refl
 list_conformed core e (a ∷ bs) f h = together _ _ (conformed core e a (slice_get core.entities a) f refl (h 0 a refl)) (list_conformed core e bs f (λ i b g. h (suc i) b g))
 
 -- Entities, from number n on.
-all_conform : (core : CoreData) (n : ℕ) (xs : List EntityDef) → Formed core → Clean (spec.entity_faults core n xs) → Each (λ e x. Each (λ i b. conform.Conforms core (n + e) b) x.provides) xs
+all_conform : (core : CoreData) (n : ℕ) (xs : List EntityDef) → Formed core → Clean (spec.entity_faults core n xs) → Each (λ e x. Each (λ i b. Conforms core (n + e) b) x.provides) xs
 all_conform core n [] f c e x g = absurd (none-some x g)
 all_conform core n (y ∷ ys) f c zero x g =
     let at : n ≡ n + 0 = omega arith in
-    subst (λ (z : EntityDef). Each (λ i b. conform.Conforms core (n + 0) b) z.provides) (same_Some y x g)
-    (subst (λ k. Each (λ i b. conform.Conforms core k b) y.provides) at (list_conforms core n y.provides f (both _ _ c).0))
+    subst (λ (z : EntityDef). Each (λ i b. Conforms core (n + 0) b) z.provides) (same_Some y x g)
+    (subst (λ k. Each (λ i b. Conforms core k b) y.provides) at (list_conforms core n y.provides f (both _ _ c).0))
 all_conform core n (y ∷ ys) f c (suc e) x g =
     let at : n + 1 + e ≡ n + suc e = omega arith in
-    subst (λ k. Each (λ i b. conform.Conforms core k b) x.provides) at (all_conform core (n + 1) ys f (both _ _ c).1 e x g)
+    subst (λ k. Each (λ i b. Conforms core k b) x.provides) at (all_conform core (n + 1) ys f (both _ _ c).1 e x g)
 
-conform_all : (core : CoreData) (n : ℕ) (xs : List EntityDef) → Formed core → Each (λ e x. Each (λ i b. conform.Conforms core (n + e) b) x.provides) xs → Clean (spec.entity_faults core n xs)
+conform_all : (core : CoreData) (n : ℕ) (xs : List EntityDef) → Formed core → Each (λ e x. Each (λ i b. Conforms core (n + e) b) x.provides) xs → Clean (spec.entity_faults core n xs)
 conform_all core n [] f h = refl
 conform_all core n (y ∷ ys) f h =
     let at : n + 0 ≡ n = omega arith in
-    together _ _ (list_conformed core n y.provides f (subst (λ k. Each (λ i b. conform.Conforms core k b) y.provides) at (h 0 y refl)))
-    (conform_all core (n + 1) ys f (λ e x g. let next : n + suc e ≡ n + 1 + e = omega arith in subst (λ k. Each (λ i b. conform.Conforms core k b) x.provides) next (h (suc e) x g)))
+    together _ _ (list_conformed core n y.provides f (subst (λ k. Each (λ i b. Conforms core k b) y.provides) at (h 0 y refl)))
+    (conform_all core (n + 1) ys f (λ e x g. let next : n + suc e ≡ n + 1 + e = omega arith in subst (λ k. Each (λ i b. Conforms core k b) x.provides) next (h (suc e) x g)))
 
 -- ---- all declarations
 
 pub fits_without_fault : NoFaultWhereFit
 fits_without_fault core f = (
   λ c. let k = both (spec.parameter_faults 0 core.methods) (spec.entity_faults core 0 core.entities) c in
-      record { sendable = takes_all 0 core.methods k.0; conform = λ e x g. let at : 0 + e ≡ e = omega arith in subst (λ n. Each (λ i b. conform.Conforms core n b) x.provides) at (all_conform core 0 core.entities f k.1 e x g) },
-  λ d. together (spec.parameter_faults 0 core.methods) (spec.entity_faults core 0 core.entities) (all_take 0 core.methods d.sendable) (conform_all core 0 core.entities f (λ e x g. let at : e ≡ 0 + e = omega arith in subst (λ n. Each (λ i b. conform.Conforms core n b) x.provides) at (d.conform e x g))),
+      record { sendable = takes_all 0 core.methods k.0; conform = λ e x g. let at : 0 + e ≡ e = omega arith in subst (λ n. Each (λ i b. Conforms core n b) x.provides) at (all_conform core 0 core.entities f k.1 e x g) },
+  λ d. together (spec.parameter_faults 0 core.methods) (spec.entity_faults core 0 core.entities) (all_take 0 core.methods d.sendable) (conform_all core 0 core.entities f (λ e x g. let at : e ≡ 0 + e = omega arith in subst (λ n. Each (λ i b. Conforms core n b) x.provides) at (d.conform e x g))),
 )
 
 -- Declarations that fail do not fit.

@@ -7,3 +7,6 @@ pub mod Above
 pub mod Faults
 pub mod Agreement
 pub mod Example
+pub mod Alike
+pub mod Groups
+pub mod Tables

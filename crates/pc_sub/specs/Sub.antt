@@ -4,8 +4,10 @@ use Rattle.pc_tree.specs.declared.kinds.EntityKind.{EntityKind}
 use Rattle.pc_tree.specs.declared.kinds.EntityKind.TheVariants as kind
 use Rattle.pc_core.specs.declared.declarations.EntityDef.{EntityDef}
 use Rattle.pc_core.specs.CoreData.{CoreData}
-use Rattle.pc_sub.specs.Chain.{Chain, is_chain}
-use Rattle.pc_sub.specs.Conforms.{Conforms, conforms}
+use Rattle.pc_core.specs.Chain.{Chain}
+use Rattle.pc_core.specs.Conforms.{Conforms}
+use Rattle.pc_sub.specs.Chain.{is_chain}
+use Rattle.pc_sub.specs.Conforms.{conforms}
 
 -- Of these kinds an entity is below another that does not name it: by its methods.
 abbrev pub is_structural : EntityKind → Bool

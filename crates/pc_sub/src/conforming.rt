@@ -1,5 +1,6 @@
 //! Whether an entity has what a trait or an interface declares.
 ghost use Rattle.std.specs.Prelude.{◌≡◌, ◌↔◌, IsTrue, ◌+◌, ◌<◌, ◌≤◌, ◌^◌, length, slice_get};
+ghost use Rattle.pc_core.specs.Conforms.{Conforms};
 ghost use Rattle.pc_core.specs.Lookup.{own_methods};
 ghost use Rattle.pc_sub.specs.Conforms as spec;
 
@@ -9,21 +10,23 @@ use pc_core::{Core, EntityDef, Method};
 
 /// Whether an entity conforms to the trait or interface `above`: for each method there it has one of the same name and kind
 /// that may be called in its place, where entities are compared by chains of `is` alone. It is true of every entity if
-/// `above` has no methods. Takes no memory.
-#[tactic(auto, using(crate::specs::Agreement::conforms_iff))]
+/// `above` has no methods. Takes no memory, and of a core with its tables (`tabulate`) a time that does not grow.
 pub fn conforms(core: &Core, entity: u32, above: u32) -> bool
-    ensures methods { IsTrue result ↔ spec.Conforms core.now entity above }
+    ensures methods { IsTrue result ↔ Conforms core.now entity above }
     ensures value { result ≡ spec.conforms core.now entity above }
 {
     core.formed();
-    nothing_is_wrong(core, entity, above)
+    match core.known_to_conform(entity, above) {
+        Some(known) => known,
+        None => nothing_is_wrong(core, entity, above),
+    }
 }
 
 // The same, as it is computed.
 fn nothing_is_wrong(core: &Core, entity: u32, above: u32) -> bool
     ensures { result ≡ spec.conforms core.now entity above }
 {
-    conform_fault(core, entity, above).is_none()
+    first_fault(core, entity, above).is_none()
 }
 
 // What is wrong of an entity at a declared method, which has this number.
@@ -78,13 +81,24 @@ fn methods_of<'c>(core: &'c Core, entity: &EntityDef) -> &'c [Method]
     &core.methods()[first..first + entity.methods as usize]
 }
 
-// What is first wrong of an entity at a trait or an interface.
-pub(crate) fn conform_fault(core: &Core, entity: u32, above: u32) -> Option<DeclFault>
+// What is first wrong of an entity at a trait or an interface, found by going through the methods there.
+fn first_fault(core: &Core, entity: u32, above: u32) -> Option<DeclFault>
     ensures { result ≡ slice_get (spec.conform_faults core.now entity (slice_get core.now.entities above)) 0 }
 {
     core.formed();
     match core.entity_at(above) {
         None => None,
         Some(found) => trait_fault(core, entity, found.first_method, methods_of(core, found)),
+    }
+}
+
+// What is first wrong of an entity at a trait or an interface.
+pub(crate) fn conform_fault(core: &Core, entity: u32, above: u32) -> Option<DeclFault>
+    ensures { result ≡ slice_get (spec.conform_faults core.now entity (slice_get core.now.entities above)) 0 }
+{
+    if conforms(core, entity, above) {
+        None
+    } else {
+        first_fault(core, entity, above)
     }
 }

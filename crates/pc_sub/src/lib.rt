@@ -2,18 +2,23 @@
 //!
 //! Proved: `is_sub` is the order between entities, by chains of `is` and, below an interface, by the methods that an entity
 //! has. `conforms` says exactly where it has them. `declarations` is Ok exactly where the declarations fit, and else names
-//! the first that does not.
+//! the first that does not. `tabulate` gives a core its tables, and `is_sub`, `conforms` and `declarations` answer the same
+//! with them as without; how long they take is not proved.
 #![tactic(auto)]
 
+mod alike;
 mod chains;
 mod checks;
 mod conforming;
 mod examples;
 mod faults;
+mod groups;
 mod laws;
 mod parameters;
+mod serving;
 mod stands;
 mod subtypes;
+mod tables;
 mod traits;
 
 pub use checks::declarations;
@@ -22,3 +27,4 @@ pub use examples::{faults_of_small_declarations, subtypes_of_small_declarations}
 pub use faults::DeclFault;
 pub use laws::no_fault_where_declarations_fit;
 pub use subtypes::is_sub;
+pub use tables::tabulate;

@@ -21,8 +21,8 @@ use Rattle.pc_lists.proofs.Bools.{false_true}
 use Rattle.pc_lists.proofs.Options.{bind_some}
 use Rattle.pc_lists.proofs.Lookup.{place_found}
 use Rattle.pc_core.specs.Formed.{Formed}
-use Rattle.pc_sub.specs.Chain.{Chain}
-use Rattle.pc_sub.specs.Conforms.{ParamFits, StandsFor, HasFor, Conforms}
+use Rattle.pc_core.specs.Chain.{Chain}
+use Rattle.pc_core.specs.Conforms.{ParamFits, StandsFor, HasFor, Conforms}
 use Rattle.pc_sub.specs.Sub.{Sub, IsInterface, is_structural}
 use Rattle.pc_sub.specs.Declarations.{DeclOk}
 use Rattle.pc_types.proofs.Under.{Under}

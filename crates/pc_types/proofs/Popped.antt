@@ -11,7 +11,7 @@ use Rattle.pc_core.specs.CoreData.{CoreData}
 use Rattle.pc_lists.specs.Places.{Each}
 use Rattle.pc_ann.specs.declared.annotation.Ann.{Ann}
 use Rattle.pc_semantics.specs.Around.{popped}
-use Rattle.pc_sub.specs.Conforms.{ParamFits}
+use Rattle.pc_core.specs.Conforms.{ParamFits}
 use Rattle.pc_rules.specs.Parts.{Ty, type_of, last_child}
 use Rattle.pc_rules.specs.Calls.{argument_goes}
 use Rattle.pc_rules.proofs.ByNumber.{arguments, arguments_go}

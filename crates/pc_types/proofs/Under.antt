@@ -2,7 +2,7 @@
 use Rattle.std.specs.Prelude.{◌≡◌, ◌⊎◌, ℕ}
 use Rattle.pc_core.specs.CoreData.{CoreData}
 use Rattle.pc_core.specs.Entities.{IsAbstract}
-use Rattle.pc_sub.specs.Conforms.{Conforms}
+use Rattle.pc_core.specs.Conforms.{Conforms}
 
 -- It is that entity, or conforms to it, which is a trait or an interface. Other than the order on entities this is
 -- transitive; and where the declarations fit, what is below an entity is so.

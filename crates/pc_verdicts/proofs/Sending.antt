@@ -28,7 +28,8 @@ use Rattle.pc_sends.specs.Tables.{IsLater, IsNever, IsOfActor, IsOwnActor, IsTab
 use Rattle.pc_sends.specs.Uses.{Aims, MayCall, Uses, is_called, noted_receiver}
 use Rattle.pc_sends.specs.declared.table.Row.{Row}
 use Rattle.pc_sends.specs.declared.table.Table.{Table}
-use Rattle.pc_sub.specs.Conforms.{Conforms, conform_faults}
+use Rattle.pc_core.specs.Conforms.{Conforms}
+use Rattle.pc_sub.specs.Conforms.{conform_faults}
 use Rattle.pc_sub.specs.Faults.{conformed, conforms}
 use Rattle.pc_sub.specs.declared.faults.DeclFault.{DeclFault}
 use Rattle.pc_tree.specs.BuiltIn.{first_own}

@@ -3,7 +3,7 @@ use Rattle.std.specs.Prelude.{List}
 use Rattle.std.specs.Option.{option_copied}
 use Rattle.pc_core.specs.declared.declarations.Method.{Method}
 use Rattle.pc_core.specs.Members.{methods_within, own_methods_within}
-use Rattle.pc_sub.proofs.conforming.conform_fault.Goals as goal
+use Rattle.pc_sub.proofs.conforming.first_fault.Goals as goal
 
 pub methods_of-requires : goal.methods_of-requires
 methods_of-requires c = methods_within c.args.core.now c.args.above c.in-Some.found.now c.formed.ensures (sym c.entity_at.ensures ∙ ap option_copied c.in-Some.is)

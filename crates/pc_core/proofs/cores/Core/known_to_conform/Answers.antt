@@ -1,0 +1,9 @@
+use Rattle.std.proofs.Common.{List, subst}
+use Rattle.std.specs.Prelude.{Option, IfSome}
+use Rattle.pc_masks.specs.declared.mask.Mask.{Mask}
+use Rattle.pc_core.specs.CoreData.{CoreData}
+use Rattle.pc_core.specs.Conforming.{TellsConforming}
+use Rattle.pc_core.proofs.cores.Core.known_to_conform.Goals as goal
+
+pub told-requires : goal.told-requires
+told-requires c = subst (λ (core : CoreData). TellsConforming core c.in-Some.sets) c.self.view_is (subst (λ (o : Option (List (List Mask))). IfSome o (TellsConforming _)) c.in-Some.is c.self.invariant.2)

@@ -1,0 +1,13 @@
+-- A table of what conforms to what.
+use Rattle.std.specs.Prelude.{List}
+use Rattle.pc_masks.specs.declared.mask.Mask.{Mask}
+use Rattle.pc_lists.specs.Places.{Each}
+use Rattle.pc_core.specs.CoreData.{CoreData}
+use Rattle.pc_core.specs.Entities.{IsAbstract}
+use Rattle.pc_core.specs.Conforms.{Conforms}
+use Rattle.pc_core.specs.EntitySets.{IsSetOf}
+
+-- For each trait and interface, by its number, the set of the entities that conform to it. What is there for another
+-- entity is not said.
+abbrev pub TellsConforming : CoreData → List (List Mask) → Type 0
+TellsConforming core sets = Each (λ b set. IsAbstract core b → IsSetOf core (λ e. Conforms core e b) set) sets

@@ -1,0 +1,33 @@
+-- When an entity has what a trait or an interface declares.
+use Rattle.std.specs.Prelude.{◌≡◌, ℕ, length, Some, slice_get}
+use Rattle.pc_caps.specs.Order.{IsBelow}
+use Rattle.pc_caps.specs.Tables.{unalias}
+use Rattle.pc_core.specs.declared.declarations.EntityDef.{EntityDef}
+use Rattle.pc_core.specs.declared.declarations.Method.{Method}
+use Rattle.pc_core.specs.declared.declarations.ParamInfo.{ParamInfo}
+use Rattle.pc_core.specs.CoreData.{CoreData}
+use Rattle.pc_lists.specs.Places.{Each}
+use Rattle.pc_core.specs.Lookup.{own_methods, IsMethod}
+use Rattle.pc_core.specs.Chain.{Chain}
+
+-- What a declared method takes at a parameter, the entity's method takes too. Here and below entities are compared by
+-- chains of `is` alone, and not by their methods.
+abbrev pub ParamFits : CoreData → ParamInfo → ParamInfo → Type 0
+ParamFits core p q = Chain core p.entity q.entity × IsBelow (unalias p.cap) (unalias q.cap)
+
+-- The entity's method y may stand for the method t of a trait or an interface.
+pub record StandsFor (core : CoreData) (t y : Method) : Type 0 where
+  pub count : length y.params ≡ length t.params
+  pub receiver : IsBelow (unalias t.receiver) (unalias y.receiver)
+  pub params : Each (λ i p. (q : ParamInfo) → slice_get y.params i ≡ Some q → ParamFits core p q) t.params
+  pub entity : Chain core y.result.0 t.result.0
+  pub form : IsBelow y.result.1 t.result.1
+
+-- The entity has a method of the name and kind of method t, and it may stand for t.
+abbrev pub HasFor : CoreData → ℕ → Method → Type 0
+HasFor core e t = (m : ℕ) × (y : Method) × (IsMethod core e t.name m) × (slice_get core.methods m ≡ Some y) × (y.kind ≡ t.kind) × StandsFor core t y
+
+-- An entity conforms to a trait or an interface: it has a method for each of the methods there. To one without methods
+-- each entity conforms.
+abbrev pub Conforms : CoreData → (entity above : ℕ) → Type 0
+Conforms core e b = (x : EntityDef) → slice_get core.entities b ≡ Some x → Each (λ i t. HasFor core e t) (own_methods core x)

@@ -1,0 +1,76 @@
+-- Which entities have a method for a declared one, by the groups that serve for it.
+use Rattle.std.specs.Prelude.{◌≡◌, ◌⊎◌, ◌↔◌, ℕ, ◌+◌, ◌*◌, ◌<◌, ◌≤◌, List, [], length, Some, get_or, slice_get, refl}
+use Rattle.std.proofs.Common.{inl, inr, sym, ap, subst, ◌∙◌, arith}
+use Rattle.std.proofs.lemmas.Option.{same_Some, get_or_from_slice_get}
+use Rattle.pc_lists.specs.Places.{Each, Has}
+use Rattle.pc_lists.proofs.Gets.{get_below}
+use Rattle.pc_core.specs.declared.declarations.Method.{Method}
+use Rattle.pc_core.specs.CoreData.{CoreData}
+use Rattle.pc_core.specs.Conforms.{HasFor}
+use Rattle.pc_core.specs.Formed.{Formed}
+use Rattle.pc_sub.specs.declared.groups.Groups.{Groups}
+use Rattle.pc_sub.specs.Alike.{Alike}
+use Rattle.pc_sub.specs.Groups.{Grouped, HasAlike, InGroup, IsGroup, Serves, ServesBy}
+use Rattle.pc_sub.proofs.Grouping.{split}
+use Rattle.pc_sub.proofs.StandsAlike.{alike_back, alike_stands}
+
+-- The entity has a method of one of the first n of these groups, and it serves.
+abbrev pub ServesTo : CoreData → Groups → Method → List ℕ → ℕ → ℕ → Type 0
+ServesTo core g t ks n e = (i : ℕ) × (k : ℕ) × (i < n) × (slice_get ks i ≡ Some k) × ServesBy core g t k e
+
+pub serves_none : (core : CoreData) (g : Groups) (t : Method) (ks : List ℕ) (e : ℕ) → ServesTo core g t ks 0 e → ⊥
+serves_none core g t ks e s = let l = s.2 in absurd (omega (arith, l))
+
+-- One group more.
+pub serves_next : (core : CoreData) (g : Groups) (t : Method) (ks : List ℕ) (n k e : ℕ) → slice_get ks n ≡ Some k → (ServesTo core g t ks (n + 1) e) ↔ (ServesBy core g t k e ⊎ ServesTo core g t ks n e)
+serves_next core g t ks n k e at = (
+  λ s. elim (split s.0 n s.2) [
+    | inl less ↦ inr (s.0, s.1, less, s.3, s.4)
+    | inr last ↦ inl (subst (λ j. ServesBy core g t j e) (same_Some s.1 k (sym s.3 ∙ ap (slice_get ks) last ∙ at)) s.4)
+  ],
+  λ s. elim s [
+    | inl own ↦ (n, k, omega arith, at, own)
+    | inr less ↦ let l = less.2 in (less.0, less.1, omega (arith, l), less.3, less.4)
+  ],
+)
+
+module _ (core : CoreData) (g : Groups) (t : Method) (grouped : Grouped core (length core.methods) g) where
+  -- A method of a group that serves.
+  by_has : (k e : ℕ) → ServesBy core g t k e → HasFor core e t
+  by_has k e s =
+      let h : HasAlike core e s.0 = grouped.sound k s.0 s.1 s.2 s.4.0 e s.4.1 in
+      let a : Alike s.0 h.1 = h.4 in
+      (h.0, h.1, (h.1, h.2, h.3, a.name ∙ s.3.0), h.2, a.kind ∙ s.3.1, alike_stands core t s.0 h.1 (alike_back s.0 h.1 a) s.3.2)
+
+  -- The group of a method that serves.
+  has_by : (e : ℕ) → HasFor core e t → (k : ℕ) × Has (get_or g.named t.name []) k × ServesBy core g t k e
+  has_by e h =
+      let m = h.2 in
+      let own : m.0 ≡ h.1 = same_Some m.0 h.1 (sym m.1 ∙ h.3) in
+      let entity : h.1.entity ≡ e = ap (λ (z : Method). z.entity) (sym own) ∙ m.2 in
+      let name : h.1.name ≡ t.name = ap (λ (z : Method). z.name) (sym own) ∙ m.3 in
+      let w : InGroup core g h.1 = grouped.complete h.0 h.1 (get_below core.methods h.0 h.1 h.3) h.3 in
+      let among : get_or g.named t.name [] ≡ w.same_name = get_or_from_slice_get g.named t.name w.same_name [] (subst (λ n. slice_get g.named n ≡ Some w.same_name) name w.named) in
+      let a : Alike w.first h.1 = w.alike in
+      (
+        w.group,
+        subst (λ ks. Has ks w.group) (sym among) w.has_group,
+        (w.first, w.entities, w.is_group, (sym a.name ∙ name, sym a.kind ∙ h.4, alike_stands core t h.1 w.first a h.5), subst (Has w.entities) entity w.has_entity),
+      )
+
+  -- All groups of methods of that name were looked at.
+  pub serves_all : (ks : List ℕ) (n e : ℕ) → ks ≡ get_or g.named t.name [] → length ks ≤ n → (ServesTo core g t ks n e) ↔ (HasFor core e t)
+  serves_all ks n e all whole = (
+    λ s. by_has s.1 e s.4,
+    λ h. let r = has_by e h in
+        let at = subst (λ zs. Has zs r.0) (sym all) r.1 in
+        let low = get_below ks at.0 r.0 at.1 in
+        (at.0, r.0, omega (arith, low, whole), at.1, r.2),
+  )
+
+  -- The entities of a group are some of the core's.
+  pub group_within : (k : ℕ) (y : Method) (es : List ℕ) → Formed core → IsGroup core g k y es → Each (λ i e. e < length core.entities) es
+  group_within k y es formed is i e at =
+      let h = grouped.sound k y es is i e at in
+      let f = formed.methods h.0 h.1 h.2 in
+      subst (λ n. n < length core.entities) h.3 (get_below core.entities h.1.entity f.owner f.is_owner)

@@ -1,0 +1,49 @@
+//! Whether two methods are alike.
+ghost use Rattle.std.specs.Prelude.{◌≡◌, ◌↔◌, IsTrue, map};
+ghost use Rattle.pc_sub.specs.Alike as spec;
+
+use pc_core::{Method, ParamInfo};
+
+// Whether the two parameters have one type.
+fn same_type(first: ParamInfo, second: ParamInfo) -> bool
+    ensures { IsTrue result ↔ (spec.param_type second ≡ spec.param_type first) }
+{
+    second.entity == first.entity && second.cap == first.cap
+}
+
+// Whether there are as many parameters, each of the same type.
+fn same_types(first: &[ParamInfo], second: &[ParamInfo]) -> bool
+    ensures { IsTrue result ↔ (map spec.param_type second.now ≡ map spec.param_type first.now) }
+{
+    let mut left = second;
+    for param in first {
+        match left {
+            [] => return false,
+            [other, others @ ..] => {
+                if !same_type(*param, *other) {
+                    return false;
+                }
+                left = others;
+            }
+        }
+    }
+    left.is_empty()
+}
+
+// Whether the two methods have one result.
+fn same_result(first: &Method, second: &Method) -> bool
+    ensures { IsTrue result ↔ ((second.now.result.0 ≡ first.now.result.0) × (second.now.result.1 ≡ first.now.result.1)) }
+{
+    second.result.0 == first.result.0 && second.result.1 == first.result.1
+}
+
+/// Whether the two methods have one name, kind, receiver and result, and the same types of parameters.
+pub(crate) fn is_alike(first: &Method, second: &Method) -> bool
+    ensures { IsTrue result ↔ spec.Alike first.now second.now }
+{
+    second.name == first.name
+        && second.kind == first.kind
+        && second.receiver == first.receiver
+        && same_result(first, second)
+        && same_types(first.params.as_slice(), second.params.as_slice())
+}
