@@ -9,5 +9,5 @@ use Rattle.pc_core.specs.EntitySets.{IsSetOf}
 
 -- For each trait and interface, by its number, the set of the entities that conform to it. What is there for another
 -- entity is not said.
-abbrev pub TellsConforming : CoreData → List (List Mask) → Type 0
-TellsConforming core sets = Each (λ b set. IsAbstract core b → IsSetOf core (λ e. Conforms core e b) set) sets
+pub record TellsConforming (core : CoreData) (sets : List (List Mask)) : Type 0 where
+  pub tells : Each (λ b set. IsAbstract core b → IsSetOf core (λ e. Conforms core e b) set) sets

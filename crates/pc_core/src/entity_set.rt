@@ -87,7 +87,7 @@ fn repeat(alloc: Global, mask: Mask, count: usize) -> Result<List<Mask>, AllocEr
     ensures { IfOk result (λ masks. masks ≡ replicate (count / spec.mask_bits + 1) mask) }
 {
     let mut masks = List::new(alloc);
-    while masks.len() < count / MASK_BITS as usize + 1 {
+    for _ in 0..count / MASK_BITS as usize + 1 {
         masks.push(mask)?;
     }
     Ok(masks)

@@ -71,7 +71,7 @@ first_push core firsts n k t e =
     ]
 
 alike_itself : (y : Method) → Alike y y
-alike_itself y = record { name = refl; kind = refl; receiver = refl; entity = refl; form = refl; params = refl }
+alike_itself y = record { head = (refl, refl, refl); result = (refl, refl); params = refl }
 
 pub grouped_none : (core : CoreData) (named : List (List ℕ)) → length named ≡ length core.names → Grouped core 0 (record { firsts = []; entities = []; named = named })
 grouped_none core named names = record {
@@ -172,3 +172,20 @@ module _ (core : CoreData) (n : ℕ) (y : Method) (firsts : List ℕ) (entities 
             })
         ];
       }
+
+  -- The same of lists that are those.
+  pub join_as : (k : ℕ) (es : List (List ℕ)) → Has (get_or named y.name []) k → y.name < length named → IsGroupOf core firsts y k → es ≡ added entities k y.entity → Grouped core (n + 1) (record { firsts = firsts; entities = es; named = named })
+  join_as k es has low first same = subst (λ (ls : List (List ℕ)). Grouped core (n + 1) (record { firsts = firsts; entities = ls; named = named })) (sym same) (grouped_join k has low first)
+
+  pub begin_as : (k : ℕ) (fs none one : List ℕ) (es ns : List (List ℕ)) → k ≡ length firsts → y.name < length named → none ≡ [] → one ≡ none ++ y.entity ∷ [] → fs ≡ firsts ++ n ∷ [] → es ≡ entities ++ one ∷ [] → ns ≡ added named y.name k → Grouped core (n + 1) (record { firsts = fs; entities = es; named = ns })
+  begin_as k fs none one es ns is_last low empty single f e s =
+      let own : one ≡ y.entity ∷ [] = single ∙ ap (λ zs. zs ++ y.entity ∷ []) empty in
+      let more : es ≡ entities ++ (y.entity ∷ []) ∷ [] = e ∙ ap (λ zs. entities ++ zs ∷ []) own in
+      subst (λ (zs : List ℕ). Grouped core (n + 1) (record { firsts = zs; entities = es; named = ns })) (sym f)
+      (subst (λ (zs : List (List ℕ)). Grouped core (n + 1) (record { firsts = firsts ++ n ∷ []; entities = zs; named = ns })) (sym more)
+      (subst (λ (zs : List (List ℕ)). Grouped core (n + 1) (record { firsts = firsts ++ n ∷ []; entities = entities ++ (y.entity ∷ []) ∷ []; named = zs })) (sym s) (grouped_begin k is_last low)))
+
+pub none_as : (core : CoreData) (fs : List ℕ) (es ns : List (List ℕ)) → fs ≡ [] → es ≡ [] → length ns ≡ length core.names → Grouped core 0 (record { firsts = fs; entities = es; named = ns })
+none_as core fs es ns f e names =
+    subst (λ (zs : List ℕ). Grouped core 0 (record { firsts = zs; entities = es; named = ns })) (sym f)
+    (subst (λ (zs : List (List ℕ)). Grouped core 0 (record { firsts = []; entities = zs; named = ns })) (sym e) (grouped_none core ns names))

@@ -5,5 +5,8 @@ pub mod Searched
 pub mod Turns
 pub mod StandsAlike
 pub mod Grouping
+pub mod Looked
 pub mod Serving
 pub mod Telling
+pub mod SameTypes
+pub mod Optional

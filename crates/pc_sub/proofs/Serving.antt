@@ -40,7 +40,7 @@ module _ (core : CoreData) (g : Groups) (t : Method) (grouped : Grouped core (le
   by_has k e s =
       let h : HasAlike core e s.0 = grouped.sound k s.0 s.1 s.2 s.4.0 e s.4.1 in
       let a : Alike s.0 h.1 = h.4 in
-      (h.0, h.1, (h.1, h.2, h.3, a.name ∙ s.3.0), h.2, a.kind ∙ s.3.1, alike_stands core t s.0 h.1 (alike_back s.0 h.1 a) s.3.2)
+      (h.0, h.1, (h.1, h.2, h.3, a.head.0 ∙ s.3.0.0), h.2, a.head.1 ∙ s.3.0.1, alike_stands core t s.0 h.1 (alike_back s.0 h.1 a) s.3.1)
 
   -- The group of a method that serves.
   has_by : (e : ℕ) → HasFor core e t → (k : ℕ) × Has (get_or g.named t.name []) k × ServesBy core g t k e
@@ -55,7 +55,7 @@ module _ (core : CoreData) (g : Groups) (t : Method) (grouped : Grouped core (le
       (
         w.group,
         subst (λ ks. Has ks w.group) (sym among) w.has_group,
-        (w.first, w.entities, w.is_group, (sym a.name ∙ name, sym a.kind ∙ h.4, alike_stands core t h.1 w.first a h.5), subst (Has w.entities) entity w.has_entity),
+        (w.first, w.entities, w.is_group, ((sym a.head.0 ∙ name, sym a.head.1 ∙ h.4), alike_stands core t h.1 w.first a h.5), subst (Has w.entities) entity w.has_entity),
       )
 
   -- All groups of methods of that name were looked at.

@@ -22,19 +22,10 @@ use Rattle.pc_sub.specs.Alike.{Alike}
 use Rattle.pc_sub.specs.Groups.{Grouped, HasAlike, InGroup, IsGroup, first_of}
 use Rattle.pc_sub.specs.Tables.{HasForGroups, Kept, TellsGroups}
 use Rattle.pc_sub.proofs.Grouping.{first_within, split}
+use Rattle.pc_sub.proofs.Looked.{HasTo, has_more, has_next}
 use Rattle.pc_sub.proofs.StandsAlike.{alike_back, has_alike}
 
 -- ---- sets that keep what another has
-
--- The number is one of the first n of these.
-abbrev pub HasTo : List ℕ → ℕ → ℕ → Type 0
-HasTo xs n x = (i : ℕ) × (i < n) × (slice_get xs i ≡ Some x)
-
-pub has_next : (xs : List ℕ) (n y x : ℕ) → slice_get xs n ≡ Some y → HasTo xs (n + 1) x → (HasTo xs n x) ⊎ (x ≡ y)
-has_next xs n y x at h = elim (split h.0 n h.1) [ inl less ↦ inl (h.0, less, h.2) | inr last ↦ inr (same_Some x y (sym h.2 ∙ ap (slice_get xs) last ∙ at)) ]
-
-pub has_more : (xs : List ℕ) (n y x : ℕ) → slice_get xs n ≡ Some y → (HasTo xs n x) ⊎ (x ≡ y) → HasTo xs (n + 1) x
-has_more xs n y x at h = elim h [ inl less ↦ let l = less.1 in (less.0, omega (arith, l), less.2) | inr last ↦ (n, omega arith, at ∙ ap Some (sym last)) ]
 
 pub kept_none : (R : ℕ → Type 0) (other : List Mask) (sets : List (List Mask)) → ((b : ℕ) → R b → ⊥) → Kept R other sets sets
 kept_none R other sets never = record { long = refl; each = λ b set g. (set, g, λ e. (λ h. (h, λ r. absurd (never b r)), λ h. h.0)) }
@@ -74,39 +65,56 @@ kept_then Q R S other first second third from to a b = record {
       );
 }
 
+-- One number more was looked at.
+pub kept_next : (xs : List ℕ) (n x : ℕ) (other : List Mask) (first second third : List (List Mask)) → slice_get xs n ≡ Some x → Kept (λ b. HasTo xs n b) other first second → Kept (λ b. b ≡ x) other second third → Kept (λ b. HasTo xs (n + 1) b) other first third
+kept_next xs n x other first second third at = kept_then (λ b. HasTo xs (n + 1) b) (λ b. HasTo xs n b) (λ b. b ≡ x) other first second third (λ b. has_next xs n x b at) (λ b. has_more xs n x b at)
+
+-- The same property in other words.
+pub kept_same : (R S : ℕ → Type 0) (other : List Mask) (old new : List (List Mask)) → ((b : ℕ) → R b → S b) → ((b : ℕ) → S b → R b) → Kept R other old new → Kept S other old new
+kept_same R S other old new to from k = record {
+  long = k.long;
+  each = λ b set g.
+      let w = k.each b set g in
+      (w.0, w.1, λ e. (λ h. let p = (w.2 e).0 h in (p.0, λ s. p.1 (from b s)), λ h. (w.2 e).1 (h.0, λ r. h.1 (to b r))));
+}
+
 -- ---- what the sets tell
 
 module _ (core : CoreData) (g : Groups) where
   pub tells_none : (sets : List (List Mask)) → Each (λ b set. (e : ℕ) → e < length core.entities → Holds set e) sets → TellsGroups core g 0 sets
-  tells_none sets all b set at abstract e low = (λ h. λ k t es l is has. absurd (omega (arith, l)), λ h. all b set at e low)
+  tells_none sets all = record { tells = λ b set at abstract e low. (λ h. λ k t es l is has. absurd (omega (arith, l)), λ h. all b set at e low) }
 
   -- A group without traits and interfaces says nothing of them.
   pub tells_skip : (n : ℕ) (sets : List (List Mask)) → ((b : ℕ) (t : Method) (es : List ℕ) → IsGroup core g n t es → Has es b → IsAbstract core b → ⊥) → TellsGroups core g n sets → TellsGroups core g (n + 1) sets
-  tells_skip n sets never tells b set at abstract e low =
-      let k = tells b set at abstract e low in (
-        λ h. λ j t es l is has. elim (split j n l) [
-          | inl less ↦ k.0 h j t es less is has
-          | inr last ↦ absurd (never b t es (ap (first_of core g.firsts) (sym last) ∙ is.0, ap (slice_get g.entities) (sym last) ∙ is.1) has abstract)
-        ],
-        λ all. k.1 (λ j t es l is has. let m : j < n + 1 = omega (arith, l) in all j t es m is has),
-      )
+  tells_skip n sets never before = record {
+    tells = λ b set at abstract e low.
+        let k = before.tells b set at abstract e low in (
+          λ h. λ j t es l is has. elim (split j n l) [
+            | inl less ↦ k.0 h j t es less is has
+            | inr last ↦ absurd (never b t es (ap (first_of core g.firsts) (sym last) ∙ is.0, ap (slice_get g.entities) (sym last) ∙ is.1) has abstract)
+          ],
+          λ all. k.1 (λ j t es l is has. let m : j < n + 1 = omega (arith, l) in all j t es m is has),
+        );
+  }
 
   pub tells_next : (n : ℕ) (t : Method) (es : List ℕ) (other : List Mask) (old new : List (List Mask)) → IsGroup core g n t es → IsSetOf core (λ e. HasFor core e t) other → Kept (λ b. Has es b) other old new → TellsGroups core g n old → TellsGroups core g (n + 1) new
-  tells_next n t es other old new group has_for kept tells b set at abstract e low =
-      let was = kept.each b set at in
-      let k = tells b was.0 was.1 abstract e low in (
-        λ h. λ j s fs l is has. elim (split j n l) [
-          | inl less ↦ k.0 ((was.2 e).0 h).0 j s fs less is has
-          | inr last ↦
-            let first : t ≡ s = same_Some t s (sym group.0 ∙ ap (first_of core g.firsts) (sym last) ∙ is.0) in
-            let list : fs ≡ es = same_Some fs es (sym is.1 ∙ ap (slice_get g.entities) last ∙ group.1) in
-            subst (HasFor core e) first ((has_for e low).0 (((was.2 e).0 h).1 (subst (λ zs. Has zs b) list has)))
-        ],
-        λ all. (was.2 e).1 (
-          k.1 (λ j s fs l is has. let m : j < n + 1 = omega (arith, l) in all j s fs m is has),
-          λ has. (has_for e low).1 (all n t es (omega arith) group has),
-        ),
-      )
+  tells_next n t es other old new group has_for kept before = record {
+    tells = λ b set at abstract e low.
+        let was = kept.each b set at in
+        let k = before.tells b was.0 was.1 abstract e low in (
+          λ h. λ j s fs l is has. elim (split j n l) [
+            | inl less ↦ k.0 ((was.2 e).0 h).0 j s fs less is has
+            | inr last ↦
+              let first : t ≡ s = same_Some t s (sym group.0 ∙ ap (first_of core g.firsts) (sym last) ∙ is.0) in
+              let list : fs ≡ es = same_Some fs es (sym is.1 ∙ ap (slice_get g.entities) last ∙ group.1) in
+              subst (HasFor core e) first ((has_for e low).0 (((was.2 e).0 h).1 (subst (λ zs. Has zs b) list has)))
+          ],
+          λ all. (was.2 e).1 (
+            k.1 (λ j s fs l is has. let m : j < n + 1 = omega (arith, l) in all j s fs m is has),
+            λ has. (has_for e low).1 (all n t es (omega arith) group has),
+          ),
+        );
+  }
 
   module _ (formed : Formed core) (grouped : Grouped core (length core.methods) g) where
     -- To have a method for each of those of an entity is to have one for each of its groups.
@@ -131,6 +139,8 @@ module _ (core : CoreData) (g : Groups) where
         has_alike core e w.first t w.alike (h w.group w.first w.entities (omega (arith, low, all)) w.is_group has)
 
     pub tells_all : (n : ℕ) (sets : List (List Mask)) → length g.firsts ≤ n → TellsGroups core g n sets → TellsConforming core sets
-    tells_all n sets all tells b set at abstract e low =
-        let k = tells b set at abstract e low in
-        (λ h. groups_conform n b e all (k.0 h), λ h. k.1 (conforms_groups n b e h))
+    tells_all n sets all before = record {
+      tells = λ b set at abstract e low.
+          let k = before.tells b set at abstract e low in
+          (λ h. groups_conform n b e all (k.0 h), λ h. k.1 (conforms_groups n b e h));
+    }

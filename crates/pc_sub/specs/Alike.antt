@@ -1,5 +1,5 @@
 -- Methods that no caller can tell apart.
-use Rattle.std.specs.Prelude.{◌≡◌, ℕ, Bool, true, false, ◌&&◌, List, [], ◌∷◌, map, nat_eq}
+use Rattle.std.specs.Prelude.{◌≡◌, ℕ, map}
 use Rattle.pc_caps.specs.declared.capability.Cap.{Cap}
 use Rattle.pc_core.specs.declared.declarations.Method.{Method}
 use Rattle.pc_core.specs.declared.declarations.ParamInfo.{ParamInfo}
@@ -8,11 +8,16 @@ use Rattle.pc_core.specs.declared.declarations.ParamInfo.{ParamInfo}
 abbrev pub param_type : ParamInfo → ℕ × Cap
 param_type p = (p.entity, p.cap)
 
--- Two methods have one name, kind and receiver, one result, and as many parameters of the same types.
+-- Two methods have one name, kind and receiver.
+abbrev pub SameHead : Method → Method → Type 0
+SameHead t y = (y.name ≡ t.name) × (y.kind ≡ t.kind) × (y.receiver ≡ t.receiver)
+
+-- They have one result.
+abbrev pub SameResult : Method → Method → Type 0
+SameResult t y = (y.result.0 ≡ t.result.0) × (y.result.1 ≡ t.result.1)
+
+-- And they have as many parameters, of the same types.
 pub record Alike (t y : Method) : Type 0 where
-  pub name : y.name ≡ t.name
-  pub kind : y.kind ≡ t.kind
-  pub receiver : y.receiver ≡ t.receiver
-  pub entity : y.result.0 ≡ t.result.0
-  pub form : y.result.1 ≡ t.result.1
+  pub head : SameHead t y
+  pub result : SameResult t y
   pub params : map param_type y.params ≡ map param_type t.params

@@ -122,7 +122,7 @@ each_fit core (p ∷ ps) (q ∷ qs) f l h =
     let m : length qs ≡ length ps = omega (arith, l) in
     and_from _ _ (param_fit core p q f (h 0 p refl q refl)) (each_fit core ps qs f m (λ i r g. h (suc i) r g))
 
-stands : (core : CoreData) (t y : Method) → Formed core → conform.stands_for core t y ≡ true → StandsFor core t y
+pub stands : (core : CoreData) (t y : Method) → Formed core → conform.stands_for core t y ≡ true → StandsFor core t y
 stands core t y f e =
     let k = and_parts _ _ e in
     let a = and_parts _ _ k.0 in
@@ -135,7 +135,7 @@ stands core t y f e =
       form = (below_iff y.result.1 t.result.1).0 b.1;
     }
 
-stood : (core : CoreData) (t y : Method) → Formed core → StandsFor core t y → conform.stands_for core t y ≡ true
+pub stood : (core : CoreData) (t y : Method) → Formed core → StandsFor core t y → conform.stands_for core t y ≡ true
 stood core t y f s =
     and_from _ _
     (and_from _ _ ((below_iff (unalias t.receiver) (unalias y.receiver)).1 s.receiver) (each_fit core t.params y.params f s.count s.params))

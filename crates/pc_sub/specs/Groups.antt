@@ -52,7 +52,7 @@ pub record Grouped (core : CoreData) (n : ℕ) (g : Groups) : Type 0 where
 
 -- Method y has the name and kind of method t, and may stand for it.
 abbrev pub Serves : CoreData → (wanted given : Method) → Type 0
-Serves core t y = (y.name ≡ t.name) × (y.kind ≡ t.kind) × StandsFor core t y
+Serves core t y = ((y.name ≡ t.name) × (y.kind ≡ t.kind)) × StandsFor core t y
 
 -- The methods of group k serve for method t.
 abbrev pub GroupServes : CoreData → List ℕ → Method → ℕ → Type 0

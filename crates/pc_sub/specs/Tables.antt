@@ -20,5 +20,5 @@ abbrev pub HasForGroups : CoreData → Groups → ℕ → (above entity : ℕ) �
 HasForGroups core g n b e = (k : ℕ) (t : Method) (es : List ℕ) → k < n → IsGroup core g k t es → Has es b → HasFor core e t
 
 -- The sets tell so of each trait and interface.
-abbrev pub TellsGroups : CoreData → Groups → ℕ → List (List Mask) → Type 0
-TellsGroups core g n sets = Each (λ b set. IsAbstract core b → IsSetOf core (HasForGroups core g n b) set) sets
+pub record TellsGroups (core : CoreData) (g : Groups) (n : ℕ) (sets : List (List Mask)) : Type 0 where
+  pub tells : Each (λ b set. IsAbstract core b → IsSetOf core (HasForGroups core g n b) set) sets

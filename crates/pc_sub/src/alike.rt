@@ -6,7 +6,7 @@ use pc_core::{Method, ParamInfo};
 
 // Whether the two parameters have one type.
 fn same_type(first: ParamInfo, second: ParamInfo) -> bool
-    ensures { IsTrue result ↔ (spec.param_type second ≡ spec.param_type first) }
+    ensures { IsTrue result ↔ ((second.entity ≡ first.entity) × (second.cap ≡ first.cap)) }
 {
     second.entity == first.entity && second.cap == first.cap
 }
@@ -30,9 +30,16 @@ fn same_types(first: &[ParamInfo], second: &[ParamInfo]) -> bool
     left.is_empty()
 }
 
+// Whether the two methods have one name, kind and receiver.
+fn same_head(first: &Method, second: &Method) -> bool
+    ensures { IsTrue result ↔ spec.SameHead first.now second.now }
+{
+    second.name == first.name && second.kind == first.kind && second.receiver == first.receiver
+}
+
 // Whether the two methods have one result.
 fn same_result(first: &Method, second: &Method) -> bool
-    ensures { IsTrue result ↔ ((second.now.result.0 ≡ first.now.result.0) × (second.now.result.1 ≡ first.now.result.1)) }
+    ensures { IsTrue result ↔ spec.SameResult first.now second.now }
 {
     second.result.0 == first.result.0 && second.result.1 == first.result.1
 }
@@ -41,9 +48,7 @@ fn same_result(first: &Method, second: &Method) -> bool
 pub(crate) fn is_alike(first: &Method, second: &Method) -> bool
     ensures { IsTrue result ↔ spec.Alike first.now second.now }
 {
-    second.name == first.name
-        && second.kind == first.kind
-        && second.receiver == first.receiver
+    same_head(first, second)
         && same_result(first, second)
         && same_types(first.params.as_slice(), second.params.as_slice())
 }

@@ -96,6 +96,7 @@ fn first_fault(core: &Core, entity: u32, above: u32) -> Option<DeclFault>
 pub(crate) fn conform_fault(core: &Core, entity: u32, above: u32) -> Option<DeclFault>
     ensures { result ≡ slice_get (spec.conform_faults core.now entity (slice_get core.now.entities above)) 0 }
 {
+    core.formed();
     if conforms(core, entity, above) {
         None
     } else {

@@ -71,9 +71,9 @@ fn add_at(
     ensures { OnOk result (lists.new ≡ slice_set lists.old place (get_or lists.old place [] ++ number ∷ [])) }
 {
     let mut list = lists.replace(place, List::new(alloc));
-    let pushed = list.push(number);
+    list.push(number)?;
     lists.replace(place, list);
-    pushed
+    Ok(())
 }
 
 // Puts a method into a group that it is alike to.
@@ -92,7 +92,8 @@ fn join_group(
     ensures { OnOk result (spec.Grouped core.now (number + 1) groups.new) }
 {
     core.formed();
-    add_at(alloc, &mut groups.entities, group as usize, method.entity)
+    add_at(alloc, &mut groups.entities, group as usize, method.entity)?;
+    Ok(())
 }
 
 // Makes a group of a method.
@@ -113,7 +114,8 @@ fn begin_group(
     entities.push(method.entity)?;
     groups.firsts.push(number)?;
     groups.entities.push(entities)?;
-    add_at(alloc, &mut groups.named, method.name as usize, group)
+    add_at(alloc, &mut groups.named, method.name as usize, group)?;
+    Ok(())
 }
 
 // Puts the next method into its group.
@@ -140,7 +142,7 @@ fn no_groups(alloc: Global, core: &Core) -> Result<Groups, AllocError>
     ensures { IfOk result (spec.Grouped core.now 0) }
 {
     let mut named = List::new(alloc);
-    while named.len() < core.names().len() {
+    for _ in 0..core.names().len() {
         named.push(List::new(alloc))?;
     }
     Ok(Groups {

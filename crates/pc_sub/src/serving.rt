@@ -10,12 +10,19 @@ use crate::stands::stands_for;
 use pc_core::{Core, EntitySet, Method};
 use std::alloc::{AllocError, Global};
 
-// Whether the method has the name and kind of the declared one, and may stand for it.
+// Whether the method has the name and kind of the declared one.
+fn is_like(wanted: &Method, given: &Method) -> bool
+    ensures { IsTrue result ↔ ((given.now.name ≡ wanted.now.name) × (given.now.kind ≡ wanted.now.kind)) }
+{
+    given.name == wanted.name && given.kind == wanted.kind
+}
+
+// Whether it may stand for the declared one as well.
 fn serves(core: &Core, wanted: &Method, given: &Method) -> bool
     ensures { IsTrue result ↔ spec.Serves core.now wanted.now given.now }
 {
     core.formed();
-    given.name == wanted.name && given.kind == wanted.kind && stands_for(core, wanted, given)
+    is_like(wanted, given) && stands_for(core, wanted, given)
 }
 
 // Whether the methods of a group serve for the declared one.

@@ -88,10 +88,9 @@ fn keep_group(
         Some(first) => {
             if any_abstract(core, entities) {
                 let others = entities_with(alloc, core, groups, first)?;
-                keep_all(alloc, sets, entities, &others)
-            } else {
-                Ok(())
+                keep_all(alloc, sets, entities, &others)?;
             }
+            Ok(())
         }
     }
 }

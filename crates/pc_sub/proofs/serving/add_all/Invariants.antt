@@ -1,6 +1,6 @@
 use Rattle.std.proofs.Common.{◌≡◌, ◌⊎◌, ◌↔◌, ℕ, length}
 use Rattle.pc_core.specs.EntitySets.{Holds}
-use Rattle.pc_sub.proofs.Telling.{HasTo}
+use Rattle.pc_sub.proofs.Looked.{HasTo}
 use Rattle.pc_sub.proofs.serving.add_all.Given as goal
 
 abbrev pub invariant-loop-entity : goal.invariant-loop-entity

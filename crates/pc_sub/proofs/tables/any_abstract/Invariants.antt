@@ -1,6 +1,6 @@
 use Rattle.std.proofs.Common.{ℕ}
 use Rattle.pc_core.specs.Entities.{IsAbstract}
-use Rattle.pc_sub.proofs.Telling.{HasTo}
+use Rattle.pc_sub.proofs.Looked.{HasTo}
 use Rattle.pc_sub.proofs.tables.any_abstract.Given as goal
 
 abbrev pub invariant-loop-entity : goal.invariant-loop-entity

@@ -1,5 +1,5 @@
 use Rattle.pc_sub.specs.Tables.{Kept}
-use Rattle.pc_sub.proofs.Telling.{HasTo}
+use Rattle.pc_sub.proofs.Looked.{HasTo}
 use Rattle.pc_sub.proofs.tables.keep_all.Given as goal
 
 abbrev pub invariant-loop-entity : goal.invariant-loop-entity
