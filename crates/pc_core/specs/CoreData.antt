@@ -12,3 +12,7 @@ pub record CoreData : Type 0 where
   pub nodes : List Node
   -- the texts of the names of fields and methods
   pub names : List (List ℕ)
+
+-- The core of these lists.
+abbrev pub data_of : List EntityDef → List Method → List Slot → List Node → List (List ℕ) → CoreData
+data_of entities methods slots nodes names = record { entities = entities; methods = methods; slots = slots; nodes = nodes; names = names }

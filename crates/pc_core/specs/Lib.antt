@@ -13,3 +13,4 @@ pub mod Chain
 pub mod Conforms
 pub mod EntitySets
 pub mod Conforming
+pub mod Whole

@@ -26,17 +26,14 @@ pub struct Core {
 }
 
 impl Model for Core {
-    ghost use Rattle.pc_core.specs.CoreData.{CoreData};
-    ghost use Rattle.pc_core.specs.Conforming.{TellsConforming};
-    ghost use Rattle.pc_core.specs.Formed.{Formed};
-    ghost use Rattle.pc_core.specs.MethodKeys.{method_key};
-    ghost use Rattle.std.specs.Prelude.{◌≡◌, IfSome, map};
+    ghost use Rattle.pc_core.specs.CoreData.{CoreData, data_of};
+    ghost use Rattle.pc_core.specs.Whole.{IsWhole};
 
     ghost Value = { CoreData };
 
     ghost view = { λ a. record { entities = a.entities; methods = a.methods; slots = a.slots; nodes = a.nodes; names = a.names } };
 
-    ghost invariant = { λ a. Formed (record { entities = a.entities; methods = a.methods; slots = a.slots; nodes = a.nodes; names = a.names }) × IfSome a.index (λ keys. keys ≡ map method_key a.methods) × IfSome a.conforming (TellsConforming (record { entities = a.entities; methods = a.methods; slots = a.slots; nodes = a.nodes; names = a.names })) };
+    ghost invariant = { λ a. IsWhole (data_of a.entities a.methods a.slots a.nodes a.names) a.index a.conforming };
 }
 
 impl Core {

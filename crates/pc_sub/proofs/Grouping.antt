@@ -2,7 +2,7 @@
 use Rattle.std.specs.Prelude.{◌≡◌, ◌≢◌, ◌⊎◌, ℕ, zero, suc, ◌+◌, ◌<◌, ◌≤◌, List, [], ◌∷◌, ◌++◌, length, Option, Some, None, get_or, slice_get, slice_set, refl}
 use Rattle.std.proofs.Common.{inl, inr, sym, ap, subst, ◌∙◌, arith}
 use Rattle.std.proofs.lemmas.Bool.{cases_eq}
-use Rattle.std.proofs.lemmas.List.{length-set, length_push}
+use Rattle.std.proofs.lemmas.List.{length-set, length_push, set-set}
 use Rattle.std.proofs.lemmas.Option.{same_Some, none-some, slice_get-get_or, get_or_from_slice_get}
 use Rattle.pc_lists.specs.Options.{◌>>=◌}
 use Rattle.pc_lists.specs.Places.{Each, Has}
@@ -33,6 +33,20 @@ has_last xs x = (length xs, get_behind xs x [])
 -- A list of lists in which the list of one place has one number more.
 abbrev pub added : List (List ℕ) → ℕ → ℕ → List (List ℕ)
 added lists k x = slice_set lists k (get_or lists k [] ++ x ∷ [])
+
+-- What a place has, or the empty list.
+pub list_none : (lists : List (List ℕ)) (i : ℕ) → slice_get lists i ≡ None → [] ≡ get_or lists i []
+list_none [] i e = refl
+list_none (xs ∷ lists) zero e = absurd (none-some xs (sym e))
+list_none (xs ∷ lists) (suc i) e = list_none lists i e
+
+pub list_some : (lists : List (List ℕ)) (i : ℕ) (xs : List ℕ) → slice_get lists i ≡ Some xs → xs ≡ get_or lists i []
+list_some lists i xs e = sym (get_or_from_slice_get lists i xs [] e)
+
+-- A list that was taken out and put back with one number more.
+pub add_is : (lists out back : List (List ℕ)) (k x : ℕ) (empty old new : List ℕ) → slice_get lists k ≡ Some old → out ≡ slice_set lists k empty → new ≡ old ++ x ∷ [] → back ≡ slice_set out k new → back ≡ added lists k x
+add_is lists out back k x empty old new at taken pushed put =
+    put ∙ ap (λ ls. slice_set ls k new) taken ∙ set-set lists k empty new ∙ ap (slice_set lists k) (pushed ∙ ap (λ xs. xs ++ x ∷ []) (list_some lists k old at))
 
 module _ (lists : List (List ℕ)) (k x : ℕ) (low : k < length lists) where
   added_here : slice_get (added lists k x) k ≡ Some (get_or lists k [] ++ x ∷ [])

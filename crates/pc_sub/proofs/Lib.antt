@@ -1,4 +1,4 @@
-pub mod Alike
+pub mod Bools
 pub mod Computed
 pub mod Counts
 pub mod Searched
@@ -6,7 +6,7 @@ pub mod Turns
 pub mod StandsAlike
 pub mod Grouping
 pub mod Looked
-pub mod Serving
+pub mod ServedBy
 pub mod Telling
 pub mod SameTypes
 pub mod Optional

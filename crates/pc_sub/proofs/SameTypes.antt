@@ -1,50 +1,64 @@
 -- Parameters that are compared one by one, by their types.
-use Rattle.std.specs.Prelude.{◌≡◌, ◌↔◌, ℕ, suc, ◌+◌, ◌<◌, ◌≤◌, List, [], ◌∷◌, drop, length, map, get_or, refl}
+use Rattle.std.specs.Prelude.{◌≡◌, ◌↔◌, ℕ, ◌<◌, Bool, true, false, List, [], ◌∷◌, length, map, IsTrue, nat_eq, refl}
 use Rattle.std.proofs.Common.{ap, sym, ◌∙◌, arith}
-use Rattle.std.proofs.lemmas.List.{drop_all, length-map}
+use Rattle.std.proofs.lemmas.Bool.{and_from, and_parts, eqb-true, eq-eqb}
+use Rattle.pc_caps.specs.declared.capability.Cap.{Cap}
+use Rattle.pc_caps.specs.declared.capability.Cap.TheVariants as cap
 use Rattle.pc_core.specs.declared.declarations.ParamInfo.{ParamInfo}
-use Rattle.pc_lists.proofs.Cuts.{item_first}
-use Rattle.pc_sub.specs.Alike.{param_type}
+use Rattle.pc_lists.proofs.Bools.{false_true}
+use Rattle.pc_sub.specs.Alike.{param_type, same_cap, same_type, same_types}
 
-abbrev pub Same : List ParamInfo → List ParamInfo → Type 0
-Same ps qs = map param_type qs ≡ map param_type ps
+caps_equal : (a b : Cap) → same_cap a b ≡ true → a ≡ b
+caps_equal cap.Iso cap.Iso e = refl
+caps_equal cap.Trn cap.Trn e = refl
+caps_equal cap.Ref cap.Ref e = refl
+caps_equal cap.Val cap.Val e = refl
+caps_equal cap.Box cap.Box e = refl
+caps_equal cap.Tag cap.Tag e = refl
+caps_equal a b e = absurd (let bad : false ≡ true = e in cc)
 
--- One parameter, and the rest.
-abbrev SameFirst : ParamInfo → ParamInfo → Type 0
-SameFirst p q = (q.entity ≡ p.entity) × (q.cap ≡ p.cap)
+same_caps : (a : Cap) → same_cap a a ≡ true
+same_caps cap.Iso = refl
+same_caps cap.Trn = refl
+same_caps cap.Ref = refl
+same_caps cap.Val = refl
+same_caps cap.Box = refl
+same_caps cap.Tag = refl
 
-first_parts : (p q : ParamInfo) (ps qs : List ParamInfo) → Same (p ∷ ps) (q ∷ qs) → SameFirst p q × Same ps qs
-first_parts p q ps qs e = ((cc e, cc e), cc e)
+type_is : (p q : ParamInfo) → same_type p q ≡ true → param_type q ≡ param_type p
+type_is p q e =
+    let k = and_parts (nat_eq p.entity q.entity) (same_cap p.cap q.cap) e in
+    ap (λ (n : ℕ). (n, q.cap)) (sym (eqb-true p.entity q.entity k.0)) ∙ ap (λ (c : Cap). (p.entity, c)) (sym (caps_equal p.cap q.cap k.1))
 
-first_from : (p q : ParamInfo) (ps qs : List ParamInfo) → SameFirst p q → Same ps qs → Same (p ∷ ps) (q ∷ qs)
-first_from p q ps qs e f = cc (e.0, e.1, f)
+is_type : (p q : ParamInfo) → param_type q ≡ param_type p → same_type p q ≡ true
+is_type p q e =
+    let entity : p.entity ≡ q.entity = sym (ap (λ (k : ℕ × Cap). k.0) e) in
+    let own : p.cap ≡ q.cap = sym (ap (λ (k : ℕ × Cap). k.1) e) in
+    and_from (nat_eq p.entity q.entity) (same_cap p.cap q.cap) (eq-eqb p.entity q.entity entity) (ap (same_cap p.cap) (sym own) ∙ same_caps p.cap)
 
--- At place i of the first list the parameter p is looked at, and q is the first of what is left of the second.
-module _ (ps : List ParamInfo) (i : ℕ) (p q : ParamInfo) (qs : List ParamInfo) (low : i < length ps) (is : p ≡ get_or ps i p) where
-  here : drop i ps ≡ p ∷ drop (i + 1) ps
-  here = item_first ps i p low is
+types_are : (ps qs : List ParamInfo) → same_types ps qs ≡ true → map param_type qs ≡ map param_type ps
+types_are [] [] e = refl
+types_are (p ∷ ps) (q ∷ qs) e =
+    let k = and_parts (same_type p q) (same_types ps qs) e in
+    ap (λ (x : ℕ × Cap). x ∷ map param_type qs) (type_is p q k.0) ∙ ap (λ (xs : List (ℕ × Cap)). param_type p ∷ xs) (types_are ps qs k.1)
+types_are [] (q ∷ qs) e = absurd (false_true e)
+types_are (p ∷ ps) [] e = absurd (false_true e)
 
-  pub same_next : (P : Type 0) → SameFirst p q → (Same (drop i ps) (q ∷ qs)) ↔ P → (Same (drop (i + 1) ps) qs) ↔ P
-  same_next P first k = (
-    λ h. k.0 (first_from p q (drop (i + 1) ps) qs first h ∙ sym (ap (map param_type) here)),
-    λ h. (first_parts p q (drop (i + 1) ps) qs (k.1 h ∙ ap (map param_type) here)).1,
-  )
+are_types : (ps qs : List ParamInfo) → map param_type qs ≡ map param_type ps → same_types ps qs ≡ true
+are_types [] [] e = refl
+are_types (p ∷ ps) (q ∷ qs) e =
+    let first : param_type q ≡ param_type p = cc in
+    let rest : map param_type qs ≡ map param_type ps = cc in
+    and_from (same_type p q) (same_types ps qs) (is_type p q first) (are_types ps qs rest)
+are_types [] (q ∷ qs) e = absurd (cc)
+are_types (p ∷ ps) [] e = absurd (cc)
 
-  pub other_first : Same (drop i ps) (q ∷ qs) → SameFirst p q
-  other_first h = (first_parts p q (drop (i + 1) ps) qs (h ∙ ap (map param_type) here)).0
+-- What is computed is so.
+pub same_types_iff : (ps qs : List ParamInfo) → (IsTrue (same_types ps qs)) ↔ (map param_type qs ≡ map param_type ps)
+same_types_iff ps qs = (types_are ps qs, are_types ps qs)
 
-  pub too_short : Same (drop i ps) [] → ⊥
-  too_short h =
-      let none : map param_type [] ≡ map param_type (p ∷ drop (i + 1) ps) = h ∙ ap (map param_type) here in
-      absurd (cc none)
-
--- Nothing is left of the first list.
-pub left_none : (ps qs : List ParamInfo) (i : ℕ) → length ps ≤ i → (qs ≡ []) ↔ (Same (drop i ps) qs)
-left_none ps qs i all = (
-  λ e. ap (map param_type) e ∙ sym (ap (map param_type) (drop_all i ps all)),
-  λ h. none_mapped qs (h ∙ ap (map param_type) (drop_all i ps all)),
-)
-  where
-    none_mapped : (xs : List ParamInfo) → map param_type xs ≡ [] → xs ≡ []
-    none_mapped [] e = refl
-    none_mapped (x ∷ xs) e = absurd (cc e)
+-- Fewer parameters than the first has.
+pub too_few : (ps qs : List ParamInfo) → 0 < length ps → length qs < 1 → same_types ps qs ≡ false
+too_few [] qs l m = absurd (omega (arith, l))
+too_few (p ∷ ps) [] l m = refl
+too_few (p ∷ ps) (q ∷ qs) l m = absurd (omega (arith, m))

@@ -1,6 +1,7 @@
 -- Methods that no caller can tell apart.
-use Rattle.std.specs.Prelude.{◌≡◌, ℕ, map}
+use Rattle.std.specs.Prelude.{◌≡◌, ℕ, Bool, true, false, ◌&&◌, List, [], ◌∷◌, map, nat_eq}
 use Rattle.pc_caps.specs.declared.capability.Cap.{Cap}
+use Rattle.pc_caps.specs.declared.capability.Cap.TheVariants as cap
 use Rattle.pc_core.specs.declared.declarations.Method.{Method}
 use Rattle.pc_core.specs.declared.declarations.ParamInfo.{ParamInfo}
 
@@ -21,3 +22,21 @@ pub record Alike (t y : Method) : Type 0 where
   pub head : SameHead t y
   pub result : SameResult t y
   pub params : map param_type y.params ≡ map param_type t.params
+
+-- The same of parameters, as it is computed.
+abbrev pub same_cap : Cap → Cap → Bool
+same_cap cap.Iso cap.Iso = true
+same_cap cap.Trn cap.Trn = true
+same_cap cap.Ref cap.Ref = true
+same_cap cap.Val cap.Val = true
+same_cap cap.Box cap.Box = true
+same_cap cap.Tag cap.Tag = true
+same_cap a b = false
+
+abbrev pub same_type : ParamInfo → ParamInfo → Bool
+same_type p q = nat_eq p.entity q.entity && same_cap p.cap q.cap
+
+abbrev pub same_types : List ParamInfo → List ParamInfo → Bool
+same_types [] [] = true
+same_types (p ∷ ps) (q ∷ qs) = same_type p q && same_types ps qs
+same_types ps qs = false

@@ -6,14 +6,14 @@ use pc_core::{Method, ParamInfo};
 
 // Whether the two parameters have one type.
 fn same_type(first: ParamInfo, second: ParamInfo) -> bool
-    ensures { IsTrue result ↔ ((second.entity ≡ first.entity) × (second.cap ≡ first.cap)) }
+    ensures { result ≡ spec.same_type first second }
 {
-    second.entity == first.entity && second.cap == first.cap
+    first.entity == second.entity && first.cap == second.cap
 }
 
 // Whether there are as many parameters, each of the same type.
 fn same_types(first: &[ParamInfo], second: &[ParamInfo]) -> bool
-    ensures { IsTrue result ↔ (map spec.param_type second.now ≡ map spec.param_type first.now) }
+    ensures { result ≡ spec.same_types first.now second.now }
 {
     let mut left = second;
     for param in first {
@@ -28,6 +28,14 @@ fn same_types(first: &[ParamInfo], second: &[ParamInfo]) -> bool
         }
     }
     left.is_empty()
+}
+
+// Whether the two methods have as many parameters, of the same types.
+#[tactic(auto, using(crate::proofs::SameTypes::same_types_iff))]
+fn same_params(first: &Method, second: &Method) -> bool
+    ensures { IsTrue result ↔ (map spec.param_type second.now.params ≡ map spec.param_type first.now.params) }
+{
+    same_types(first.params.as_slice(), second.params.as_slice())
 }
 
 // Whether the two methods have one name, kind and receiver.
@@ -48,7 +56,5 @@ fn same_result(first: &Method, second: &Method) -> bool
 pub(crate) fn is_alike(first: &Method, second: &Method) -> bool
     ensures { IsTrue result ↔ spec.Alike first.now second.now }
 {
-    same_head(first, second)
-        && same_result(first, second)
-        && same_types(first.params.as_slice(), second.params.as_slice())
+    same_head(first, second) && same_result(first, second) && same_params(first, second)
 }

@@ -120,7 +120,8 @@ fn list_conforming(alloc: Global, core: &Core) -> Result<List<EntitySet>, AllocE
     core.formed();
     let groups = group_methods(alloc, core)?;
     let mut sets = all_sets(alloc, core.entities().len())?;
-    keep_groups(alloc, core, &groups, &mut sets).and(Ok(sets))
+    keep_groups(alloc, core, &groups, &mut sets)?;
+    Ok(sets)
 }
 
 /// Makes what later calls look things up in: the index of the methods (`Core::index_methods`), and the table of what

@@ -1,11 +1,10 @@
-use Rattle.pc_sub.proofs.SameTypes.{left_none, other_first, same_next, too_short}
+use Rattle.std.proofs.Common.{sym, ◌∙◌, arith}
+use Rattle.std.specs.Prelude.{drop}
+use Rattle.pc_lists.proofs.Cuts.{left_over}
+use Rattle.pc_sub.proofs.SameTypes.{too_few}
 use Rattle.pc_sub.proofs.alike.same_types.Goals as goal
 
 pub returns-in-empty : goal.returns-in-empty
-returns-in-empty c = ?
-
-pub loop-param-preserved : goal.loop-param-preserved
-loop-param-preserved c = ?
-
-pub returns : goal.returns
-returns c = ?
+returns-in-empty c =
+    sym (too_few (drop c.loop-param.param-index c.args.first.now) c.loop-param.left.now (left_over c.args.first.now c.loop-param.param-index c.loop-param-test.true) (omega (arith, c.in-empty.len_below)))
+    ∙ c.loop-param.invariant

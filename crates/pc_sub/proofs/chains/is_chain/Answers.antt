@@ -1,6 +1,6 @@
 use Rattle.std.proofs.Common.{inl, inr}
 use Rattle.pc_sub.specs.Above.{is_chain_iff}
-use Rattle.pc_sub.proofs.Alike.{alike}
+use Rattle.pc_sub.proofs.Bools.{alike}
 use Rattle.pc_sub.proofs.chains.is_chain.Goals as goal
 
 pub returns-else-from-to : goal.returns-else-from-to

@@ -1,11 +1,14 @@
-use Rattle.std.proofs.Common.{◌++◌, ◌∷◌, [], List, ℕ, length, get_or, sym, ap, subst, ◌∙◌, arith}
-use Rattle.std.specs.Prelude.{slice_set}
-use Rattle.std.proofs.lemmas.List.{length-set, set-set}
-use Rattle.std.proofs.lemmas.Option.{get_or_from_slice_get}
+use Rattle.std.proofs.Common.{◌<◌, ap, length, sym, arith}
+use Rattle.std.proofs.lemmas.List.{length-set}
+use Rattle.pc_sub.proofs.Grouping.{add_is}
 use Rattle.pc_sub.proofs.groups.add_at.Goals as goal
 
-pub replace-requires-2 : goal.replace-requires-2
-replace-requires-2 c = ?
+pub replace-requires : goal.replace-requires
+replace-requires c =
+    let low = c.requires in
+    let same = ap length c.replace-list.ensures.new in
+    let kept = length-set c.args.lists.now c.args.place c.new.result in
+    omega (arith, low, same, kept)
 
 pub returns : goal.returns
-returns c = ?
+returns c = add_is c.args.lists.now c.replace-list.new.self c.replace.new.self c.args.place c.args.number c.new.result c.replace-list.result c.push.new.self c.replace-list.ensures.old c.replace-list.ensures.new c.in_ok-push.ensures.ok c.replace.ensures.new

@@ -1,6 +1,6 @@
 use Rattle.std.proofs.Common.{◌↔◌, ℕ, [], length, get_or}
 use Rattle.pc_core.specs.EntitySets.{HasRoom, Holds}
-use Rattle.pc_sub.proofs.Serving.{ServesTo}
+use Rattle.pc_sub.proofs.ServedBy.{ServesTo}
 use Rattle.pc_sub.proofs.serving.entities_with.Given as goal
 
 abbrev pub invariant-loop-group : goal.invariant-loop-group

@@ -1,4 +1,4 @@
-use Rattle.std.proofs.Common.{inl, inr, get_or, subst}
+use Rattle.std.proofs.Common.{inl, inr, get_or, refl, subst}
 use Rattle.std.proofs.lemmas.Option.{slice_get-get_or}
 use Rattle.pc_lists.proofs.Bools.{false_true, no_both}
 use Rattle.pc_core.specs.Entities.{IsAbstract}
@@ -8,7 +8,7 @@ use Rattle.pc_sub.proofs.tables.any_abstract.Goals as goal
 pub returns-then-is_abstract : goal.returns-then-is_abstract
 returns-then-is_abstract c =
     let n = c.loop-entity.entity-index in
-    (λ t. (get_or c.args.entities.now n 0, (n, slice_get-get_or c.args.entities.now n 0 c.loop-entity-test.true), c.is_abstract.ensures.0 c.if-is_abstract.true), λ h. c.if-is_abstract.true)
+    (λ t. (get_or c.args.entities.now n 0, (n, slice_get-get_or c.args.entities.now n 0 c.loop-entity-test.true), c.is_abstract.ensures.0 c.if-is_abstract.true), λ h. refl)
 
 pub loop-entity-preserved : goal.loop-entity-preserved
 loop-entity-preserved c =

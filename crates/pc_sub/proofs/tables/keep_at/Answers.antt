@@ -1,8 +1,12 @@
+use Rattle.std.proofs.Common.{sym, subst}
+use Rattle.std.specs.Prelude.{List}
+use Rattle.pc_masks.specs.declared.mask.Mask.{Mask}
+use Rattle.pc_sub.specs.Tables.{Kept}
 use Rattle.pc_sub.proofs.Telling.{kept_at, kept_past}
 use Rattle.pc_sub.proofs.tables.keep_at.Goals as goal
 
 pub returns-in-None : goal.returns-in-None
-returns-in-None c = ?
+returns-in-None c = kept_past c.args.other.now c.args.sets.now c.args.place (sym c.in-None.ensures.value)
 
-pub returns-in-Some : goal.returns-in-Some
-returns-in-Some c = ?
+pub returns-in_ok-both-in-Some : goal.returns-in_ok-both-in-Some
+returns-in_ok-both-in-Some c = ?

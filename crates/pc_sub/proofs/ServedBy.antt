@@ -1,7 +1,7 @@
 -- Which entities have a method for a declared one, by the groups that serve for it.
 use Rattle.std.specs.Prelude.{◌≡◌, ◌⊎◌, ◌↔◌, ℕ, ◌+◌, ◌*◌, ◌<◌, ◌≤◌, List, [], length, Some, get_or, slice_get, refl}
 use Rattle.std.proofs.Common.{inl, inr, sym, ap, subst, ◌∙◌, arith}
-use Rattle.std.proofs.lemmas.Option.{same_Some, get_or_from_slice_get}
+use Rattle.std.proofs.lemmas.Option.{same_Some, get_or_from_slice_get, slice_get-get_or}
 use Rattle.pc_lists.specs.Places.{Each, Has}
 use Rattle.pc_lists.proofs.Gets.{get_below}
 use Rattle.pc_core.specs.declared.declarations.Method.{Method}
@@ -10,8 +10,8 @@ use Rattle.pc_core.specs.Conforms.{HasFor}
 use Rattle.pc_core.specs.Formed.{Formed}
 use Rattle.pc_sub.specs.declared.groups.Groups.{Groups}
 use Rattle.pc_sub.specs.Alike.{Alike}
-use Rattle.pc_sub.specs.Groups.{Grouped, HasAlike, InGroup, IsGroup, Serves, ServesBy}
-use Rattle.pc_sub.proofs.Grouping.{split}
+use Rattle.pc_sub.specs.Groups.{GroupServes, Grouped, HasAlike, InGroup, IsGroup, Serves, ServesBy, first_of}
+use Rattle.pc_sub.proofs.Grouping.{first_within, split}
 use Rattle.pc_sub.proofs.StandsAlike.{alike_back, alike_stands}
 
 -- The entity has a method of one of the first n of these groups, and it serves.
@@ -34,13 +34,32 @@ serves_next core g t ks n k e at = (
   ],
 )
 
+-- One turn of a loop over the groups.
+pub serves_turn : (core : CoreData) (g : Groups) (t : Method) (items ks : List ℕ) (n : ℕ) (Old New : ℕ → Type 0) → items ≡ ks → n < length items → ((e : ℕ) → (Old e) ↔ (ServesTo core g t ks n e)) → ((e : ℕ) → (New e) ↔ (ServesBy core g t (get_or items n 0) e ⊎ Old e)) → (e : ℕ) → (New e) ↔ (ServesTo core g t ks (n + 1) e)
+serves_turn core g t items ks n Old New same low old new e =
+    let at : slice_get ks n ≡ Some (get_or items n 0) = ap (λ xs. slice_get xs n) (sym same) ∙ slice_get-get_or items n 0 low in
+    let next = serves_next core g t ks n (get_or items n 0) e at in (
+      λ h. next.1 (elim ((new e).0 h) [ inl own ↦ inl own | inr before ↦ inr ((old e).0 before) ]),
+      λ h. (new e).1 (elim (next.0 h) [ inl own ↦ inl own | inr less ↦ inr ((old e).1 less) ]),
+    )
+
+-- A group that serves, and what is put into a set then.
+pub serves_then : (core : CoreData) (g : Groups) (t : Method) (k e : ℕ) (es : List ℕ) (y : Method) (New Old : Type 0) → IsGroup core g k y es → Serves core t y → New ↔ (Has es e ⊎ Old) → New ↔ (ServesBy core g t k e ⊎ Old)
+serves_then core g t k e es y New Old group serves new = (
+  λ h. elim (new.0 h) [ inl has ↦ inl (y, es, group, serves, has) | inr old ↦ inr old ],
+  λ h. new.1 (elim h [
+    | inl s ↦ inl (subst (λ xs. Has xs e) (same_Some s.1 es (sym s.2.1 ∙ group.1)) s.4)
+    | inr old ↦ inr old
+  ]),
+)
+
 module _ (core : CoreData) (g : Groups) (t : Method) (grouped : Grouped core (length core.methods) g) where
   -- A method of a group that serves.
   by_has : (k e : ℕ) → ServesBy core g t k e → HasFor core e t
   by_has k e s =
       let h : HasAlike core e s.0 = grouped.sound k s.0 s.1 s.2 s.4.0 e s.4.1 in
       let a : Alike s.0 h.1 = h.4 in
-      (h.0, h.1, (h.1, h.2, h.3, a.head.0 ∙ s.3.0.0), h.2, a.head.1 ∙ s.3.0.1, alike_stands core t s.0 h.1 (alike_back s.0 h.1 a) s.3.1)
+      (h.0, h.1, (h.1, h.2, h.3, a.head.0 ∙ s.3.0.0), h.2, a.head.1 ∙ s.3.0.1, alike_stands core t s.0 h.1 a s.3.1)
 
   -- The group of a method that serves.
   has_by : (e : ℕ) → HasFor core e t → (k : ℕ) × Has (get_or g.named t.name []) k × ServesBy core g t k e
@@ -55,7 +74,7 @@ module _ (core : CoreData) (g : Groups) (t : Method) (grouped : Grouped core (le
       (
         w.group,
         subst (λ ks. Has ks w.group) (sym among) w.has_group,
-        (w.first, w.entities, w.is_group, ((sym a.head.0 ∙ name, sym a.head.1 ∙ h.4), alike_stands core t h.1 w.first a h.5), subst (Has w.entities) entity w.has_entity),
+        (w.first, w.entities, w.is_group, ((sym a.head.0 ∙ name, sym a.head.1 ∙ h.4), alike_stands core t h.1 w.first (alike_back w.first h.1 a) h.5), subst (Has w.entities) entity w.has_entity),
       )
 
   -- All groups of methods of that name were looked at.
@@ -67,6 +86,15 @@ module _ (core : CoreData) (g : Groups) (t : Method) (grouped : Grouped core (le
         let low = get_below ks at.0 r.0 at.1 in
         (at.0, r.0, omega (arith, low, whole), at.1, r.2),
   )
+
+  -- A group that serves has the list of its place.
+  pub group_list : (k : ℕ) (fs es : List ℕ) → fs ≡ g.firsts → es ≡ get_or g.entities k [] → GroupServes core fs t k → (y : Method) × (IsGroup core g k y es) × Serves core t y
+  group_list k fs es same list s =
+      let first : first_of core g.firsts k ≡ Some s.0 = ap (λ (xs : List ℕ). first_of core xs k) (sym same) ∙ s.1 in
+      let low = first_within core g.firsts k s.0 first in
+      let many = grouped.as_many in
+      let there : k < length g.entities = omega (arith, low, many) in
+      (s.0, (first, slice_get-get_or g.entities k [] there ∙ ap Some (sym list)), s.2)
 
   -- The entities of a group are some of the core's.
   pub group_within : (k : ℕ) (y : Method) (es : List ℕ) → Formed core → IsGroup core g k y es → Each (λ i e. e < length core.entities) es
