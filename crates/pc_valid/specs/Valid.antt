@@ -1,0 +1,128 @@
+-- What a derivation is: when an annotation is valid, and what shows that none is.
+use Rattle.std.specs.Prelude.{◌≡◌, ℕ, suc, ◌+◌, ◌<◌, ◌≤◌, List, [], ◌∷◌, length, Some, None, slice_get}
+use Rattle.pc_sub.specs.Declarations.{DeclOk}
+use Rattle.pc_core.specs.declared.declarations.Method.{Method}
+use Rattle.pc_core.specs.declared.nodes.Slot.{Slot}
+use Rattle.pc_core.specs.declared.nodes.Node.{Node}
+use Rattle.pc_core.specs.declared.nodes.NodeKind.TheVariants as node_kind
+use Rattle.pc_core.specs.CoreData.{CoreData}
+use Rattle.pc_lists.specs.Places.{Each}
+use Rattle.pc_masks.specs.declared.mask.Mask.{Mask}
+use Rattle.pc_ann.specs.declared.annotation.Note.{Note}
+use Rattle.pc_ann.specs.declared.annotation.Ann.{Ann}
+use Rattle.pc_masks.specs.Masks.{first}
+use Rattle.pc_valid.specs.Words.{Place, Slots, Masks, before, after, IsConstructor, AllSet, StartsSet}
+use Rattle.pc_valid.specs.Rules.{Means}
+
+-- ---- a node and its rule
+
+-- These are the notes of these nodes, in order.
+abbrev pub AreNotes : (all : List Note) → (nodes : List ℕ) → (notes : List Note) → Type 0
+AreNotes all [] [] = Unit {0}
+AreNotes all (node ∷ nodes) (note ∷ notes) = (slice_get all node ≡ Some note) × AreNotes all nodes notes
+AreNotes all nodes notes = ⊥
+
+-- The note of a node meets its rule, by the types of the slots and by the notes of the node's children, found among all
+-- notes.
+abbrev pub Meets : CoreData → Slots → List Note → Node → Note → Type 0
+Meets core slots all node own = (notes : List Note) × AreNotes all node.children notes × Means core slots own notes node own.rule node.kind
+
+-- The node of this number has a note, which meets its rule.
+abbrev pub MeetsRule : CoreData → Ann → ℕ → Type 0
+MeetsRule core ann number =
+    (node : Node) × (own : Note) × (slice_get core.nodes number ≡ Some node) × (slice_get ann.notes number ≡ Some own)
+    × Meets core ann.slots ann.notes node own
+
+-- This note of the node of this number meets its rule, by the types of the slots and by the notes of the node's children,
+-- in order.
+abbrev pub Holds : CoreData → Slots → Note → List Note → ℕ → Type 0
+Holds core slots own notes number = (node : Node) × (slice_get core.nodes number ≡ Some node) × Means core slots own notes node own.rule node.kind
+
+-- ---- a derivation
+
+-- Each slot with a written type has that type.
+abbrev pub KeepsWritten : CoreData → Ann → Type 0
+KeepsWritten core ann = Each (λ number slot. (ty : Place) → slot.written ≡ Some ty → slice_get ann.slots number ≡ Some ty) core.slots
+
+-- If this method is a constructor, all fields are set after its body.
+abbrev pub SetsFields : CoreData → Ann → Method → Type 0
+SetsFields core ann home =
+    IsConstructor home.kind → (body : ℕ) (note : Note) → home.body ≡ Some body → slice_get ann.notes body ≡ Some note
+    → AllSet core home.entity note.set_after
+
+-- A valid annotation: a derivation, written down node by node.
+pub record Valid (core : CoreData) (ann : Ann) : Type 0 where
+  pub declarations : DeclOk core
+  pub slots : length ann.slots ≡ length core.slots
+  pub notes : length ann.notes ≡ length core.nodes
+  pub written : KeepsWritten core ann
+  pub rules : (number : ℕ) → number < length core.nodes → MeetsRule core ann number
+  pub sets : Each (λ number home. SetsFields core ann home) core.methods
+
+-- Some annotation is valid.
+abbrev pub Derivable : CoreData → Type 0
+Derivable core = (ann : Ann) × Valid core ann
+
+-- ---- the masks that reach a node
+
+-- A method's body is reached by the masks with which the method starts, and a first child by those that reach its parent.
+-- An `else` branch is reached by the masks after the condition, and any other child by those after the child before it.
+pub data Reaches (core : CoreData) (ann : Ann) : ℕ → Masks → Type 0 where
+  body : {number : ℕ} {set : Mask} (node : Node) (home : Method) → slice_get core.nodes number ≡ Some node → node.kind ≡ node_kind.Body
+      → slice_get core.methods node.method ≡ Some home → StartsSet core home set → Reaches core ann number (first (1 + length home.params), set)
+  first_child : {number : ℕ} {masks : Masks} (parent : ℕ) (node : Node) → slice_get core.nodes parent ≡ Some node
+      → slice_get node.children 0 ≡ Some number → Reaches core ann parent masks → Reaches core ann number masks
+  else_branch : {number : ℕ} (parent condition : ℕ) (node : Node) (note : Note) → slice_get core.nodes parent ≡ Some node → node.kind ≡ node_kind.If
+      → slice_get node.children 2 ≡ Some number → slice_get node.children 0 ≡ Some condition → slice_get ann.notes condition ≡ Some note
+      → Reaches core ann number (after note)
+  next_child : {number : ℕ} (parent child index : ℕ) (node : Node) (note : Note) → slice_get core.nodes parent ≡ Some node
+      → (node.kind ≡ node_kind.If → index ≡ 1 → ⊥) → slice_get node.children (suc index) ≡ Some number → slice_get node.children index ≡ Some child
+      → slice_get ann.notes child ≡ Some note → Reaches core ann number (after note)
+
+-- ---- that none is valid
+
+-- The node of this number has a note that meets its rule, and the masks before it are those that reach the node.
+abbrev pub MeetsReached : CoreData → Ann → ℕ → Type 0
+MeetsReached core ann number =
+    (node : Node) × (own : Note) × (slice_get core.nodes number ≡ Some node) × (slice_get ann.notes number ≡ Some own)
+    × Meets core ann.slots ann.notes node own × Reaches core ann number (before own)
+
+-- The node defines a slot without a written type, and this is the slot's number.
+abbrev pub Infers : CoreData → Node → ℕ → Type 0
+Infers core node number =
+    (own : ℕ) × (home : Method) × (slot : Slot) × (node.kind ≡ node_kind.Define own) × (slice_get core.methods node.method ≡ Some home)
+    × (number ≡ home.first_slot + own) × (slice_get core.slots number ≡ Some slot) × (slot.written ≡ None)
+
+-- The types of the slots differ at most at the slot that the node defines without a written type.
+abbrev pub DifferAt : CoreData → Node → Slots → Slots → Type 0
+DifferAt core node old new = (length new ≡ length old) × ((number : ℕ) → (Infers core node number → ⊥) → slice_get new number ≡ slice_get old number)
+
+-- Up to this node all goes well, and no note with the masks that reach it meets a rule, whatever type the slot has that the
+-- node defines.
+pub record NoRule (core : CoreData) (ann : Ann) (number : ℕ) : Type 0 where
+  pub declarations : DeclOk core
+  pub slots : length ann.slots ≡ length core.slots
+  pub written : KeepsWritten core ann
+  pub nodes_before : (earlier : ℕ) → earlier < number → MeetsReached core ann earlier
+  pub sets : Each (λ index home. ((body : ℕ) → home.body ≡ Some body → body < number) → SetsFields core ann home) core.methods
+  pub at : Node
+  pub is_at : slice_get core.nodes number ≡ Some at
+  pub masks : Masks
+  pub reaches : Reaches core ann number masks
+  pub none : (own : Note) (slots : Slots) → DifferAt core at ann.slots slots → before own ≡ masks → Meets core slots ann.notes at own → ⊥
+
+-- After the body of this constructor a field is not set, and all goes well before it.
+pub record Unset (core : CoreData) (ann : Ann) (number : ℕ) : Type 0 where
+  pub declarations : DeclOk core
+  pub slots : length ann.slots ≡ length core.slots
+  pub written : KeepsWritten core ann
+  pub method : Method
+  pub is_method : slice_get core.methods number ≡ Some method
+  pub constructor : IsConstructor method.kind
+  pub body : ℕ
+  pub is_body : method.body ≡ Some body
+  pub nodes_before : (earlier : ℕ) → earlier ≤ body → MeetsReached core ann earlier
+  pub note : Note
+  pub is_note : slice_get ann.notes body ≡ Some note
+  pub not_all_set : AllSet core method.entity note.set_after → ⊥
+  pub sets : Each (λ index home. index < number → SetsFields core ann home) core.methods

@@ -1,0 +1,9 @@
+//! What a derivation is: the 31 typing rules as records of their condition, their type and their masks, over subtyping as a
+//! relation, and when an annotation of a core is valid. It has no code, and nothing here is computed: the crates above prove
+//! that what they compute is this.
+//!
+//! - `specs/Words.antt`: types, places and masks; slots, fields and methods by their names; when a value may go where another
+//!   is wanted.
+//! - `specs/Rules.antt`: the rules.
+//! - `specs/Valid.antt`: valid annotations, and what shows that a core has none.
+#![tactic(auto)]
