@@ -17,7 +17,7 @@ use Rattle.pc_lists.specs.Places.{Ascends}
 use Rattle.pc_names.specs.Names.{OfFile}
 use Rattle.pc_names.specs.declared.fault.NameFault.{NameFault}
 use Rattle.pc_refusals.proofs.OneSource.{SourceLaws}
-use Rattle.pc_rules.specs.Valid.{NoRule, Unset}
+use Rattle.pc_valid.specs.Valid.{NoRule, Unset}
 use Rattle.pc_sub.specs.Declarations.{DeclOk, first_fault}
 use Rattle.pc_sub.specs.DeclarationLaws.{NoFaultWhereFit}
 use Rattle.pc_sub.specs.declared.faults.DeclFault.{DeclFault}

@@ -17,7 +17,7 @@ use Rattle.pc_names.specs.Names.{OfFile, IsNameFault}
 use Rattle.pc_names.specs.declared.fault.NameFault.{NameFault}
 use Rattle.pc_names.specs.declared.fault.NameFault.TheVariants as naming
 use Rattle.pc_refusals.specs.Source.{source_limit}
-use Rattle.pc_rules.specs.Valid.{Derivable, NoRule, Unset}
+use Rattle.pc_valid.specs.Valid.{Derivable, NoRule, Unset}
 use Rattle.pc_sub.specs.Declarations.{first_fault}
 use Rattle.pc_sub.specs.declared.faults.DeclFault.{DeclFault}
 use Rattle.pc_token.specs.declared.kinds.Token.{Token}

@@ -17,10 +17,11 @@ use Rattle.pc_core.specs.Nodes.{HasArity, NamesFit}
 use Rattle.pc_core.specs.Formed.{Formed}
 use Rattle.pc_ann.specs.declared.annotation.Note.{Note}
 use Rattle.pc_ann.specs.declared.annotation.Ann.{Ann}
-use Rattle.pc_rules.specs.Parts.{Masks, before, after}
-use Rattle.pc_rules.specs.Rules.{says, said_by, Meets}
-use Rattle.pc_rules.specs.Valid.{Valid, KeepsWritten, Reaches, MeetsReached, DifferAt, is_else}
-use Rattle.pc_rules.specs.Valid.Reaches.{body, first_child, else_branch, next_child}
+use Rattle.pc_valid.specs.Words.{Masks, before, after}
+use Rattle.pc_valid.specs.Valid.{KeepsWritten, DifferAt}
+use Rattle.pc_rules.specs.Rules.{says, said_by, IsSaid}
+use Rattle.pc_rules.specs.Checks.{Checks, StartsFrom, GoesWell, is_else}
+use Rattle.pc_rules.specs.Checks.StartsFrom.{body, first_child, else_branch, next_child}
 use Rattle.pc_rules.specs.Trees.{Tree, Forest, tree, empty, more, tree_le}
 use Rattle.pc_rules.proofs.Homes.{own_tree, children_of, children_before}
 use Rattle.pc_rules.proofs.Bridge.{meets_threads, meets_if_threads}
@@ -54,7 +55,7 @@ mutual
 
 -- ---- the masks that reach a node depend on the notes before its tree
 
-pub reaches_same : (core : CoreData) (a b : Ann) (n : ℕ) (m : Masks) (low : ℕ) → Formed core → Tree core low n → ((c : ℕ) → c < low → slice_get a.notes c ≡ slice_get b.notes c) → Reaches core a n m → Reaches core b n m
+pub reaches_same : (core : CoreData) (a b : Ann) (n : ℕ) (m : Masks) (low : ℕ) → Formed core → Tree core low n → ((c : ℕ) → c < low → slice_get a.notes c ≡ slice_get b.notes c) → StartsFrom core a n m → StartsFrom core b n m
 reaches_same core a b n m low formed t h (body x f g k e) = body x f g k e
 reaches_same core a b n m low formed t h (first_child p x g e r) =
     let tp = own_tree core p formed (get_below core.nodes p x g) in
@@ -78,10 +79,10 @@ nothing_yet core a b = record { notes = λ k l. absurd (omega (arith, l)); slots
 
 -- ---- in a valid annotation each node starts from the masks that reach it
 
-valid_meets : (core : CoreData) (b : Ann) (n : ℕ) (x : Node) (t : Note) → Valid core b → slice_get core.nodes n ≡ Some x → slice_get b.notes n ≡ Some t → Meets core b x t
+valid_meets : (core : CoreData) (b : Ann) (n : ℕ) (x : Node) (t : Note) → Checks core b → slice_get core.nodes n ≡ Some x → slice_get b.notes n ≡ Some t → IsSaid core b x t
 valid_meets core b n x t v g h =
     let r = v.rules n (get_below core.nodes n x g) in
-    subst (λ (y : Node). Meets core b y t) (same_Some r.0 x (sym r.2 ∙ g)) (subst (λ (s : Note). Meets core b r.0 s) (same_Some r.1 t (sym r.3 ∙ h)) r.4)
+    subst (λ (y : Node). IsSaid core b y t) (same_Some r.0 x (sym r.2 ∙ g)) (subst (λ (s : Note). IsSaid core b r.0 s) (same_Some r.1 t (sym r.3 ∙ h)) r.4)
 
 branches : (k : NodeKind) → (is_branch k ≡ false) ⊎ (k ≡ node.If)
 branches node.If = inr refl
@@ -113,7 +114,7 @@ then_both cs zero c d n k e f = then_list cs c d n e f
 then_both cs (suc zero) c d n k e f = absurd (false_true (sym k))
 then_both cs (suc (suc i)) c d n k e f = let l = get_below cs (suc (suc (suc i))) d f in absurd (omega (arith, l, n))
 
-module _ (core : CoreData) (b : Ann) (formed : Formed core) (v : Valid core b) where
+module _ (core : CoreData) (b : Ann) (formed : Formed core) (v : Checks core b) where
   note_at : (n : ℕ) (x : Node) → slice_get core.nodes n ≡ Some x → (t : Note) × (slice_get b.notes n ≡ Some t)
   note_at n x g = let l = get_below core.nodes n x g in let count = v.notes in get_within b.notes n (omega (arith, l, count))
 
@@ -145,7 +146,7 @@ module _ (core : CoreData) (b : Ann) (formed : Formed core) (v : Valid core b) w
             next_starts b (then_way x.children) (before s.0) 0 c n t u (meets_if_threads core b x s.0 if m).0 way.0 way.1 ht hu
       ]
 
-  valid_reached : (n : ℕ) (m : Masks) (t : Note) → slice_get b.notes n ≡ Some t → Reaches core b n m → before t ≡ m
+  valid_reached : (n : ℕ) (m : Masks) (t : Note) → slice_get b.notes n ≡ Some t → StartsFrom core b n m → before t ≡ m
   valid_reached n m t h (body x f g k e) = body_starts core b x (before t) (said_by t) f (body_says_at core b x t k (valid_meets core b n x t v g h)) e
   valid_reached n m t h (first_child p x g e r) = let s = note_at p x g in first_of p n x s.0 t g s.1 e h ∙ valid_reached p m s.0 s.1 r
   valid_reached n m t h (else_branch p c x u g k e f i) = else_of p c n x u t g k e f i h
@@ -155,13 +156,13 @@ module _ (core : CoreData) (b : Ann) (formed : Formed core) (v : Valid core b) w
 
   module _ (a : Ann) (wa : KeepsWritten core a) where
     -- The masks that reach node n in one reach it in the other.
-    starts_there : (n : ℕ) (x : Node) (m : Masks) (t : Note) → Agree core a b n → slice_get core.nodes n ≡ Some x → Reaches core a n m → slice_get b.notes n ≡ Some t → before t ≡ m
+    starts_there : (n : ℕ) (x : Node) (m : Masks) (t : Note) → Agree core a b n → slice_get core.nodes n ≡ Some x → StartsFrom core a n m → slice_get b.notes n ≡ Some t → before t ≡ m
     starts_there n x m t same g r h =
         let own = own_tree core n formed (get_below core.nodes n x g) in
         let low = tree_le core own.0 n own.1 in
         valid_reached n m t h (reaches_same core a b n m own.0 formed own.1 (λ c l. same.notes c (omega (arith, l, low))) r)
 
-    agree_up : (n : ℕ) → n ≤ length core.nodes → ((k : ℕ) → k < n → MeetsReached core a k) → Agree core a b n
+    agree_up : (n : ℕ) → n ≤ length core.nodes → ((k : ℕ) → k < n → GoesWell core a k) → Agree core a b n
     agree_up zero l h = nothing_yet core a b
     agree_up (suc n) l h =
         let same = agree_up n (omega (arith, l)) (λ k m. h k (omega (arith, m))) in
@@ -215,7 +216,7 @@ module _ (core : CoreData) (b : Ann) (formed : Formed core) (wb : KeepsWritten c
   chosen n x k count same g e = (a.slots, unchanged x, λ i f look gf. absurd (none-some i (sym (ap looked_at e) ∙ look)))
 
   -- The other's note meets its rule with them.
-  pub says_there : (n : ℕ) (x : Node) (m : Masks) (t : Note) → Agree core a b n → slice_get core.nodes n ≡ Some x → Meets core b x t → before t ≡ m → (c : Chosen x) → says core (record { slots = c.0; notes = a.notes }) x m t.rule x.kind ≡ Some (said_by t)
+  pub says_there : (n : ℕ) (x : Node) (m : Masks) (t : Note) → Agree core a b n → slice_get core.nodes n ≡ Some x → IsSaid core b x t → before t ≡ m → (c : Chosen x) → says core (record { slots = c.0; notes = a.notes }) x m t.rule x.kind ≡ Some (said_by t)
   says_there n x m t same g meets start c =
       let looks : LooksAlike core (record { slots = c.0; notes = a.notes }) b x.method x.kind = λ s look. slot_same (record { slots = c.0; notes = a.notes }) b core x.method s (λ f gf. c.2 s f look gf) in
       says_same core (record { slots = c.0; notes = a.notes }) b x (λ i d h. same.notes d (children_before core n x formed g i d h)) t.rule x.kind m looks ∙ subst (λ k. says core b x k t.rule x.kind ≡ Some (said_by t)) start meets
@@ -243,12 +244,12 @@ pub none_with_fault : NoneWithFault
 none_with_fault core fault formed e d = faulted core fault formed e d.1.declarations
 
 -- What is answered where an annotation is valid.
-pub one_answer : (core : CoreData) (fault : CheckFault) (ann : Ann) → Formed core → Valid core ann → Refuses core fault → fault ≡ fault_of.Memory
+pub one_answer : (core : CoreData) (fault : CheckFault) (ann : Ann) → Formed core → Checks core ann → Refuses core fault → fault ≡ fault_of.Memory
 one_answer core (fault_of.Decl f) ann formed v h = absurd (none_with_fault core f formed h (ann, v))
 one_answer core (fault_of.NoRule n l s so_far) ann formed v h = absurd (none_without_rule core so_far n formed h.0 (ann, v))
 one_answer core (fault_of.Unset m so_far) ann formed v h = absurd (none_with_unset core so_far m formed h.0 (ann, v))
 one_answer core fault_of.Memory ann formed v h = refl
 
-pub exact : (core : CoreData) (result : Result Ann CheckFault) (ann : Ann) → Formed core → OneValid → IfOk result (Valid core) → IfErr result (Refuses core) → Valid core ann → Answers result (Ok ann)
+pub exact : (core : CoreData) (result : Result Ann CheckFault) (ann : Ann) → Formed core → OneValid → IfOk result (Checks core) → IfErr result (Refuses core) → Checks core ann → Answers result (Ok ann)
 exact core (Ok answer) ann formed one ok err v = inl (ap Ok (one core answer ann formed ok v))
 exact core (Err fault) ann formed one ok err v = inr (ap Err (one_answer core fault ann formed v err))

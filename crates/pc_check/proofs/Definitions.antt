@@ -17,7 +17,8 @@ use Rattle.pc_core.specs.MethodKinds.{this_slot}
 use Rattle.pc_core.specs.Nodes.{NamesFit}
 use Rattle.pc_core.specs.Formed.{Formed}
 use Rattle.pc_ann.specs.declared.annotation.Ann.{Ann}
-use Rattle.pc_rules.specs.Parts.{Ty, type_of, one_child}
+use Rattle.pc_rules.specs.Parts.{type_of, one_child}
+use Rattle.pc_valid.specs.Words.{Ty}
 use Rattle.pc_rules.proofs.Alike.{looked_at}
 use Rattle.pc_rules.proofs.Slotted.{slot_known, this_known}
 use Rattle.pc_check.specs.Inference.{unwritten, slot_type, inferred_slot}

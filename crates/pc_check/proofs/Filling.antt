@@ -13,8 +13,8 @@ use Rattle.pc_core.specs.Formed.{Formed}
 use Rattle.pc_lists.proofs.Bools.{false_true}
 use Rattle.pc_rules.proofs.Agreeing.{body_method}
 use Rattle.pc_rules.specs.Trees.{Tree, Forest, more, body_tree, tree_le}
-use Rattle.pc_rules.specs.Valid.{is_else}
-use Rattle.pc_rules.specs.Valid.Reaches.{body, first_child, else_branch, next_child}
+use Rattle.pc_rules.specs.Checks.{is_else}
+use Rattle.pc_rules.specs.Checks.StartsFrom.{body, first_child, else_branch, next_child}
 use Rattle.pc_check.specs.declared.sources.Source.{Source}
 use Rattle.pc_check.specs.declared.sources.Source.TheVariants as source
 use Rattle.pc_check.specs.Sources.{Comes, Placed, Sourced, Known, Filled, PartFilled, PassesOn, ComesLater}

@@ -12,11 +12,12 @@ use Rattle.pc_core.specs.Formed.{Formed}
 use Rattle.pc_ann.specs.declared.annotation.Note.{Note}
 use Rattle.pc_ann.specs.declared.annotation.Ann.{Ann}
 use Rattle.pc_masks.specs.Masks.{first}
-use Rattle.pc_rules.specs.Parts.{Masks, before, after}
+use Rattle.pc_valid.specs.Words.{Masks, before, after}
+use Rattle.pc_valid.specs.Valid.{KeepsWritten}
 use Rattle.pc_rules.specs.Control.{start_set}
-use Rattle.pc_rules.specs.Rules.{Meets}
-use Rattle.pc_rules.specs.Valid.{KeepsWritten, SetsFields, Reaches, MeetsReached, NoRule, Unset, is_else}
-use Rattle.pc_rules.specs.Valid.Reaches.{body, first_child, else_branch, next_child}
+use Rattle.pc_rules.specs.Rules.{IsSaid}
+use Rattle.pc_rules.specs.Checks.{FillsFields, StartsFrom, GoesWell, SaysNothing, StaysUnset, is_else}
+use Rattle.pc_rules.specs.Checks.StartsFrom.{body, first_child, else_branch, next_child}
 use Rattle.pc_rules.specs.Trees.{Tree, Forest, tree, empty, more, body_tree, tree_le}
 use Rattle.pc_core.proofs.Homes.{Home, home}
 use Rattle.pc_rules.proofs.Homes.{home_body, own_tree, children_of, children_before}
@@ -138,7 +139,7 @@ abbrev starts_of_in : CoreData → Method → Masks
 starts_of_in core f = (first (1 + length f.params), start_set core f)
 
 module _ (core : CoreData) (b : Ann) (formed : Formed core) where
-  else_one : (n p c : ℕ) (x : Node) (t : Note) (m : Masks) → slice_get core.nodes p ≡ Some x → x.kind ≡ node.If → slice_get x.children 2 ≡ Some n → slice_get x.children 0 ≡ Some c → slice_get b.notes c ≡ Some t → Reaches core b n m → after t ≡ m
+  else_one : (n p c : ℕ) (x : Node) (t : Note) (m : Masks) → slice_get core.nodes p ≡ Some x → x.kind ≡ node.If → slice_get x.children 2 ≡ Some n → slice_get x.children 0 ≡ Some c → slice_get b.notes c ≡ Some t → StartsFrom core b n m → after t ≡ m
   else_one n p c x t m g k e f i (body y h u w v) = absurd (body_alone core n p 2 y x formed u w g e)
   else_one n p c x t m g k e f i (first_child q y h w r) = let o = once core n q p 0 2 y x formed h g w e in absurd (not_first o.place)
   else_one n p c x t m g k e f i (else_branch q d y u h w v z s) = let o = once core n p q 2 2 x y formed g h e v in same_note b c d t u (same_Some c d (sym f ∙ ap (λ (a : Node). slice_get a.children 0) o.at ∙ z)) i s
@@ -146,7 +147,7 @@ module _ (core : CoreData) (b : Ann) (formed : Formed core) where
       let o = once core n p q 2 (suc j) x y formed g h e v in
       absurd (false_true (sym w ∙ ap (is_else y.kind) (sym o.place) ∙ ap (λ a. is_else a 2) (ap (λ (a : Node). a.kind) (sym o.at) ∙ k)))
 
-  next_one : (n p c i : ℕ) (x : Node) (t : Note) (m : Masks) → slice_get core.nodes p ≡ Some x → is_else x.kind (suc i) ≡ false → slice_get x.children (suc i) ≡ Some n → slice_get x.children i ≡ Some c → slice_get b.notes c ≡ Some t → Reaches core b n m → after t ≡ m
+  next_one : (n p c i : ℕ) (x : Node) (t : Note) (m : Masks) → slice_get core.nodes p ≡ Some x → is_else x.kind (suc i) ≡ false → slice_get x.children (suc i) ≡ Some n → slice_get x.children i ≡ Some c → slice_get b.notes c ≡ Some t → StartsFrom core b n m → after t ≡ m
   next_one n p c i x t m g k e f s (body y h u w v) = absurd (body_alone core n p (suc i) y x formed u w g e)
   next_one n p c i x t m g k e f s (first_child q y h w r) = let o = once core n q p 0 (suc i) y x formed h g w e in absurd (not_first o.place)
   next_one n p c i x t m g k e f s (else_branch q d y u h w v z a) =
@@ -158,7 +159,7 @@ module _ (core : CoreData) (b : Ann) (formed : Formed core) where
       let same : i ≡ j = omega (arith, l) in
       same_note b c d t u (same_Some c d (sym f ∙ ap (λ (z : Node). slice_get z.children i) o.at ∙ ap (slice_get y.children) same ∙ z)) s a
 
-  pub body_one : (n : ℕ) (x : Node) (f : Method) (m : Masks) → slice_get core.nodes n ≡ Some x → x.kind ≡ node.Body → slice_get core.methods x.method ≡ Some f → Reaches core b n m → ◌≡◌ {A = Masks} (first (1 + length f.params), start_set core f) m
+  pub body_one : (n : ℕ) (x : Node) (f : Method) (m : Masks) → slice_get core.nodes n ≡ Some x → x.kind ≡ node.Body → slice_get core.methods x.method ≡ Some f → StartsFrom core b n m → ◌≡◌ {A = Masks} (first (1 + length f.params), start_set core f) m
   body_one n x f m g k e (body y h u w v) =
       let is : x ≡ y = same_Some x y (sym g ∙ u) in
       let own : f ≡ h = same_Some f h (sym e ∙ ap (λ (z : Node). slice_get core.methods z.method) is ∙ v) in
@@ -168,13 +169,13 @@ module _ (core : CoreData) (b : Ann) (formed : Formed core) where
   body_one n x f m g k e (next_child q d j y u h w v z s) = absurd (body_alone core n q (suc j) x y formed g k h v)
 
   -- What reaches a first child reaches its parent.
-  up : (n p : ℕ) (x : Node) (m : Masks) → slice_get core.nodes p ≡ Some x → slice_get x.children 0 ≡ Some n → Reaches core b n m → Reaches core b p m
+  up : (n p : ℕ) (x : Node) (m : Masks) → slice_get core.nodes p ≡ Some x → slice_get x.children 0 ≡ Some n → StartsFrom core b n m → StartsFrom core b p m
   up n p x m g e (body y h u w v) = absurd (body_alone core n p 0 y x formed u w g e)
-  up n p x m g e (first_child q y h w r) = let o = once core n q p 0 0 y x formed h g w e in subst (λ k. Reaches core b k m) o.parent r
+  up n p x m g e (first_child q y h w r) = let o = once core n q p 0 0 y x formed h g w e in subst (λ k. StartsFrom core b k m) o.parent r
   up n p x m g e (else_branch q d y u h w v z s) = let o = once core n p q 0 2 x y formed g h e v in absurd (not_first o.place)
   up n p x m g e (next_child q d j y u h w v z s) = let o = once core n p q 0 (suc j) x y formed g h e v in absurd (not_first o.place)
 
-  pub reaches_one : (n : ℕ) (m k : Masks) → Reaches core b n m → Reaches core b n k → m ≡ k
+  pub reaches_one : (n : ℕ) (m k : Masks) → StartsFrom core b n m → StartsFrom core b n k → m ≡ k
   reaches_one n m k (body x f g c e) r = body_one n x f k g c e r
   reaches_one n m k (first_child p x g e r) s = reaches_one p m k r (up n p x k g e s)
   reaches_one n m k (else_branch p c x t g d e f i) r = else_one n p c x t k g d e f i r
@@ -183,31 +184,31 @@ module _ (core : CoreData) (b : Ann) (formed : Formed core) where
 -- ---- two that go up to a node
 
 module _ (core : CoreData) (a b : Ann) (formed : Formed core) (wa : KeepsWritten core a) (wb : KeepsWritten core b) where
-  pub carried : (n : ℕ) (x : Node) (m : Masks) → Agree core a b n → slice_get core.nodes n ≡ Some x → Reaches core a n m → Reaches core b n m
+  pub carried : (n : ℕ) (x : Node) (m : Masks) → Agree core a b n → slice_get core.nodes n ≡ Some x → StartsFrom core a n m → StartsFrom core b n m
   carried n x m same g r =
       let own = own_tree core n formed (get_below core.nodes n x g) in
       let low = tree_le core own.0 n own.1 in
       reaches_same core a b n m own.0 formed own.1 (λ c l. same.notes c (omega (arith, l, low))) r
 
-  pub agree_both : (n : ℕ) → ((k : ℕ) → k < n → MeetsReached core a k) → ((k : ℕ) → k < n → MeetsReached core b k) → Agree core a b n
+  pub agree_both : (n : ℕ) → ((k : ℕ) → k < n → GoesWell core a k) → ((k : ℕ) → k < n → GoesWell core b k) → Agree core a b n
   agree_both zero h k = nothing_yet core a b
   agree_both (suc n) h k =
       let same = agree_both n (λ i l. h i (omega (arith, l))) (λ i l. k i (omega (arith, l))) in
       let r = h n (omega arith) in
       let s = k n (omega arith) in
       let is : s.0 ≡ r.0 = same_Some s.0 r.0 (sym s.2 ∙ r.2) in
-      let meets = subst (λ (z : Node). Meets core b z s.1) is s.4 in
+      let meets = subst (λ (z : Node). IsSaid core b z s.1) is s.4 in
       let start = reaches_one core b formed n (before r.1) (before s.1) (carried n r.0 (before r.1) same r.2 r.5) s.5 in
       let e : n + 1 ≡ suc n = omega arith in
       subst (Agree core a b) e (node_step core a b formed wa wb n r.0 r.1 s.1 r.2 (children_before core n r.0 formed r.2) same r.3 s.3 r.4 meets start)
 
 -- A node without a rule in one has no note that meets a rule in the other.
-no_note : (core : CoreData) (a b : Ann) (n : ℕ) → Formed core → NoRule core a n → length b.slots ≡ length core.slots → KeepsWritten core b → ((k : ℕ) → k ≤ n → MeetsReached core b k) → ⊥
+no_note : (core : CoreData) (a b : Ann) (n : ℕ) → Formed core → SaysNothing core a n → length b.slots ≡ length core.slots → KeepsWritten core b → ((k : ℕ) → k ≤ n → GoesWell core b k) → ⊥
 no_note core a b n formed w sb wb h =
     let same = agree_both core a b formed w.written wb n w.before (λ k l. h k (omega (arith, l))) in
     let s = h n (omega arith) in
     let is : s.0 ≡ w.at = same_Some s.0 w.at (sym s.2 ∙ w.is_at) in
-    let meets = subst (λ (z : Node). Meets core b z s.1) is s.4 in
+    let meets = subst (λ (z : Node). IsSaid core b z s.1) is s.4 in
     let start = reaches_one core b formed n (before s.1) w.masks s.5 (carried core a b formed w.written wb n w.at w.masks same w.is_at w.reaches) in
     let c = chosen core b formed wb sb a w.written n w.at w.at.kind w.slots same w.is_at refl in
     none-some _ (sym (w.none s.1.rule c.0 c.1) ∙ says_there core b formed wb sb a w.written n w.at w.masks s.1 same w.is_at meets start c)
@@ -223,13 +224,13 @@ one_node core a b n k formed w v =
     ]
 
 -- A constructor that leaves a field unset in one does not set them all in the other.
-not_set : (core : CoreData) (a b : Ann) (m : ℕ) → Formed core → (w : Unset core a m) → KeepsWritten core b → ((k : ℕ) → k ≤ w.body → MeetsReached core b k) → SetsFields core b w.method → ⊥
+not_set : (core : CoreData) (a b : Ann) (m : ℕ) → Formed core → (w : StaysUnset core a m) → KeepsWritten core b → ((k : ℕ) → k ≤ w.body → GoesWell core b k) → FillsFields core b w.method → ⊥
 not_set core a b m formed w wb h sets =
     let same = agree_both core a b formed w.written wb (w.body + 1) (λ k l. w.before k (omega (arith, l))) (λ k l. h k (omega (arith, l))) in
     let there : slice_get b.notes w.body ≡ Some w.note = sym (same.notes w.body (omega arith)) ∙ w.is_note in
     false_true (sym w.lacks ∙ sets w.constructor w.body w.note w.is_body there)
 
-earlier : (core : CoreData) (a b : Ann) (m k : ℕ) → Formed core → Unset core a m → Unset core b k → m < k → ⊥
+earlier : (core : CoreData) (a b : Ann) (m k : ℕ) → Formed core → StaysUnset core a m → StaysUnset core b k → m < k → ⊥
 earlier core a b m k formed w v l =
     let e = earlier_body core m k w.body v.body w.method v.method formed l w.is_method v.is_method w.is_body v.is_body in
     not_set core a b m formed w v.written (λ i h. v.before i (omega (arith, h, e))) (v.sets m w.method w.is_method l)

@@ -24,10 +24,12 @@ use Rattle.pc_ann.specs.declared.annotation.Rule.{Rule}
 use Rattle.pc_ann.specs.declared.annotation.Rule.TheVariants as rule
 use Rattle.pc_sub.specs.Declarations.{DeclOk}
 use Rattle.pc_rules.specs.declared.said.Said.{Said}
-use Rattle.pc_rules.specs.Parts.{Masks, constructs, full, before, notes_of}
+use Rattle.pc_rules.specs.Parts.{constructs, full, notes_of}
+use Rattle.pc_valid.specs.Words.{Masks, before}
+use Rattle.pc_valid.specs.Valid.{Infers, DifferAt}
 use Rattle.pc_rules.specs.Values.{defined_type}
-use Rattle.pc_rules.specs.Rules.{says, Meets}
-use Rattle.pc_rules.specs.Valid.{Reaches, Infers, DifferAt}
+use Rattle.pc_rules.specs.Rules.{says, IsSaid}
+use Rattle.pc_rules.specs.Checks.{StartsFrom}
 use Rattle.pc_rules.proofs.Alike.{looked_at, LooksAlike, slot_same, says_same}
 use Rattle.pc_lists.proofs.Bools.{false_true}
 use Rattle.pc_rules.proofs.OneRule.{define_rule}
@@ -164,12 +166,12 @@ module _ (core : CoreData) (a : Ann) (n : ℕ) (x : Node) (formed : Formed core)
 -- ---- what the walk answers
 
 -- At a node, with its slot's type: what came before, and the masks.
-pub ready : (core : CoreData) (sources : List Source) (a b : Ann) (n : ℕ) (x : Node) (s : Source) (m : Masks) → Formed core → Sourced core sources → Walked core a n → slice_get core.nodes n ≡ Some x → slice_get sources n ≡ Some s → m ≡ masks_from core a s → b ≡ with_inferred core a x → Walked core b n × Reaches core b n m
+pub ready : (core : CoreData) (sources : List Source) (a b : Ann) (n : ℕ) (x : Node) (s : Source) (m : Masks) → Formed core → Sourced core sources → Walked core a n → slice_get core.nodes n ≡ Some x → slice_get sources n ≡ Some s → m ≡ masks_from core a s → b ≡ with_inferred core a x → Walked core b n × StartsFrom core b n m
 ready core sources a b n x s m formed sourced w g e me be =
-    let r = subst (Reaches core a n) (sym me) (reached core a n s w.notes (sourced.1 n s e)) in
-    subst (λ (z : Ann). Walked core z n × Reaches core z n m) (sym be) (walked_infer core a n x formed g w, reaches_infer core a n x m r)
+    let r = subst (StartsFrom core a n) (sym me) (reached core a n s w.notes (sourced.1 n s e)) in
+    subst (λ (z : Ann). Walked core z n × StartsFrom core z n m) (sym be) (walked_infer core a n x formed g w, reaches_infer core a n x m r)
 
-stop_at : (core : CoreData) (a : Ann) (n : ℕ) (x : Node) (m : Masks) → Formed core → DeclOk core → length a.slots ≡ length core.slots → slice_get core.nodes n ≡ Some x → Walked core (with_inferred core a x) n → Reaches core (with_inferred core a x) n m → first_note core (with_inferred core a x) x m (rules_for x.kind) ≡ None → StopsAt core n m (with_inferred core a x)
+stop_at : (core : CoreData) (a : Ann) (n : ℕ) (x : Node) (m : Masks) → Formed core → DeclOk core → length a.slots ≡ length core.slots → slice_get core.nodes n ≡ Some x → Walked core (with_inferred core a x) n → StartsFrom core (with_inferred core a x) n m → first_note core (with_inferred core a x) x m (rules_for x.kind) ≡ None → StopsAt core n m (with_inferred core a x)
 stop_at core a n x m formed ok count g w r e = (
   record {
     declarations = ok;
@@ -188,10 +190,10 @@ stop_at core a n x m formed ok count g w r e = (
   w.notes,
 )
 
-pub stops : (core : CoreData) (a b : Ann) (n : ℕ) (x : Node) (m : Masks) → Formed core → DeclOk core → Walked core a n → slice_get core.nodes n ≡ Some x → b ≡ with_inferred core a x → Walked core b n × Reaches core b n m → first_note core b x m (rules_for x.kind) ≡ None → StopsAt core n m b
+pub stops : (core : CoreData) (a b : Ann) (n : ℕ) (x : Node) (m : Masks) → Formed core → DeclOk core → Walked core a n → slice_get core.nodes n ≡ Some x → b ≡ with_inferred core a x → Walked core b n × StartsFrom core b n m → first_note core b x m (rules_for x.kind) ≡ None → StopsAt core n m b
 stops core a b n x m formed ok w g be h e =
     subst (StopsAt core n m) (sym be)
-    (stop_at core a n x m formed ok w.slots g (subst (λ (z : Ann). Walked core z n) be h.0) (subst (λ (z : Ann). Reaches core z n m) be h.1) (subst (λ (z : Ann). first_note core z x m (rules_for x.kind) ≡ None) be e))
+    (stop_at core a n x m formed ok w.slots g (subst (λ (z : Ann). Walked core z n) be h.0) (subst (λ (z : Ann). StartsFrom core z n m) be h.1) (subst (λ (z : Ann). first_note core z x m (rules_for x.kind) ≡ None) be e))
 
 -- ---- a field that is not set
 
@@ -205,7 +207,7 @@ lacks_inv core (Some h) f t g e =
     subst (λ (z : Method). (constructs z.kind ≡ true) × (full core z.entity t.set_after ≡ false)) (same_Some h f g)
     (let p = and_parts (constructs h.kind) (not (full core h.entity t.set_after)) e in (p.0, not-true (full core h.entity t.set_after) p.1))
 
-pub leaves : (core : CoreData) (b : Ann) (n : ℕ) (x : Node) (t : Note) → Formed core → DeclOk core → slice_get core.nodes n ≡ Some x → Walked core b n → Meets core b x t → Reaches core b n (before t) → leaves_unset core x t ≡ true → LeavesUnset core x.method (noted b t)
+pub leaves : (core : CoreData) (b : Ann) (n : ℕ) (x : Node) (t : Note) → Formed core → DeclOk core → slice_get core.nodes n ≡ Some x → Walked core b n → IsSaid core b x t → StartsFrom core b n (before t) → leaves_unset core x t ≡ true → LeavesUnset core x.method (noted b t)
 leaves core b n x t formed ok g w meets r e =
     let p = and_parts (is_body x.kind) (lacks_field core (slice_get core.methods x.method) t.set_after) e in
     let h = home core n formed (get_below core.nodes n x g) in

@@ -20,10 +20,11 @@ use Rattle.pc_ann.specs.declared.annotation.Ann.{Ann}
 use Rattle.pc_ann.specs.declared.annotation.Rule.{Rule}
 use Rattle.pc_sub.specs.Declarations.{DeclOk}
 use Rattle.pc_rules.specs.declared.said.Said.{Said}
-use Rattle.pc_rules.specs.Parts.{Masks, constructs, full, before}
-use Rattle.pc_rules.specs.Rules.{says, Meets}
-use Rattle.pc_rules.specs.Valid.{Valid, SetsFields, Reaches, MeetsReached}
-use Rattle.pc_rules.specs.Valid.Reaches.{body, first_child, else_branch, next_child}
+use Rattle.pc_rules.specs.Parts.{constructs, full}
+use Rattle.pc_valid.specs.Words.{Masks, before}
+use Rattle.pc_rules.specs.Rules.{says, IsSaid}
+use Rattle.pc_rules.specs.Checks.{Checks, FillsFields, StartsFrom, GoesWell}
+use Rattle.pc_rules.specs.Checks.StartsFrom.{body, first_child, else_branch, next_child}
 use Rattle.pc_rules.proofs.Alike.{LooksAlike, SameNotes, slot_same, says_same}
 use Rattle.pc_rules.specs.Trees.{tree_le}
 use Rattle.pc_rules.proofs.Agreeing.{body_method}
@@ -42,14 +43,14 @@ use Rattle.pc_check.proofs.Definitions.{inferred_inv, other_place}
 abbrev pub Extends : Ann → Ann → Type 0
 Extends a b = (c : ℕ) (t : Note) → slice_get a.notes c ≡ Some t → slice_get b.notes c ≡ Some t
 
-pub reaches_more : (core : CoreData) (a b : Ann) (n : ℕ) (m : Masks) → Extends a b → Reaches core a n m → Reaches core b n m
+pub reaches_more : (core : CoreData) (a b : Ann) (n : ℕ) (m : Masks) → Extends a b → StartsFrom core a n m → StartsFrom core b n m
 reaches_more core a b n m h (body x f g k e) = body x f g k e
 reaches_more core a b n m h (first_child p x g e r) = first_child p x g e (reaches_more core a b p m h r)
 reaches_more core a b n m h (else_branch p c x t g k e f i) = else_branch p c x t g k e f (h c t i)
 reaches_more core a b n m h (next_child p c i x t g k e f j) = next_child p c i x t g k e f (h c t j)
 
 -- What a node meets it still meets, where its children's notes and its slot's type are the same.
-pub meets_more : (core : CoreData) (a b : Ann) (k n : ℕ) → Formed core → k < n → length a.notes ≡ n → Extends a b → ((x : Node) → slice_get core.nodes k ≡ Some x → LooksAlike core a b x.method x.kind) → MeetsReached core a k → MeetsReached core b k
+pub meets_more : (core : CoreData) (a b : Ann) (k n : ℕ) → Formed core → k < n → length a.notes ≡ n → Extends a b → ((x : Node) → slice_get core.nodes k ≡ Some x → LooksAlike core a b x.method x.kind) → GoesWell core a k → GoesWell core b k
 meets_more core a b k n formed l count h looks r =
     let x = r.0 in
     let t = r.1 in
@@ -86,21 +87,21 @@ walked_infer core ann n x formed g w = walked_slot core ann n x (inferred_slot c
 
 -- ---- the masks
 
-reach_from : (core : CoreData) (ann : Ann) (low n : ℕ) (s : Source) → low ≤ n → length ann.notes ≡ n → Comes core low n s → Reaches core ann n (masks_from core ann s)
-reach_from core ann low n (source.Start m) l count h = subst (λ o. Reaches core ann n (masks_in core o)) (sym h.1) (h.2 ann)
+reach_from : (core : CoreData) (ann : Ann) (low n : ℕ) (s : Source) → low ≤ n → length ann.notes ≡ n → Comes core low n s → StartsFrom core ann n (masks_from core ann s)
+reach_from core ann low n (source.Start m) l count h = subst (λ o. StartsFrom core ann n (masks_in core o)) (sym h.1) (h.2 ann)
 reach_from core ann low n (source.Behind d) l count h =
     let before_low = h.0 in
     let t = get_within ann.notes d (omega (arith, before_low, l, count)) in
-    subst (λ o. Reaches core ann n (masks_behind o)) (sym t.1) (h.1 ann t.0 t.1)
+    subst (λ o. StartsFrom core ann n (masks_behind o)) (sym t.1) (h.1 ann t.0 t.1)
 
-pub reached : (core : CoreData) (ann : Ann) (n : ℕ) (s : Source) → length ann.notes ≡ n → Placed core n s → Reaches core ann n (masks_from core ann s)
+pub reached : (core : CoreData) (ann : Ann) (n : ℕ) (s : Source) → length ann.notes ≡ n → Placed core n s → StartsFrom core ann n (masks_from core ann s)
 reached core ann n s count h = reach_from core ann h.0 n s (tree_le core h.0 n h.1) count h.2
 
-reaches_slot : (core : CoreData) (ann : Ann) (n : ℕ) (m : Masks) (o : Option (ℕ × (ℕ × Cap))) → Reaches core ann n m → Reaches core (with_slot ann o) n m
+reaches_slot : (core : CoreData) (ann : Ann) (n : ℕ) (m : Masks) (o : Option (ℕ × (ℕ × Cap))) → StartsFrom core ann n m → StartsFrom core (with_slot ann o) n m
 reaches_slot core ann n m None r = r
 reaches_slot core ann n m (Some i) r = reaches_more core ann (record { slots = slice_set ann.slots i.0 i.1; notes = ann.notes }) n m (λ c t e. e) r
 
-pub reaches_infer : (core : CoreData) (ann : Ann) (n : ℕ) (x : Node) (m : Masks) → Reaches core ann n m → Reaches core (with_inferred core ann x) n m
+pub reaches_infer : (core : CoreData) (ann : Ann) (n : ℕ) (x : Node) (m : Masks) → StartsFrom core ann n m → StartsFrom core (with_inferred core ann x) n m
 reaches_infer core ann n x m r = reaches_slot core ann n m (inferred_slot core ann x x.kind) r
 
 -- ---- the note
@@ -110,11 +111,11 @@ found_by r m None rest t e = inr e
 found_by r m (Some q) rest t e = inl (q, refl, same_Some (note_of r m q) t e)
 
 -- The note that is found starts from the masks and meets its rule.
-pub note_meets : (core : CoreData) (ann : Ann) (x : Node) (m : Masks) (rs : List Rule) (t : Note) → first_note core ann x m rs ≡ Some t → (before t ≡ m) × Meets core ann x t
+pub note_meets : (core : CoreData) (ann : Ann) (x : Node) (m : Masks) (rs : List Rule) (t : Note) → first_note core ann x m rs ≡ Some t → (before t ≡ m) × IsSaid core ann x t
 note_meets core ann x m [] t e = absurd (none-some t e)
 note_meets core ann x m (r ∷ rs) t e =
     elim (found_by r m (says core ann x m r x.kind) (first_note core ann x m rs) t e) [
-      | inl here ↦ subst (λ (k : Note). (before k ≡ m) × Meets core ann x k) here.2 (refl, here.1)
+      | inl here ↦ subst (λ (k : Note). (before k ≡ m) × IsSaid core ann x k) here.2 (refl, here.1)
       | inr later ↦ note_meets core ann x m rs t later
     ]
 
@@ -130,13 +131,13 @@ pub note_here : (ann : Ann) (t : Note) (n : ℕ) → length ann.notes ≡ n → 
 note_here ann t n e = ap (slice_get (ann.notes ++ t ∷ [])) (sym e) ∙ get_behind ann.notes t []
 
 -- Each node up to n meets its rule.
-pub meets_noted : (core : CoreData) (ann : Ann) (n : ℕ) (x : Node) (t : Note) → Formed core → slice_get core.nodes n ≡ Some x → Walked core ann n → Meets core ann x t → Reaches core ann n (before t) → (k : ℕ) → k ≤ n → MeetsReached core (noted ann t) k
+pub meets_noted : (core : CoreData) (ann : Ann) (n : ℕ) (x : Node) (t : Note) → Formed core → slice_get core.nodes n ≡ Some x → Walked core ann n → IsSaid core ann x t → StartsFrom core ann n (before t) → (k : ℕ) → k ≤ n → GoesWell core (noted ann t) k
 meets_noted core ann n x t formed g w m r k l =
     elim (cases_lt k n) [
       | inl below ↦ meets_more core ann (noted ann t) k n formed below w.notes (noted_extends ann t) (λ z h s look. refl) (w.before k below)
       | inr at ↦ let is : n ≡ k = omega (arith, l, at) in
           let same : SameNotes ann (noted ann t) x.children = λ i c e. let s = children_before core n x formed g i c e in let count = w.notes in let u = get_within ann.notes c (omega (arith, s, count)) in u.1 ∙ sym (noted_extends ann t c u.0 u.1) in
-          subst (MeetsReached core (noted ann t)) is
+          subst (GoesWell core (noted ann t)) is
           (x, t, g, note_here ann t n w.notes, sym (says_same core ann (noted ann t) x same t.rule x.kind (before t) (λ s look. refl)) ∙ m, reaches_more core ann (noted ann t) n (before t) (noted_extends ann t) r)
     ]
 
@@ -145,7 +146,7 @@ note_before : (ann : Ann) (t u : Note) (b n : ℕ) → length ann.notes ≡ n �
 note_before ann t u b n count l e = let v = get_within ann.notes b (omega (arith, count, l)) in v.1 ∙ sym (noted_extends ann t b v.0 v.1) ∙ e
 
 -- Constructors whose bodies come before n set all fields.
-pub sets_noted : (core : CoreData) (ann : Ann) (n : ℕ) (t : Note) → Walked core ann n → Each (λ m f. ((b : ℕ) → f.body ≡ Some b → b < n) → SetsFields core (noted ann t) f) core.methods
+pub sets_noted : (core : CoreData) (ann : Ann) (n : ℕ) (t : Note) → Walked core ann n → Each (λ m f. ((b : ℕ) → f.body ≡ Some b → b < n) → FillsFields core (noted ann t) f) core.methods
 sets_noted core ann n t w m f g h c b u be ue = w.sets m f g h c b u be (note_before ann t u b n w.notes (h b be) ue)
 
 -- A body that leaves no field unset.
@@ -155,7 +156,7 @@ sets_all core x f t k g c e =
     let b : constructs f.kind && not (full core f.entity t.set_after) ≡ false = sym (ap (λ o. lacks_field core o t.set_after) g) ∙ a in
     not-false (full core f.entity t.set_after) (sym (ap (λ d. d && not (full core f.entity t.set_after)) c) ∙ b)
 
-pub walked_noted : (core : CoreData) (ann : Ann) (n : ℕ) (x : Node) (t : Note) → Formed core → slice_get core.nodes n ≡ Some x → Walked core ann n → Meets core ann x t → Reaches core ann n (before t) → leaves_unset core x t ≡ false → Walked core (noted ann t) (n + 1)
+pub walked_noted : (core : CoreData) (ann : Ann) (n : ℕ) (x : Node) (t : Note) → Formed core → slice_get core.nodes n ≡ Some x → Walked core ann n → IsSaid core ann x t → StartsFrom core ann n (before t) → leaves_unset core x t ≡ false → Walked core (noted ann t) (n + 1)
 walked_noted core ann n x t formed g w m r e = record {
   slots = w.slots;
   written = w.written;
@@ -175,7 +176,7 @@ walked_noted core ann n x t formed g w m r e = record {
 
 -- ---- behind the last node
 
-pub walked_whole : (core : CoreData) (ann : Ann) (n : ℕ) → Formed core → DeclOk core → n ≡ length core.nodes → Walked core ann n → Valid core ann
+pub walked_whole : (core : CoreData) (ann : Ann) (n : ℕ) → Formed core → DeclOk core → n ≡ length core.nodes → Walked core ann n → Checks core ann
 walked_whole core ann n formed ok e w = record {
   declarations = ok;
   slots = w.slots;

@@ -3,8 +3,8 @@ use Rattle.std.specs.Prelude.{◌≡◌, ◌⊎◌, ℕ, ◌+◌, length, Some, 
 use Rattle.pc_core.specs.CoreData.{CoreData}
 use Rattle.pc_ann.specs.declared.annotation.Ann.{Ann}
 use Rattle.pc_sub.specs.Declarations.{first_fault}
-use Rattle.pc_rules.specs.Parts.{Masks}
-use Rattle.pc_rules.specs.Valid.{NoRule, Unset}
+use Rattle.pc_valid.specs.Words.{Masks}
+use Rattle.pc_valid.specs.Valid.{NoRule, Unset}
 use Rattle.pc_check.specs.declared.fault.CheckFault.{CheckFault}
 use Rattle.pc_check.specs.declared.fault.CheckFault.TheVariants as fault
 

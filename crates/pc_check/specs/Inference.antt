@@ -18,7 +18,8 @@ use Rattle.pc_ann.specs.declared.annotation.Ann.{Ann}
 use Rattle.pc_ann.specs.declared.annotation.Rule.{Rule}
 use Rattle.pc_ann.specs.declared.annotation.Rule.TheVariants as rule
 use Rattle.pc_rules.specs.declared.said.Said.{Said}
-use Rattle.pc_rules.specs.Parts.{Ty, Masks, constructs, full, type_of, one_child}
+use Rattle.pc_rules.specs.Parts.{constructs, full, type_of, one_child}
+use Rattle.pc_valid.specs.Words.{Ty, Masks}
 use Rattle.pc_rules.specs.Rules.{says}
 
 -- What a slot has before its definition: the written type, or any where none is written.

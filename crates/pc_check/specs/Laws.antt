@@ -5,7 +5,7 @@ use Rattle.pc_core.specs.Formed.{Formed}
 use Rattle.pc_ann.specs.declared.annotation.Ann.{Ann}
 use Rattle.pc_sub.specs.declared.faults.DeclFault.{DeclFault}
 use Rattle.pc_sub.specs.Declarations.{first_fault}
-use Rattle.pc_rules.specs.Valid.{NoRule, Unset, Derivable, KeepsWritten, MeetsReached}
+use Rattle.pc_valid.specs.Valid.{NoRule, Unset, Derivable, KeepsWritten, MeetsReached}
 
 -- A core with a node of which no rule says anything has no valid annotation.
 abbrev pub NoneWithoutRule : Type 0

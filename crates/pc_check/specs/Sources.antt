@@ -7,10 +7,10 @@ use Rattle.pc_lists.specs.Places.{Each, Has}
 use Rattle.pc_ann.specs.declared.annotation.Note.{Note}
 use Rattle.pc_ann.specs.declared.annotation.Ann.{Ann}
 use Rattle.pc_masks.specs.Masks.{first}
-use Rattle.pc_rules.specs.Parts.{Masks, after}
+use Rattle.pc_valid.specs.Words.{Masks, after}
 use Rattle.pc_rules.specs.Control.{start_set}
 use Rattle.pc_rules.specs.Trees.{Tree}
-use Rattle.pc_rules.specs.Valid.{Reaches}
+use Rattle.pc_rules.specs.Checks.{StartsFrom}
 use Rattle.pc_check.specs.declared.sources.Source.{Source}
 use Rattle.pc_check.specs.declared.sources.Source.TheVariants as source
 
@@ -21,8 +21,8 @@ start_masks core f = (first (1 + length f.params), start_set core f)
 -- Whatever the notes are, the masks of this source reach node n: those with which a method starts, or those behind a node
 -- that comes before number `low`.
 abbrev pub Comes : CoreData → (low node : ℕ) → Source → Type 0
-Comes core low n (source.Start m) = (f : Method) × (slice_get core.methods m ≡ Some f) × ((ann : Ann) → Reaches core ann n (start_masks core f))
-Comes core low n (source.Behind s) = (s < low) × ((ann : Ann) (t : Note) → slice_get ann.notes s ≡ Some t → Reaches core ann n (after t))
+Comes core low n (source.Start m) = (f : Method) × (slice_get core.methods m ≡ Some f) × ((ann : Ann) → StartsFrom core ann n (start_masks core f))
+Comes core low n (source.Behind s) = (s < low) × ((ann : Ann) (t : Note) → slice_get ann.notes s ≡ Some t → StartsFrom core ann n (after t))
 
 -- It is the source of node n, and comes before what stands in n.
 abbrev pub Placed : CoreData → ℕ → Source → Type 0

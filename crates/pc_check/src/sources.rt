@@ -1,6 +1,6 @@
 //! Where the masks that reach a node come from.
 ghost use Rattle.std.specs.Prelude.{◌≡◌, ◌+◌, ◌<◌, Some, IfOk, map, length, slice_get};
-ghost use Rattle.pc_rules.specs.Valid.{is_else};
+ghost use Rattle.pc_rules.specs.Checks.{is_else};
 ghost use Rattle.pc_check.specs.declared.sources.Source.TheVariants as source;
 ghost use Rattle.pc_check.specs.Sources as spec;
 

@@ -20,7 +20,8 @@ use Rattle.pc_core.specs.declared.nodes.Node.{Node}
 use Rattle.pc_core.specs.declared.nodes.NodeKind.TheVariants as node
 use Rattle.pc_sub.specs.Sub.{is_sub}
 use Rattle.pc_rules.specs.declared.said.Said.{Said}
-use Rattle.pc_rules.specs.Parts.{Ty, Masks, Slots, says_of, readable, reads_as, through_notes}
+use Rattle.pc_rules.specs.Parts.{says_of, readable, reads_as, through_notes}
+use Rattle.pc_valid.specs.Words.{Ty, Masks, Slots}
 use Rattle.pc_rules.specs.Calls.{argument_goes, arguments_go, argument_sendable, arguments_sendable, arguments, called, calls, recovers, sends, is_function, is_behaviour, is_isolated, is_lent, recovered_result, same_text, has_string}
 use Rattle.pc_rules.specs.Children.{type_at}
 use Rattle.pc_rules.specs.Operators.{comparable}

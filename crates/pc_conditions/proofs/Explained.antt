@@ -24,13 +24,15 @@ use Rattle.pc_core.specs.declared.nodes.NodeKind.{NodeKind}
 use Rattle.pc_core.specs.declared.nodes.NodeKind.TheVariants as node
 use Rattle.pc_tree.specs.declared.kinds.Op.{Op}
 use Rattle.pc_rules.specs.declared.said.Said.{Said}
-use Rattle.pc_rules.specs.Parts.{Ty, Masks, Slots, before, through_notes, one_type, two_types, notes_of}
+use Rattle.pc_rules.specs.Parts.{through_notes, one_type, two_types, notes_of}
+use Rattle.pc_valid.specs.Words.{Ty, Masks, Slots, before}
+use Rattle.pc_valid.specs.Valid.{DifferAt}
 use Rattle.pc_rules.specs.Calls.{called, calls, recovers, sends, is_function, is_behaviour, same_text, has_text}
 use Rattle.pc_rules.specs.Fields.{incomplete}
 use Rattle.pc_rules.specs.Operators.{is_arithmetic, is_comparison, is_equality, is_add, is_xor}
 use Rattle.pc_rules.specs.Rules.{rule_says, said_by}
 use Rattle.pc_rules.specs.Meaning.{Means}
-use Rattle.pc_rules.specs.Valid.{NoRule, DifferAt}
+use Rattle.pc_rules.specs.Checks.{SaysNothing}
 use Rattle.pc_rules.proofs.MeantCalls.{rules_are_records}
 use Rattle.pc_check.specs.Inference.{rules_for, with_inferred, with_slot, inferred_slot, note_of}
 use Rattle.pc_check.proofs.Definitions.{inferred_inv}
@@ -193,7 +195,7 @@ differ core ann x (Some i) e =
       ],
     )
 
-module _ (core : CoreData) (ann : Ann) (n : ℕ) (ns : List Note) (formed : Formed core) (stop : NoRule core ann n) (are : notes_of ann.notes stop.at.children ≡ Some ns) where
+module _ (core : CoreData) (ann : Ann) (n : ℕ) (ns : List Note) (formed : Formed core) (stop : SaysNothing core ann n) (are : notes_of ann.notes stop.at.children ≡ Some ns) where
   pub stopped : Reached core ann n stop.at stop.masks ns
   stopped = record { formed = formed; prefix = record { slots = stop.slots; written = stop.written; before = stop.before }; is_at = stop.is_at; reaches = stop.reaches; are_children = are }
 

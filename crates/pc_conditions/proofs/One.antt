@@ -20,17 +20,18 @@ use Rattle.pc_core.specs.declared.nodes.Node.{Node}
 use Rattle.pc_core.specs.declared.nodes.NodeKind.{NodeKind}
 use Rattle.pc_core.specs.declared.nodes.NodeKind.TheVariants as node
 use Rattle.pc_core.specs.declared.nodes.Slot.{Slot}
-use Rattle.pc_rules.specs.Parts.{Ty, Masks, Slots, slot_of, reachable, notes_of}
+use Rattle.pc_rules.specs.Parts.{slot_of, reachable, notes_of}
+use Rattle.pc_valid.specs.Words.{Ty, Masks, Slots}
 use Rattle.pc_rules.specs.Calls.{is_function}
 use Rattle.pc_rules.specs.Fields.{own_field}
 use Rattle.pc_rules.specs.Children.{type_at}
-use Rattle.pc_rules.specs.Valid.{NoRule}
+use Rattle.pc_rules.specs.Checks.{SaysNothing}
 use Rattle.pc_rules.proofs.Alike.{looked_at, bind_same}
 use Rattle.pc_caps.specs.Tables.{fits}
 use Rattle.pc_core.specs.Methods.{Uses}
 use Rattle.pc_core.specs.Nodes.{HasArity, NamesFit, NamesSlot}
 use Rattle.pc_sub.specs.Sub.{is_sub}
-use Rattle.pc_rules.specs.Valid.{Reaches}
+use Rattle.pc_rules.specs.Checks.{StartsFrom}
 use Rattle.pc_rules.proofs.Alike.{slot_same}
 use Rattle.pc_rules.proofs.Agreeing.{Agree, use_alike}
 use Rattle.pc_rules.proofs.Homes.{children_before}
@@ -202,7 +203,7 @@ notes_same a b (c ∷ cs) h =
 abbrev pair : {A B : Type 0} → A → B → A × B
 pair a b = (a, b)
 
-module _ (core : CoreData) (a b : Ann) (n : ℕ) (formed : Formed core) (p : NoRule core a n) (q : NoRule core b n) (ns : List Note) (x : Node) (m : Masks) (is_at : slice_get core.nodes n ≡ Some x) (at : Reached core a n x m ns) (to : Reached core b n x m ns) where
+module _ (core : CoreData) (a b : Ann) (n : ℕ) (formed : Formed core) (p : SaysNothing core a n) (q : SaysNothing core b n) (ns : List Note) (x : Node) (m : Masks) (is_at : slice_get core.nodes n ≡ Some x) (at : Reached core a n x m ns) (to : Reached core b n x m ns) where
   same : Agree core a b n
   same = agree_both core a b formed p.written q.written n p.before q.before
 
@@ -298,14 +299,14 @@ same_notes ann (Some i) = refl
 reasons_are : (core : CoreData) (ann : Ann) (x : Node) (m : Masks) (ns : List Note) → notes_of ann.notes x.children ≡ Some ns → reasons_at core (with_inferred core ann x) x m ≡ Some (reasons core (with_inferred core ann x).slots ns x m)
 reasons_are core ann x m ns e = bind_is (notes_of (with_inferred core ann x).notes x.children) (λ ts. Some (reasons core (with_inferred core ann x).slots ts x m)) ns (ap (λ ts. notes_of ts x.children) (same_notes ann (inferred_slot core ann x x.kind)) ∙ e)
 
-module _ (core : CoreData) (a b : Ann) (n : ℕ) (formed : Formed core) (p : NoRule core a n) (q : NoRule core b n) where
+module _ (core : CoreData) (a b : Ann) (n : ℕ) (formed : Formed core) (p : SaysNothing core a n) (q : SaysNothing core b n) where
   agreed : Agree core a b n
   agreed = agree_both core a b formed p.written q.written n p.before q.before
 
   one_at : p.at ≡ q.at
   one_at = same_Some p.at q.at (sym p.is_at ∙ q.is_at)
 
-  reached_too : Reaches core b n p.masks
+  reached_too : StartsFrom core b n p.masks
   reached_too = carried core a b formed p.written q.written n p.at p.masks agreed p.is_at p.reaches
 
   one_masks : p.masks ≡ q.masks
@@ -335,5 +336,5 @@ pub one_explanation : OneExplanation
 one_explanation core a b n k formed p q =
     let same_node = one_node core a b n k formed p q in
     subst
-    (λ j. (r : NoRule core b j) → (n ≡ j) × (p.at ≡ r.at) × (p.masks ≡ r.masks) × (reasons_at core (with_inferred core a p.at) p.at p.masks ≡ reasons_at core (with_inferred core b r.at) r.at r.masks))
+    (λ j. (r : SaysNothing core b j) → (n ≡ j) × (p.at ≡ r.at) × (p.masks ≡ r.masks) × (reasons_at core (with_inferred core a p.at) p.at p.masks ≡ reasons_at core (with_inferred core b r.at) r.at r.masks))
     same_node (λ r. let t = one_there core a b n formed p r in (refl, t.0, t.1, t.2)) q

@@ -22,7 +22,8 @@ use Rattle.pc_core.specs.declared.nodes.NodeKind.TheVariants as node
 use Rattle.pc_core.specs.declared.nodes.Slot.{Slot}
 use Rattle.pc_sub.specs.Sub.{is_sub}
 use Rattle.pc_rules.specs.declared.said.Said.{Said}
-use Rattle.pc_rules.specs.Parts.{Ty, Masks, Slots, says_of, readable, slot_of, reachable, starts, after, through_notes}
+use Rattle.pc_rules.specs.Parts.{says_of, readable, slot_of, reachable, starts, through_notes}
+use Rattle.pc_valid.specs.Words.{Ty, Masks, Slots, after}
 use Rattle.pc_rules.specs.Values.{is_var, same_place, defined_type, defines, assigns, assigned, defined}
 use Rattle.pc_rules.specs.Fields.{field_of, own_field, incomplete, own_old, own_writes, writes}
 use Rattle.pc_rules.specs.Operators.{value_says, both_read_as}

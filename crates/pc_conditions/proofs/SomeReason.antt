@@ -14,7 +14,7 @@ use Rattle.pc_core.specs.declared.nodes.NodeKind.{NodeKind}
 use Rattle.pc_core.specs.declared.nodes.NodeKind.TheVariants as node
 use Rattle.pc_tree.specs.declared.kinds.Op.{Op}
 use Rattle.pc_tree.specs.declared.kinds.Op.TheVariants as op
-use Rattle.pc_rules.specs.Parts.{Masks, Slots}
+use Rattle.pc_valid.specs.Words.{Masks, Slots}
 use Rattle.pc_rules.specs.Fields.{incomplete}
 use Rattle.pc_check.specs.Inference.{rules_for, with_inferred}
 use Rattle.pc_conditions.specs.Chosen.{chosen, calls_behaviour}

@@ -19,10 +19,11 @@ use Rattle.pc_core.specs.declared.declarations.Method.{Method}
 use Rattle.pc_core.specs.declared.nodes.Node.{Node}
 use Rattle.pc_core.specs.declared.nodes.NodeKind.TheVariants as node
 use Rattle.pc_core.specs.declared.nodes.Slot.{Slot}
-use Rattle.pc_rules.specs.Parts.{Ty, Masks, before, after, starts, through_notes, notes_of, slot_of, one_child, type_of}
+use Rattle.pc_rules.specs.Parts.{starts, through_notes, notes_of, slot_of, one_child, type_of}
+use Rattle.pc_valid.specs.Words.{Ty, Masks, before, after}
 use Rattle.pc_rules.specs.Values.{same_cap, same_place, defined_type}
-use Rattle.pc_rules.specs.Valid.{Reaches, is_else}
-use Rattle.pc_rules.specs.Valid.Reaches.{first_child, else_branch, next_child}
+use Rattle.pc_rules.specs.Checks.{StartsFrom, is_else}
+use Rattle.pc_rules.specs.Checks.StartsFrom.{first_child, else_branch, next_child}
 use Rattle.pc_rules.proofs.Agreeing.{slots_within}
 use Rattle.pc_core.proofs.Homes.{home, home_method}
 use Rattle.pc_core.specs.MethodKinds.{this_slot}
@@ -67,7 +68,7 @@ starts_at t m e =
 
 module _ (core : CoreData) (ann : Ann) (n : ℕ) (x : Node) (m : Masks) (ns : List Note) (at : Reached core ann n x m ns) where
   -- A child's note starts from masks that reach the child.
-  child_before : (i c : ℕ) (t : Note) (k : Masks) → slice_get x.children i ≡ Some c → slice_get ann.notes c ≡ Some t → Reaches core ann c k → before t ≡ k
+  child_before : (i c : ℕ) (t : Note) (k : Masks) → slice_get x.children i ≡ Some c → slice_get ann.notes c ≡ Some t → StartsFrom core ann c k → before t ≡ k
   child_before i c t k e g r =
       let h = at.prefix.before c (children_before core n x at.formed at.is_at i c e) in
       let is : h.1 ≡ t = same_Some h.1 t (sym h.3 ∙ g) in

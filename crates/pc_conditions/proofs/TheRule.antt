@@ -20,12 +20,13 @@ use Rattle.pc_core.specs.declared.nodes.Node.{Node}
 use Rattle.pc_core.specs.declared.nodes.NodeKind.{NodeKind}
 use Rattle.pc_core.specs.declared.nodes.NodeKind.TheVariants as node
 use Rattle.pc_tree.specs.declared.kinds.Op.{Op}
-use Rattle.pc_rules.specs.Parts.{Masks, says_of, after, starts, through_notes, notes_of, slot_of}
+use Rattle.pc_rules.specs.Parts.{says_of, starts, through_notes, notes_of, slot_of}
+use Rattle.pc_valid.specs.Words.{Masks, after}
 use Rattle.pc_rules.specs.Fields.{incomplete}
 use Rattle.pc_rules.specs.Control.{starts_method, start_set, without_items}
 use Rattle.pc_rules.specs.Values.{this_form}
 use Rattle.pc_rules.specs.Operators.{both_read_as, meet_masks, lazy_masks, is_arithmetic, is_comparison, is_equality, is_add, is_xor}
-use Rattle.pc_rules.specs.Valid.{is_else}
+use Rattle.pc_rules.specs.Checks.{is_else}
 use Rattle.pc_check.specs.Inference.{rules_for, with_inferred}
 use Rattle.pc_check.proofs.OneFault.{body_one}
 use Rattle.pc_conditions.specs.Chosen.{chosen}

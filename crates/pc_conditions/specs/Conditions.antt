@@ -12,7 +12,8 @@ use Rattle.pc_core.specs.declared.nodes.Node.{Node}
 use Rattle.pc_core.specs.declared.nodes.NodeKind.{NodeKind}
 use Rattle.pc_core.specs.declared.nodes.NodeKind.TheVariants as node
 use Rattle.pc_lists.specs.Options.{◌>>=◌}
-use Rattle.pc_rules.specs.Parts.{Ty, Slots, slot_of}
+use Rattle.pc_rules.specs.Parts.{slot_of}
+use Rattle.pc_valid.specs.Words.{Ty, Slots}
 use Rattle.pc_rules.specs.Fields.{field_of, own_field}
 use Rattle.pc_rules.specs.Calls.{called, is_function}
 use Rattle.pc_rules.specs.Children.{type_at}

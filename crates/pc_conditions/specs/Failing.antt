@@ -11,7 +11,8 @@ use Rattle.pc_core.specs.declared.nodes.Node.{Node}
 use Rattle.pc_lists.specs.Options.{◌>>=◌}
 use Rattle.pc_sub.specs.Sub.{is_sub}
 use Rattle.pc_check.specs.Inference.{rules_for}
-use Rattle.pc_rules.specs.Parts.{Ty, Masks, Slots, readable, slot_of, reachable, through_notes, notes_of}
+use Rattle.pc_rules.specs.Parts.{readable, slot_of, reachable, through_notes, notes_of}
+use Rattle.pc_valid.specs.Words.{Ty, Masks, Slots}
 use Rattle.pc_rules.specs.Values.{is_var}
 use Rattle.pc_rules.specs.Fields.{own_field}
 use Rattle.pc_rules.specs.Calls.{is_function, is_behaviour, is_isolated, is_lent}

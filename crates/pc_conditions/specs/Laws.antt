@@ -7,10 +7,11 @@ use Rattle.pc_core.specs.CoreData.{CoreData}
 use Rattle.pc_core.specs.Formed.{Formed}
 use Rattle.pc_core.specs.declared.nodes.Node.{Node}
 use Rattle.pc_lists.specs.Places.{Has}
-use Rattle.pc_rules.specs.Parts.{Masks, before, notes_of}
+use Rattle.pc_rules.specs.Parts.{notes_of}
+use Rattle.pc_valid.specs.Words.{Masks, before}
+use Rattle.pc_valid.specs.Rules.{Means}
+use Rattle.pc_valid.specs.Valid.{NoRule, Reaches, MeetsReached, KeepsWritten}
 use Rattle.pc_rules.specs.Rules.{rule_says}
-use Rattle.pc_rules.specs.Meaning.{Means}
-use Rattle.pc_rules.specs.Valid.{NoRule, Reaches, MeetsReached, KeepsWritten}
 use Rattle.pc_check.specs.Inference.{rules_for, with_inferred}
 use Rattle.pc_conditions.specs.Chosen.{chosen}
 use Rattle.pc_conditions.specs.Failing.{Because, failing, reasons, reasons_at}

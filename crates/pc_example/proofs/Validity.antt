@@ -5,8 +5,7 @@ use Rattle.std.proofs.lemmas.Option.{same_Some}
 use Rattle.pc_ann.specs.declared.annotation.Note.{Note}
 use Rattle.pc_sub.specs.Declarations.{DeclOk}
 use Rattle.pc_rules.specs.Parts.{full}
-use Rattle.pc_rules.specs.Rules.{MeetsRule}
-use Rattle.pc_rules.specs.Valid.{Valid}
+use Rattle.pc_valid.specs.Valid.{MeetsRule, Valid}
 use Rattle.pc_rules.specs.Example.{four_slots, derivation}
 use Rattle.pc_example.proofs.Formation.{single, three, four, eight}
 use Rattle.pc_lists.proofs.Elements.{each_none}

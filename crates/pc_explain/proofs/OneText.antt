@@ -13,8 +13,8 @@ use Rattle.pc_core.specs.Formed.{Formed}
 use Rattle.pc_core.specs.declared.declarations.Method.{Method}
 use Rattle.pc_core.specs.declared.nodes.Node.{Node}
 use Rattle.pc_lists.specs.Texts.{Text}
-use Rattle.pc_rules.specs.Parts.{Masks}
-use Rattle.pc_rules.specs.Valid.{KeepsWritten, MeetsReached}
+use Rattle.pc_valid.specs.Words.{Masks}
+use Rattle.pc_valid.specs.Valid.{KeepsWritten, MeetsReached}
 use Rattle.pc_sub.specs.Declarations.{DeclOk, first_fault}
 use Rattle.pc_sub.specs.DeclarationLaws.{NoFaultWhereFit}
 use Rattle.pc_sub.specs.declared.faults.DeclFault.{DeclFault}

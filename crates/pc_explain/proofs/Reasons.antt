@@ -9,7 +9,8 @@ use Rattle.pc_conditions.specs.Failing.{reasons}
 use Rattle.pc_core.specs.CoreData.{CoreData}
 use Rattle.pc_core.specs.declared.nodes.Node.{Node}
 use Rattle.pc_lists.specs.Options.{◌>>=◌}
-use Rattle.pc_rules.specs.Parts.{Masks, Slots, notes_of}
+use Rattle.pc_rules.specs.Parts.{notes_of}
+use Rattle.pc_valid.specs.Words.{Masks, Slots}
 use Rattle.pc_explain.specs.Explanation.{all_of, reasons_by, reasons_of}
 
 -- A definition changes no note.

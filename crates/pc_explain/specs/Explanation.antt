@@ -18,7 +18,7 @@ use Rattle.pc_hints.specs.Hints.{hint}
 use Rattle.pc_lists.specs.Options.{◌>>=◌}
 use Rattle.pc_lists.specs.Texts.{Text}
 use Rattle.pc_refusals.specs.CoreFaults.{decl_text}
-use Rattle.pc_rules.specs.Parts.{Masks, Slots}
+use Rattle.pc_valid.specs.Words.{Masks, Slots}
 use Rattle.pc_sentences.specs.Sentences.{sentence}
 use Rattle.pc_sentences.specs.Stop.{StopData}
 use Rattle.pc_sub.specs.Declarations.{first_fault}

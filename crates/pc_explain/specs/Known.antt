@@ -5,7 +5,7 @@ use Rattle.pc_ann.specs.declared.annotation.Note.{Note}
 use Rattle.pc_check.specs.Inference.{first_types, with_inferred}
 use Rattle.pc_core.specs.CoreData.{CoreData}
 use Rattle.pc_core.specs.declared.nodes.Node.{Node}
-use Rattle.pc_rules.specs.Parts.{Slots}
+use Rattle.pc_valid.specs.Words.{Slots}
 
 abbrev pub ann_of : Slots → List Note → Ann
 ann_of slots notes = record { slots = slots; notes = notes }

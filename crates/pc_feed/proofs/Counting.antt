@@ -4,7 +4,7 @@ use Rattle.std.proofs.Common.{subst, arith}
 use Rattle.std.proofs.lemmas.Option.{same_Some}
 use Rattle.std.proofs.lemmas.Bool.Decides.{nat_tests}
 use Rattle.pc_ann.specs.declared.annotation.Note.{Note}
-use Rattle.pc_rules.specs.Parts.{Slots}
+use Rattle.pc_valid.specs.Words.{Slots}
 use Rattle.pc_lists.proofs.Options.{none_some}
 use Rattle.pc_deriv.specs.declared.version.Version.{Version}
 use Rattle.pc_deriv.specs.declared.line.Line.{Line}

@@ -5,8 +5,9 @@ use Rattle.std.proofs.lemmas.Option.{same_Some, none-some}
 use Rattle.pc_ann.specs.declared.annotation.Note.{Note}
 use Rattle.pc_lists.specs.Options.{◌>>=◌}
 use Rattle.pc_lists.proofs.Options.{bind_some, bind_is}
-use Rattle.pc_rules.specs.Parts.{Slots, notes_of}
-use Rattle.pc_rules.specs.Rules.{Holds, MeetsRule}
+use Rattle.pc_rules.specs.Parts.{notes_of}
+use Rattle.pc_valid.specs.Words.{Slots}
+use Rattle.pc_valid.specs.Valid.{Holds, MeetsRule}
 use Rattle.pc_rules.proofs.Bridge.{holds_meets}
 use Rattle.pc_feed.specs.WaitingLaws.{WaitingTells}
 use Rattle.pc_feed.proofs.PostOrder.{children_wait_last}

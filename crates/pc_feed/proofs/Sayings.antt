@@ -3,7 +3,7 @@ use Rattle.std.specs.Prelude.{◌≡◌, ℕ, zero, suc, ◌+◌, ◌≤◌, Lis
 use Rattle.std.proofs.Common.{ap, sym, ◌∙◌, arith, append_assoc, append-nil, length-append}
 use Rattle.std.proofs.lemmas.List.{take-append-le}
 use Rattle.pc_ann.specs.declared.annotation.Note.{Note}
-use Rattle.pc_rules.specs.Parts.{Slots}
+use Rattle.pc_valid.specs.Words.{Slots}
 use Rattle.pc_referee.specs.Asked.{Pairs}
 use Rattle.pc_deriv.specs.declared.line.Line.{Line}
 use Rattle.pc_deriv.specs.declared.line.Line.TheVariants as line

@@ -5,7 +5,8 @@ use Rattle.pc_core.specs.CoreData.{CoreData}
 use Rattle.pc_ann.specs.declared.annotation.Note.{Note}
 use Rattle.pc_ann.specs.declared.annotation.Ann.{Ann}
 use Rattle.pc_sub.specs.Declarations.{DeclOk}
-use Rattle.pc_rules.specs.Parts.{Slots, notes_of}
+use Rattle.pc_rules.specs.Parts.{notes_of}
+use Rattle.pc_valid.specs.Words.{Slots}
 use Rattle.pc_judge.specs.declared.faults.JudgeFault.{JudgeFault}
 use Rattle.pc_judge.specs.Faults.{KeepsType, Passes, FirstFault}
 use Rattle.pc_deriv.specs.declared.version.Version.{Version}

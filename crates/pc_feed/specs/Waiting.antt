@@ -5,7 +5,7 @@ use Rattle.pc_core.specs.declared.nodes.NodeKind.TheVariants as node
 use Rattle.pc_core.specs.CoreData.{CoreData}
 use Rattle.pc_ann.specs.declared.annotation.Note.{Note}
 use Rattle.pc_ann.specs.declared.annotation.Ann.{Ann}
-use Rattle.pc_rules.specs.Parts.{Slots}
+use Rattle.pc_valid.specs.Words.{Slots}
 
 -- The nodes before node n that wait: a node takes the place of its children, which are the last ones. A body has no parent,
 -- and nothing waits behind it.

@@ -6,8 +6,9 @@ use Rattle.pc_core.specs.CoreData.{CoreData}
 use Rattle.pc_core.specs.Formed.{Formed}
 use Rattle.pc_ann.specs.declared.annotation.Note.{Note}
 use Rattle.pc_ann.specs.declared.annotation.Ann.{Ann}
-use Rattle.pc_rules.specs.Parts.{Slots, notes_of}
-use Rattle.pc_rules.specs.Rules.{Holds, MeetsRule}
+use Rattle.pc_rules.specs.Parts.{notes_of}
+use Rattle.pc_valid.specs.Words.{Slots}
+use Rattle.pc_valid.specs.Valid.{Holds, MeetsRule}
 use Rattle.pc_feed.specs.Waiting.{Waits, Begins}
 
 -- A node's children are the last ones that wait, and those of a body the only ones.

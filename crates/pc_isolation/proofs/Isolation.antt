@@ -6,7 +6,7 @@ use Rattle.pc_core.specs.CoreData.{CoreData}
 use Rattle.pc_core.specs.Formed.{Formed}
 use Rattle.pc_lists.proofs.Bools.{false_true}
 use Rattle.pc_ann.specs.declared.annotation.Ann.{Ann}
-use Rattle.pc_rules.specs.Valid.{Valid}
+use Rattle.pc_rules.specs.Checks.{Checks}
 use Rattle.pc_semantics.specs.declared.access.Access.{Access}
 use Rattle.pc_semantics.specs.Configurations.{Configuration, start}
 use Rattle.pc_semantics.specs.Runs.{run_from, after}
@@ -77,7 +77,7 @@ module _ (core : CoreData) (ann : Ann) (needs : Needs core ann) (c : Configurati
 -- ---- every schedule
 
 -- After a list of actors and then further ones.
-pub isolated_from : (core : CoreData) (ann : Ann) → Formed core → Valid core ann → (list more : List ℕ) → Isolated core (run_from core (after core list) more)
+pub isolated_from : (core : CoreData) (ann : Ann) → Formed core → Checks core ann → (list more : List ℕ) → Isolated core (run_from core (after core list) more)
 isolated_from core ann formed valid list more =
     let needs : Needs core ann = needed core formed ann valid in
     let first : WellTyped core ann (start core) = start_typed core ann formed valid in

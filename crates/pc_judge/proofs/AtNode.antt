@@ -11,8 +11,7 @@ use Rattle.pc_core.specs.Formed.{Formed}
 use Rattle.pc_ann.specs.declared.annotation.Note.{Note}
 use Rattle.pc_ann.specs.declared.annotation.Ann.{Ann}
 use Rattle.pc_rules.specs.Parts.{full}
-use Rattle.pc_rules.specs.Rules.{MeetsRule}
-use Rattle.pc_rules.specs.Valid.{SetsFields}
+use Rattle.pc_valid.specs.Valid.{MeetsRule, SetsFields}
 use Rattle.pc_judge.specs.declared.faults.JudgeFault.TheVariants as fault
 use Rattle.pc_judge.specs.Faults as spec
 use Rattle.pc_judge.specs.Computed as computed

@@ -8,8 +8,7 @@ use Rattle.pc_core.specs.CoreData.{CoreData}
 use Rattle.pc_core.specs.Formed.{Formed}
 use Rattle.pc_ann.specs.declared.annotation.Ann.{Ann}
 use Rattle.pc_sub.specs.Faults.{faulted}
-use Rattle.pc_rules.specs.Rules.{MeetsRule}
-use Rattle.pc_rules.specs.Valid.{Valid, KeepsWritten}
+use Rattle.pc_valid.specs.Valid.{MeetsRule, Valid, KeepsWritten}
 use Rattle.pc_judge.specs.declared.faults.JudgeFault.{JudgeFault}
 use Rattle.pc_judge.specs.declared.faults.JudgeFault.TheVariants as fault
 use Rattle.pc_judge.specs.Faults as spec

@@ -21,8 +21,8 @@ use Rattle.pc_core.specs.Conforms.{Conforms}
 use Rattle.pc_sub.specs.Declarations.{TakesSendable, DeclOk}
 use Rattle.pc_rules.specs.declared.said.Said.{Said}
 use Rattle.pc_rules.specs.Parts.{constructs, full}
-use Rattle.pc_rules.specs.Rules.{Meets, MeetsRule}
-use Rattle.pc_rules.specs.Valid.{KeepsWritten}
+use Rattle.pc_valid.specs.Valid.{MeetsRule, KeepsWritten}
+use Rattle.pc_rules.specs.Rules.{IsSaid}
 use Rattle.pc_rules.specs.Example.{four_slots, create_c, create_main, at, node_of, noted}
 use Rattle.pc_judge.specs.Faults as spec
 use Rattle.pc_judge.specs.Example as example
@@ -82,15 +82,15 @@ abbrev says_ref : Option (ℕ × Form) → Bool
 says_ref (Some (e, form.Ref)) = true
 says_ref ty = false
 
-wrong_note : Meets four_slots example.noted_as_ref (node_of 2 (node.New 1) [] (at 64 65)) (noted rule.New (Some (6, form.Ref)) 3 3) → ⊥
+wrong_note : IsSaid four_slots example.noted_as_ref (node_of 2 (node.New 1) [] (at 64 65)) (noted rule.New (Some (6, form.Ref)) 3 3) → ⊥
 wrong_note e = true_false (sym (ap (λ (q : Said). says_ref q.ty) (same_Some _ _ e)))
 
 wrong_node : MeetsRule four_slots example.noted_as_ref 3 → ⊥
 wrong_node h =
     let x : node_of 2 (node.New 1) [] (at 64 65) ≡ h.0 = same_Some _ h.0 h.2 in
     let t : noted rule.New (Some (6, form.Ref)) 3 3 ≡ h.1 = same_Some _ h.1 h.3 in
-    wrong_note (subst (λ (u : Note). Meets four_slots example.noted_as_ref (node_of 2 (node.New 1) [] (at 64 65)) u) (sym t)
-    (subst (λ (y : Node). Meets four_slots example.noted_as_ref y h.1) (sym x) h.4))
+    wrong_note (subst (λ (u : Note). IsSaid four_slots example.noted_as_ref (node_of 2 (node.New 1) [] (at 64 65)) u) (sym t)
+    (subst (λ (y : Node). IsSaid four_slots example.noted_as_ref y h.1) (sym x) h.4))
 
 node_named : spec.FailsRule four_slots example.noted_as_ref 3
 node_named = (

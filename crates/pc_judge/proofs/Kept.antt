@@ -7,7 +7,7 @@ use Rattle.pc_lists.proofs.Gets.{get_below}
 use Rattle.pc_core.specs.declared.nodes.Slot.{Slot}
 use Rattle.pc_core.specs.CoreData.{CoreData}
 use Rattle.pc_ann.specs.declared.annotation.Ann.{Ann}
-use Rattle.pc_rules.specs.Valid.{KeepsWritten}
+use Rattle.pc_valid.specs.Valid.{KeepsWritten}
 use Rattle.pc_judge.specs.Faults as spec
 
 -- The slots before this one have their types.

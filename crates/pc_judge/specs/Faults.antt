@@ -7,8 +7,7 @@ use Rattle.pc_core.specs.CoreData.{CoreData}
 use Rattle.pc_lists.specs.Places.{Each}
 use Rattle.pc_ann.specs.declared.annotation.Ann.{Ann}
 use Rattle.pc_sub.specs.Declarations.{DeclOk, first_fault}
-use Rattle.pc_rules.specs.Rules.{MeetsRule}
-use Rattle.pc_rules.specs.Valid.{KeepsWritten, SetsFields}
+use Rattle.pc_valid.specs.Valid.{MeetsRule, KeepsWritten, SetsFields}
 use Rattle.pc_judge.specs.declared.faults.JudgeFault.{JudgeFault}
 use Rattle.pc_judge.specs.declared.faults.JudgeFault.TheVariants as fault
 

@@ -1,7 +1,7 @@
 //! Whether an annotation is valid.
 ghost use Rattle.std.specs.Prelude.{◌≡◌, ◌↔◌, IsOk, IsTrue, Err, MatchResult};
 ghost use Rattle.pc_sub.specs.Declarations.{DeclOk};
-ghost use Rattle.pc_rules.specs.Valid.{Valid};
+ghost use Rattle.pc_valid.specs.Valid.{Valid};
 ghost use Rattle.pc_judge.specs.Faults as spec;
 
 use crate::faults::JudgeFault;

@@ -1,6 +1,6 @@
 //! Nodes, each behind its children, and what is set behind the last node of a constructor.
 ghost use Rattle.std.specs.Prelude.{◌≡◌, Some, MatchOption, MatchResult, length, slice_get};
-ghost use Rattle.pc_rules.specs.Valid.{Valid};
+ghost use Rattle.pc_valid.specs.Valid.{Valid};
 ghost use Rattle.pc_judge.specs.Faults as spec;
 ghost use Rattle.pc_judge.specs.Computed as computed;
 

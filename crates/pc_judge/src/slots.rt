@@ -1,6 +1,6 @@
 //! Slots with a written type.
 ghost use Rattle.std.specs.Prelude.{◌↔◌, IsTrue, MatchOption};
-ghost use Rattle.pc_rules.specs.Valid.{KeepsWritten};
+ghost use Rattle.pc_valid.specs.Valid.{KeepsWritten};
 ghost use Rattle.pc_judge.specs.Faults as spec;
 
 use pc_ann::Ann;

@@ -23,7 +23,8 @@ use Rattle.pc_semantics.specs.declared.frames.Task.TheVariants as task
 use Rattle.pc_semantics.specs.Configurations.{Configuration, start}
 use Rattle.pc_semantics.specs.Around.{entity_of}
 use Rattle.pc_semantics.specs.Runs.{after}
-use Rattle.pc_rules.specs.Parts.{Ty, type_of, last_child}
+use Rattle.pc_rules.specs.Parts.{type_of, last_child}
+use Rattle.pc_valid.specs.Words.{Ty}
 use Rattle.pc_rules.proofs.ByNumber.{arguments}
 use Rattle.pc_types.proofs.Types.{OfKind, OfType, OfSome, Want, StackOk}
 use Rattle.pc_types.proofs.Tasks.{want_of, stacked, FinishOk, invokes, TasksOk}

@@ -1,6 +1,6 @@
 //! The entities that an annotation notes at the nodes.
 ghost use Rattle.std.specs.Prelude.{◌≡◌, length, map, IfOk};
-ghost use Rattle.pc_rules.specs.Valid.{Valid};
+ghost use Rattle.pc_valid.specs.Valid.{Valid};
 ghost use Rattle.pc_sends.specs.Held.{Held};
 ghost use Rattle.pc_noted_receivers.specs.Noted as spec;
 

@@ -3,7 +3,7 @@ use Rattle.std.proofs.Common.{◌≡◌, ◌≤◌, ℕ, ◌++◌, Option, Some,
 use Rattle.std.specs.Prelude.{Result}
 use Rattle.pc_ann.specs.declared.annotation.Ann.{Ann}
 use Rattle.pc_core.specs.Formed.{Formed}
-use Rattle.pc_rules.specs.Valid.{Valid}
+use Rattle.pc_valid.specs.Valid.{Valid}
 use Rattle.pc_deriv.specs.Faults.{IsText}
 use Rattle.pc_deriv.specs.Laws.{as_read}
 use Rattle.pc_deriv.specs.declared.line.LineFault.{LineFault}

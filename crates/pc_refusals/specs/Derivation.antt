@@ -1,7 +1,7 @@
 -- The stages of a derivation: its length, its text, and whether it is valid for a source.
 use Rattle.std.specs.Prelude.{ℕ, ◌+◌, Result, Ok, Err, codes}
 use Rattle.pc_ann.specs.declared.annotation.Ann.{Ann}
-use Rattle.pc_rules.specs.Valid.{Valid}
+use Rattle.pc_valid.specs.Valid.{Valid}
 use Rattle.pc_deriv.specs.Faults.{IsText, IsFault}
 use Rattle.pc_deriv.specs.declared.fault.DerivFault.{DerivFault}
 use Rattle.pc_deriv.specs.declared.fault.DerivFault.TheVariants as deriv

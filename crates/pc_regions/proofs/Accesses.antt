@@ -27,7 +27,8 @@ use Rattle.pc_semantics.specs.declared.frames.Frame.{Frame}
 use Rattle.pc_semantics.specs.declared.frames.Task.{Task}
 use Rattle.pc_semantics.specs.declared.frames.Task.TheVariants as task
 use Rattle.pc_semantics.specs.Around.{Around}
-use Rattle.pc_rules.specs.Parts.{Ty, before, type_of, last_child, constructs}
+use Rattle.pc_rules.specs.Parts.{type_of, last_child, constructs}
+use Rattle.pc_valid.specs.Words.{Ty, before}
 use Rattle.pc_rules.specs.Rules.{said_by}
 use Rattle.pc_rules.proofs.ByNumber.{incomplete, read_says, own_read_says, write_says, own_write_says, says}
 use Rattle.pc_lists.proofs.Bools.{false_true}

@@ -14,8 +14,9 @@ use Rattle.pc_lists.specs.Places.{Each}
 use Rattle.pc_ann.specs.declared.annotation.Ann.{Ann}
 use Rattle.pc_semantics.specs.Around.{popped}
 use Rattle.pc_sub.specs.Sub.{is_sub}
+use Rattle.pc_rules.specs.Parts.{type_of}
+use Rattle.pc_valid.specs.Words.{Ty}
 use Rattle.pc_core.specs.Conforms.{ParamFits}
-use Rattle.pc_rules.specs.Parts.{Ty, type_of}
 use Rattle.pc_rules.specs.Calls.{argument_goes, argument_sendable}
 use Rattle.pc_rules.proofs.ByNumber.{arguments_go, arguments_sendable}
 use Rattle.pc_lists.proofs.Bools.{false_true}

@@ -14,7 +14,8 @@ use Rattle.pc_ann.specs.declared.annotation.Ann.{Ann}
 use Rattle.pc_semantics.specs.declared.frames.Frame.{Frame}
 use Rattle.pc_semantics.specs.declared.frames.Task.{Task}
 use Rattle.pc_semantics.specs.Around.{first_frame}
-use Rattle.pc_rules.specs.Parts.{Ty, before, through}
+use Rattle.pc_rules.specs.Parts.{through}
+use Rattle.pc_valid.specs.Words.{Ty, before}
 use Rattle.pc_lists.proofs.Bools.{false_true}
 use Rattle.pc_types.proofs.Types.{Want}
 use Rattle.pc_types.proofs.Tasks.{Within, stacked, Follows, FinishOk}

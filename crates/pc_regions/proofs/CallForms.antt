@@ -11,10 +11,11 @@ use Rattle.pc_core.specs.CoreData.{CoreData}
 use Rattle.pc_lists.proofs.Options.{bind_some, kept}
 use Rattle.pc_ann.specs.declared.annotation.Note.{Note}
 use Rattle.pc_ann.specs.declared.annotation.Ann.{Ann}
-use Rattle.pc_rules.specs.Parts.{says_of, before, through}
+use Rattle.pc_rules.specs.Parts.{says_of, through}
+use Rattle.pc_valid.specs.Words.{before}
 use Rattle.pc_rules.specs.Calls.{is_function, is_isolated, is_lent, lends, recovered_result}
 use Rattle.pc_rules.specs.Rules.{said_by}
-use Rattle.pc_rules.proofs.ByNumber.{arguments, arguments_go, arguments_sendable, called, calls, recovers, call_says, callrecover_says, Meets}
+use Rattle.pc_rules.proofs.ByNumber.{arguments, arguments_go, arguments_sendable, called, calls, recovers, call_says, callrecover_says, IsSaid}
 use Rattle.pc_types.proofs.InverseCalls.{CalledRule, SendRule, TextRule, said_ty, function_is, call_rules, called_of, send_inverse, builtin_inverse, at_kind}
 
 -- A function is called on a receiver that may be stored where the method has it.
@@ -70,7 +71,7 @@ module _ (core : CoreData) (ann : Ann) (x : Node) (name : ℕ) (t : Note) where
       }
 
   -- One of four rules.
-  pub call_forms : Meets core ann x t → x.kind ≡ nodes.Call name → CallRule core ann x name t ⊎ (LendRule core ann x name t ⊎ (SendRule core ann x name t ⊎ TextRule core ann x name t))
+  pub call_forms : IsSaid core ann x t → x.kind ≡ nodes.Call name → CallRule core ann x name t ⊎ (LendRule core ann x name t ⊎ (SendRule core ann x name t ⊎ TextRule core ann x name t))
   call_forms meets is =
       elim (call_rules core ann x (before t) t.rule name (said_by t) (at_kind core ann x t meets (nodes.Call name) is)) [
         | inl e ↦ inl (call_rule e)

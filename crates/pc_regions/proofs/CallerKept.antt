@@ -15,7 +15,8 @@ use Rattle.pc_ann.specs.declared.annotation.Ann.{Ann}
 use Rattle.pc_semantics.specs.declared.frames.Frame.{Frame}
 use Rattle.pc_semantics.specs.declared.frames.Task.{Task}
 use Rattle.pc_semantics.specs.Around.{Around, popped}
-use Rattle.pc_rules.specs.Parts.{Ty, Masks, before, through}
+use Rattle.pc_rules.specs.Parts.{through}
+use Rattle.pc_valid.specs.Words.{Ty, Masks, before}
 use Rattle.pc_types.proofs.Tasks.{Within}
 use Rattle.pc_regions.proofs.World.{Place, InSlot, OnStack, InField, InMail, World, FitsSome, WorldOk}
 use Rattle.pc_regions.proofs.StackForms.{Entry, Shallow, TasksRise, FinishRises, Rises}

@@ -13,7 +13,8 @@ use Rattle.pc_semantics.specs.declared.frames.Task.{Task}
 use Rattle.pc_semantics.specs.declared.frames.Task.TheVariants as task
 use Rattle.pc_semantics.specs.Children.{evaluations}
 use Rattle.pc_semantics.specs.Evaluation.{items}
-use Rattle.pc_rules.specs.Parts.{Ty, Masks, after, through, type_of, last_child}
+use Rattle.pc_rules.specs.Parts.{through, type_of, last_child}
+use Rattle.pc_valid.specs.Words.{Ty, Masks, after}
 use Rattle.pc_types.proofs.Tasks.{Within}
 use Rattle.pc_regions.proofs.StackForms.{Entry, Shallow, Ascent, Climbs, top_of, SlotsShallow, entry_of, piled, uses_top, EvalRises, TasksRise, LiveShallow}
 use Rattle.pc_types.proofs.Basic.{within_same, within_trans}

@@ -17,7 +17,7 @@ use Rattle.pc_semantics.specs.declared.frames.Task.TheVariants as task
 use Rattle.pc_semantics.specs.Around.{Around, Move, Goes, with_stack, pushed, with_top, none}
 use Rattle.pc_semantics.specs.Tasks.{at_node}
 use Rattle.pc_semantics.specs.Choices.{truth, right_side, test_and, test_or, test_task, branch, branch_task, turn, loop_task}
-use Rattle.pc_rules.specs.Parts.{Ty}
+use Rattle.pc_valid.specs.Words.{Ty}
 use Rattle.pc_lists.proofs.Bools.{false_true}
 use Rattle.pc_types.proofs.Types.{OfType, Want, StackOk}
 use Rattle.pc_types.proofs.Tasks.{Within, is_lazy}

@@ -16,7 +16,7 @@ use Rattle.pc_caps.specs.declared.capability.Form.TheVariants as form
 use Rattle.pc_core.specs.CoreData.{CoreData}
 use Rattle.pc_lists.specs.Options.{◌>>=◌}
 use Rattle.pc_ann.specs.declared.annotation.Ann.{Ann}
-use Rattle.pc_rules.specs.Parts.{Ty}
+use Rattle.pc_valid.specs.Words.{Ty}
 use Rattle.pc_rules.specs.Control.{recovered}
 use Rattle.pc_lists.proofs.Options.{kept}
 use Rattle.pc_types.proofs.Types.{OfType, OfSome}

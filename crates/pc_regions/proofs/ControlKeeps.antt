@@ -28,7 +28,8 @@ use Rattle.pc_semantics.specs.declared.frames.Task.TheVariants as task
 use Rattle.pc_semantics.specs.Around.{Around, Goes, doing}
 use Rattle.pc_semantics.specs.Children.{evaluations}
 use Rattle.pc_semantics.specs.Evaluation.{children_first, first_then, items}
-use Rattle.pc_rules.specs.Parts.{Ty, Masks, lower, before, after, through, type_of, last_child}
+use Rattle.pc_rules.specs.Parts.{lower, through, type_of, last_child}
+use Rattle.pc_valid.specs.Words.{Ty, Masks, before, after}
 use Rattle.pc_rules.specs.Control.{joined, gives, result_ok}
 use Rattle.pc_core.proofs.Homes.{home, home_method}
 use Rattle.pc_rules.proofs.Homes.{home_body, children_before}

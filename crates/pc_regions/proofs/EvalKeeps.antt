@@ -16,7 +16,8 @@ use Rattle.pc_semantics.specs.declared.frames.Frame.{Frame}
 use Rattle.pc_semantics.specs.declared.frames.Task.TheVariants as task
 use Rattle.pc_semantics.specs.Around.{Around}
 use Rattle.pc_semantics.specs.Evaluation.{first_then, evaluate, evaluate_node}
-use Rattle.pc_rules.specs.Parts.{Ty, before, through}
+use Rattle.pc_rules.specs.Parts.{through}
+use Rattle.pc_valid.specs.Words.{Ty, before}
 use Rattle.pc_rules.specs.Rules.{said_by}
 use Rattle.pc_rules.proofs.ByNumber.{says}
 use Rattle.pc_rules.proofs.OneRule.{body_rule}

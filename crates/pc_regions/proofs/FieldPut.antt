@@ -14,7 +14,7 @@ use Rattle.pc_caps.specs.declared.capability.Form.{Form}
 use Rattle.pc_caps.specs.declared.capability.Form.TheVariants as form
 use Rattle.pc_core.specs.CoreData.{CoreData}
 use Rattle.pc_ann.specs.declared.annotation.Ann.{Ann}
-use Rattle.pc_rules.specs.Parts.{Ty}
+use Rattle.pc_valid.specs.Words.{Ty}
 use Rattle.pc_regions.proofs.World.{Place, InSlot, OnStack, InField, InMail, Child, World, home, Fits, FitsSome, Alias, AliasSome, WorldOk}
 use Rattle.pc_regions.proofs.Fitting.{OpenedTo}
 use Rattle.pc_regions.proofs.MoveFits.{elsewhere}

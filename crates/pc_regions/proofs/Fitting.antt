@@ -24,7 +24,7 @@ use Rattle.pc_semantics.specs.declared.frames.Frame.{Frame}
 use Rattle.pc_semantics.specs.declared.mailbox.Message.{Message}
 use Rattle.pc_semantics.specs.Configurations.{Configuration}
 use Rattle.pc_sub.specs.Declarations.{isolates}
-use Rattle.pc_rules.specs.Parts.{Ty}
+use Rattle.pc_valid.specs.Words.{Ty}
 use Rattle.pc_rules.proofs.ByNumber.{slot_of}
 use Rattle.pc_regions.proofs.World.{World, Opened, InSlot, OnStack, InField, InMail, Fits, FitsSome, AliasSome, Over, WorldOk}
 use Rattle.pc_regions.proofs.StackForms.{Entry, Shallow, Below, Ascent, Climbs, top_of, SlotsShallow, TasksRise, uses_top}

@@ -26,7 +26,8 @@ use Rattle.pc_semantics.specs.declared.frames.Task.{Task}
 use Rattle.pc_semantics.specs.declared.frames.Task.TheVariants as task
 use Rattle.pc_semantics.specs.Around.{Around, first_frame, with_stack, popped}
 use Rattle.pc_semantics.specs.Calls.{invoke_task}
-use Rattle.pc_rules.specs.Parts.{Ty, type_of}
+use Rattle.pc_rules.specs.Parts.{type_of}
+use Rattle.pc_valid.specs.Words.{Ty}
 use Rattle.pc_rules.specs.Calls.{is_isolated, is_lent, recovered_result}
 use Rattle.pc_rules.proofs.ByNumber.{arguments}
 use Rattle.pc_lists.proofs.Bools.{false_true}

@@ -22,7 +22,8 @@ use Rattle.pc_semantics.specs.declared.frames.Task.TheVariants as task
 use Rattle.pc_semantics.specs.Around.{Around, none, entity_of}
 use Rattle.pc_semantics.specs.Calls.{invoke_task, truth_text}
 use Rattle.pc_sub.specs.Declarations.{takes_sendable}
-use Rattle.pc_rules.specs.Parts.{Ty, Masks, before, through, type_of}
+use Rattle.pc_rules.specs.Parts.{through, type_of}
+use Rattle.pc_valid.specs.Words.{Ty, Masks, before}
 use Rattle.pc_rules.proofs.ByNumber.{arguments}
 use Rattle.pc_types.proofs.Types.{OfKind, OfType, OfSome, Want, StackOk}
 use Rattle.pc_types.proofs.Tasks.{want_of, stacked, FinishOk, invokes, TasksOk}

@@ -21,13 +21,13 @@ use Rattle.pc_ann.specs.declared.annotation.Rule.TheVariants as rule
 use Rattle.pc_masks.specs.Masks.{IsIn, with_number, without_number, meet}
 use Rattle.pc_masks.specs.MaskLaws.{meet_bits, with_number_bits, without_number_bits}
 use Rattle.pc_rules.specs.declared.said.Said.{Said}
-use Rattle.pc_rules.specs.Parts.{Ty, Masks, says_of, before, after, through, type_of, one_child}
+use Rattle.pc_rules.specs.Parts.{says_of, through, type_of, one_child}
+use Rattle.pc_valid.specs.Words.{Ty, Masks, before, after, Defines}
 use Rattle.pc_rules.specs.Values.{defines, old_value, assigns}
 use Rattle.pc_rules.specs.Fields.{own_field, field_type, old_type}
 use Rattle.pc_rules.specs.Control.{without_definition, without_item, without_items, recovered}
 use Rattle.pc_rules.specs.Rules.{said_by}
-use Rattle.pc_rules.proofs.ByNumber.{two_types, slot_of, used, this_says, local_says, consume_says, defined, define_says, assigned, assign_says, incomplete, read_says, own_read_says, write_says, value_type, own_write_says, called, builtin_says, value_says, not_says, identity_says, recover_says, body_says, says, Meets, own_seen}
-use Rattle.pc_rules.specs.Statements.{Defines}
+use Rattle.pc_rules.proofs.ByNumber.{two_types, slot_of, used, this_says, local_says, consume_says, defined, define_says, assigned, assign_says, incomplete, read_says, own_read_says, write_says, value_type, own_write_says, called, builtin_says, value_says, not_says, identity_says, recover_says, body_says, says, IsSaid, own_seen}
 use Rattle.pc_types.proofs.Tasks.{Within}
 use Rattle.pc_types.proofs.EvalChildren.{first_of_them, items_less}
 use Rattle.pc_types.proofs.Inverse.{LazyRule, IfRule, WhileRule, SeqRule, and_rule, or_rule, if_rule, while_rule, seq_rule}
@@ -264,7 +264,7 @@ module _ (core : CoreData) (ann : Ann) (x : Node) (t : Note) (s : ℕ) (live : I
   says_remains rule.Body node.Body e = inl (body_remains core ann x (before t) (said_by t) s live e)
   says_remains r k e = absurd (none-some (said_by t) e)
 
-  pub live_behind : Meets core ann x t → Remains ann x.children t.live_before s ⊎ Sets x.kind s
+  pub live_behind : IsSaid core ann x t → Remains ann x.children t.live_before s ⊎ Sets x.kind s
   live_behind e = says_remains t.rule x.kind e
 
 -- ---- sequences
@@ -282,7 +282,7 @@ items_out core (d ∷ cs) l i c zero y at is k h =
 items_out core (d ∷ cs) l i c (suc j) y at is k h = items_out core cs (without_item (slice_get core.nodes d) l) i c j y at is k h
 
 -- Behind a sequence what its items define is not live.
-pub defined_out : (core : CoreData) (ann : Ann) (x : Node) (t : Note) (s : ℕ) → IsIn t.live_after s → Meets core ann x t → x.kind ≡ node.Seq → Defines core x.children s → ⊥
+pub defined_out : (core : CoreData) (ann : Ann) (x : Node) (t : Note) (s : ℕ) → IsIn t.live_after s → IsSaid core ann x t → x.kind ≡ node.Seq → Defines core x.children s → ⊥
 defined_out core ann x t s live e is d =
     let r = seq_rule core ann x t t.rule (subst (λ (k : NodeKind). says core ann x (before t) t.rule k ≡ Some (said_by t)) is e) in
     items_out core x.children r.behind.0 s d.0 d.2.0 d.1 d.2.1 d.3 d.4 (subst (λ (l : Mask). IsIn l s) r.says.live live)

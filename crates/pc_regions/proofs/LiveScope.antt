@@ -22,12 +22,11 @@ use Rattle.pc_ann.specs.declared.annotation.Note.{Note}
 use Rattle.pc_ann.specs.declared.annotation.Ann.{Ann}
 use Rattle.pc_masks.specs.Masks.{IsIn, first, same}
 use Rattle.pc_masks.specs.MaskLaws.{first_bits}
-use Rattle.pc_rules.specs.Parts.{before}
+use Rattle.pc_valid.specs.Words.{before, Defines}
 use Rattle.pc_rules.specs.Control.{start_set}
 use Rattle.pc_rules.specs.Rules.{said_by}
-use Rattle.pc_rules.proofs.ByNumber.{says, Meets}
+use Rattle.pc_rules.proofs.ByNumber.{says, IsSaid}
 use Rattle.pc_rules.proofs.OneRule.{body_rule}
-use Rattle.pc_rules.specs.Statements.{Defines}
 use Rattle.pc_core.proofs.Homes.{home}
 use Rattle.pc_rules.proofs.Homes.{own_tree, children_of, children_before}
 use Rattle.pc_rules.specs.Trees.{Tree, Forest, tree, empty, more, body_tree, tree_le}
@@ -187,7 +186,7 @@ module _ (core : CoreData) (ann : Ann) (needs : Needs core ann) (m : ℕ) (f : M
       (shallow n x t.live_before at own before, shallow n x t.live_after at own after))
 
   -- The root of a tree, where what is behind its children is in scope.
-  root_scope : (n : ℕ) (x : Node) (t : Note) → slice_get core.nodes n ≡ Some x → x.method ≡ m → Meets core ann x t → ((s : ℕ) → Remains ann x.children t.live_before s → InScope core m f n s) → (s : ℕ) → IsIn t.live_after s → InScope core m f (n + 1) s
+  root_scope : (n : ℕ) (x : Node) (t : Note) → slice_get core.nodes n ≡ Some x → x.method ≡ m → IsSaid core ann x t → ((s : ℕ) → Remains ann x.children t.live_before s → InScope core m f n s) → (s : ℕ) → IsIn t.live_after s → InScope core m f (n + 1) s
   root_scope n x t at own meets behind s h =
       elim (live_behind core ann x t s h meets) [
         | inl r ↦ node_past n s x at (defined_out core ann x t s h meets) (behind s r)

@@ -11,9 +11,10 @@ use Rattle.pc_lists.specs.Places.{Each}
 use Rattle.pc_ann.specs.declared.annotation.Note.{Note}
 use Rattle.pc_ann.specs.declared.annotation.Ann.{Ann}
 use Rattle.pc_masks.specs.Masks.{IsIn}
-use Rattle.pc_rules.specs.Parts.{Masks, before, after, through}
+use Rattle.pc_rules.specs.Parts.{through}
+use Rattle.pc_valid.specs.Words.{Masks, before, after}
 use Rattle.pc_rules.specs.Rules.{said_by}
-use Rattle.pc_rules.proofs.ByNumber.{says, Meets}
+use Rattle.pc_rules.proofs.ByNumber.{says, IsSaid}
 use Rattle.pc_rules.proofs.Threads.{Threaded, is_branch, threads, first_starts, next_starts}
 use Rattle.pc_types.proofs.Needs.{Needs}
 use Rattle.pc_types.proofs.Notes.{note_at}
@@ -86,7 +87,7 @@ branch_or_not : (k : NodeKind) → (k ≡ node.If) ⊎ (is_branch k ≡ false)
 branch_or_not node.If = inl refl
 branch_or_not k = inr refl
 
-pub children_start : (core : CoreData) (ann : Ann) → Needs core ann → (n : ℕ) (x : Node) (t : Note) → slice_get core.nodes n ≡ Some x → Meets core ann x t → Starts ann (λ s. IsIn t.live_before s) x.children
+pub children_start : (core : CoreData) (ann : Ann) → Needs core ann → (n : ℕ) (x : Node) (t : Note) → slice_get core.nodes n ≡ Some x → IsSaid core ann x t → Starts ann (λ s. IsIn t.live_before s) x.children
 children_start core ann needs n x t at meets =
     elim (branch_or_not x.kind) [
       | inl is ↦ let r = if_rule core ann x t t.rule (subst (λ (k : NodeKind). says core ann x (before t) t.rule k ≡ Some (said_by t)) is meets) in

@@ -7,7 +7,7 @@ use Rattle.pc_core.specs.CoreData.{CoreData}
 use Rattle.pc_ann.specs.declared.annotation.Ann.{Ann}
 use Rattle.pc_semantics.specs.declared.frames.Frame.{Frame}
 use Rattle.pc_semantics.specs.declared.mailbox.Message.{Message}
-use Rattle.pc_rules.specs.Parts.{Ty}
+use Rattle.pc_valid.specs.Words.{Ty}
 use Rattle.pc_caps.specs.declared.capability.Form.{Form}
 use Rattle.pc_regions.proofs.World.{Over, World, Opened, InMail, InSlot, OnStack, Fits, AliasSome}
 use Rattle.pc_regions.proofs.StackForms.{Entry}

@@ -21,8 +21,8 @@ use Rattle.pc_semantics.specs.declared.frames.Task.TheVariants as task
 use Rattle.pc_semantics.specs.Around.{Around, Writes, with_stack, pushed, or_none}
 use Rattle.pc_semantics.specs.Fields.{put_task}
 use Rattle.pc_sub.specs.Sub.{is_sub}
-use Rattle.pc_rules.specs.Parts.{Ty, goes_to, type_of}
-use Rattle.pc_rules.specs.Fields.{place}
+use Rattle.pc_rules.specs.Parts.{goes_to, type_of}
+use Rattle.pc_valid.specs.Words.{Ty, place}
 use Rattle.pc_types.proofs.Types.{OfType, OfSome}
 use Rattle.pc_types.proofs.Tasks.{writes, FinishOk, TasksOk}
 use Rattle.pc_types.proofs.Frames.{HasFields}

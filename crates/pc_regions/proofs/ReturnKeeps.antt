@@ -26,7 +26,7 @@ use Rattle.pc_semantics.specs.Calls.{leave}
 use Rattle.std.proofs.lemmas.Option.{same_Some}
 use Rattle.pc_semantics.specs.Around.{Around}
 use Rattle.pc_semantics.specs.Step.{left}
-use Rattle.pc_rules.specs.Parts.{Ty}
+use Rattle.pc_valid.specs.Words.{Ty}
 use Rattle.pc_lists.proofs.Bools.{false_true}
 use Rattle.pc_types.proofs.Types.{OfType, OfSome, StackOk}
 use Rattle.pc_types.proofs.Tasks.{ReturnOk}

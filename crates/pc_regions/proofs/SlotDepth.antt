@@ -20,7 +20,8 @@ use Rattle.pc_core.specs.MethodKinds.{this_slot, param_slot}
 use Rattle.pc_core.specs.Nodes.{NamesFit, NamesLocal}
 use Rattle.pc_ann.specs.declared.annotation.Note.{Note}
 use Rattle.pc_ann.specs.declared.annotation.Ann.{Ann}
-use Rattle.pc_rules.specs.Parts.{goes_to, reachable, before, type_of, one_child}
+use Rattle.pc_rules.specs.Parts.{goes_to, reachable, type_of, one_child}
+use Rattle.pc_valid.specs.Words.{before}
 use Rattle.pc_rules.specs.Rules.{said_by}
 use Rattle.pc_lists.proofs.Bools.{false_true}
 use Rattle.pc_rules.specs.Values.{is_var, assigns}

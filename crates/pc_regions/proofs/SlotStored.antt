@@ -18,7 +18,7 @@ use Rattle.pc_semantics.specs.declared.frames.Frame.{Frame}
 use Rattle.pc_semantics.specs.declared.frames.Task.TheVariants as task
 use Rattle.pc_semantics.specs.Around.{Around, or_none, with_stack}
 use Rattle.pc_semantics.specs.Fields.{held, store}
-use Rattle.pc_rules.specs.Parts.{Ty}
+use Rattle.pc_valid.specs.Words.{Ty}
 use Rattle.pc_rules.proofs.ByNumber.{slot_of}
 use Rattle.pc_types.proofs.Types.{OfSome}
 use Rattle.pc_types.proofs.Tasks.{stores}

@@ -22,7 +22,7 @@ use Rattle.pc_semantics.specs.Configurations.{own_address, blank_object}
 use Rattle.pc_semantics.specs.Around.{Around}
 use Rattle.pc_semantics.specs.Calls.{spawn_task}
 use Rattle.pc_sub.specs.Declarations.{takes_sendable}
-use Rattle.pc_rules.specs.Parts.{Ty}
+use Rattle.pc_valid.specs.Words.{Ty}
 use Rattle.pc_types.proofs.Types.{OfSome}
 use Rattle.pc_types.proofs.Tasks.{FinishOk, spawns, TasksOk}
 use Rattle.pc_types.proofs.Moves.{Runs}

@@ -19,7 +19,8 @@ use Rattle.pc_ann.specs.declared.annotation.Ann.{Ann}
 use Rattle.pc_masks.specs.Masks.{IsIn}
 use Rattle.pc_semantics.specs.declared.frames.Task.{Task}
 use Rattle.pc_semantics.specs.declared.frames.Task.TheVariants as task
-use Rattle.pc_rules.specs.Parts.{Ty, Masks, before, through, type_of}
+use Rattle.pc_rules.specs.Parts.{through, type_of}
+use Rattle.pc_valid.specs.Words.{Ty, Masks, before}
 use Rattle.pc_rules.specs.Control.{recovered}
 use Rattle.pc_types.proofs.Under.{Under}
 use Rattle.pc_types.proofs.Tasks.{Within, reads, writes, stores, makes, spawns, invokes, applies, is_lazy}

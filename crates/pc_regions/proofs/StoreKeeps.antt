@@ -20,7 +20,8 @@ use Rattle.pc_semantics.specs.declared.frames.Task.TheVariants as task
 use Rattle.pc_semantics.specs.Around.{Around, or_none, with_stack, with_top}
 use Rattle.pc_semantics.specs.Fields.{held, store, store_task}
 use Rattle.pc_sub.specs.Sub.{is_sub}
-use Rattle.pc_rules.specs.Parts.{Ty, Masks, before, type_of}
+use Rattle.pc_rules.specs.Parts.{type_of}
+use Rattle.pc_valid.specs.Words.{Ty, Masks, before}
 use Rattle.pc_core.specs.declared.nodes.NodeKind.{NodeKind}
 use Rattle.pc_core.specs.declared.nodes.NodeKind.TheVariants as nodes
 use Rattle.pc_ann.specs.declared.annotation.Rule.{Rule}

@@ -27,7 +27,7 @@ use Rattle.pc_semantics.specs.declared.mailbox.Message.{Message}
 use Rattle.pc_semantics.specs.Configurations.{Configuration, with_actor, with_frames, own_address}
 use Rattle.pc_semantics.specs.Around.{first_frame}
 use Rattle.pc_semantics.specs.Step.{printed_text, begin_method}
-use Rattle.pc_rules.specs.Parts.{Ty}
+use Rattle.pc_valid.specs.Words.{Ty}
 use Rattle.pc_lists.proofs.Bools.{false_true}
 use Rattle.pc_sub.specs.Declarations.{takes_sendable}
 use Rattle.pc_types.proofs.Types.{ArgumentsOk}

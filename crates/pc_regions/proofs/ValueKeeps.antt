@@ -27,7 +27,8 @@ use Rattle.pc_semantics.specs.declared.frames.Frame.{Frame}
 use Rattle.pc_semantics.specs.declared.frames.Task.TheVariants as task
 use Rattle.pc_semantics.specs.Around.{Around, Goes, pushed, with_slot}
 use Rattle.pc_semantics.specs.Evaluation.{push_slot, take_slot}
-use Rattle.pc_rules.specs.Parts.{Ty, reachable, full, before}
+use Rattle.pc_rules.specs.Parts.{reachable, full}
+use Rattle.pc_valid.specs.Words.{Ty, before}
 use Rattle.pc_rules.proofs.ByNumber.{slot_of}
 use Rattle.pc_rules.specs.Values.{this_form}
 use Rattle.pc_lists.proofs.Bools.{false_true}

@@ -2,7 +2,7 @@
 use Rattle.pc_core.specs.CoreData.{CoreData}
 use Rattle.pc_core.specs.Formed.{Formed}
 use Rattle.pc_ann.specs.declared.annotation.Ann.{Ann}
-use Rattle.pc_rules.specs.Valid.{Valid}
+use Rattle.pc_valid.specs.Valid.{Valid}
 use Rattle.pc_semantics.specs.Safety.{Safe}
 
 -- What has a valid annotation is safe: over every list of actors no two race, waiting messages are let alone, and no step lacks

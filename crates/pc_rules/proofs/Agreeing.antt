@@ -27,12 +27,13 @@ use Rattle.pc_ann.specs.declared.annotation.Ann.{Ann}
 use Rattle.pc_ann.specs.declared.annotation.Rule.{Rule}
 use Rattle.pc_masks.specs.Masks.{same, first}
 use Rattle.pc_rules.specs.declared.said.Said.{Said}
-use Rattle.pc_rules.specs.Parts.{Ty, Masks, before, through, type_of, one_child, goes_to}
+use Rattle.pc_rules.specs.Parts.{through, type_of, one_child, goes_to}
+use Rattle.pc_valid.specs.Words.{Ty, Masks, before}
+use Rattle.pc_valid.specs.Valid.{KeepsWritten}
 use Rattle.pc_rules.specs.Values.{same_cap, same_place, defined_type, defines}
 use Rattle.pc_rules.specs.Control.{start_set, starts_method, result_ok}
 use Rattle.pc_rules.proofs.ByNumber.{slot_of, defined, define_says, body_says}
-use Rattle.pc_rules.specs.Rules.{says, said_by, Meets}
-use Rattle.pc_rules.specs.Valid.{KeepsWritten}
+use Rattle.pc_rules.specs.Rules.{says, said_by, IsSaid}
 use Rattle.pc_lists.proofs.Bools.{false_true}
 use Rattle.pc_rules.proofs.OneRule.{is_rule_at, define_rule, body_rule}
 use Rattle.pc_core.proofs.Homes.{home, home_method}
@@ -124,7 +125,7 @@ body_method core m x body is fit =
     let end : body < node_end x.first_node x.body = omega (arith, at) in
     fit.own (body - x.first_node) fit.root (range_get core.nodes x.first_node (node_end x.first_node x.body) body fit.root from end fit.is_root)
 
-pub body_says_at : (core : CoreData) (ann : Ann) (x : Node) (t : Note) → x.kind ≡ node.Body → Meets core ann x t → body_says core ann x (before t) ≡ Some (said_by t)
+pub body_says_at : (core : CoreData) (ann : Ann) (x : Node) (t : Note) → x.kind ≡ node.Body → IsSaid core ann x t → body_says core ann x (before t) ≡ Some (said_by t)
 body_says_at core ann x t e m = body_rule core ann x (before t) t.rule (said_by t) (by_number core ann x (before t) t.rule node.Body (said_by t) (subst (λ k. says core ann x (before t) t.rule k ≡ Some (said_by t)) e m))
 
 -- They agree on the notes below n, and on the slots that nodes below n define.
@@ -189,7 +190,7 @@ module _ (core : CoreData) (a b : Ann) (formed : Formed core) (wa : KeepsWritten
       (define_inv core a x s m p (define_rule core a x m r s p (by_number core a x m r (node.Define s) p (subst (λ j. says core a x m r j ≡ Some p) e u))))
       (define_inv core b x s m q (define_rule core b x m o s q (by_number core b x m o (node.Define s) q (subst (λ j. says core b x m o j ≡ Some q) e v))))
 
-  pub node_step : (n : ℕ) (x : Node) (s t : Note) → slice_get core.nodes n ≡ Some x → Each (λ i c. c < n) x.children → Agree core a b n → slice_get a.notes n ≡ Some s → slice_get b.notes n ≡ Some t → Meets core a x s → Meets core b x t → before s ≡ before t → Agree core a b (n + 1)
+  pub node_step : (n : ℕ) (x : Node) (s t : Note) → slice_get core.nodes n ≡ Some x → Each (λ i c. c < n) x.children → Agree core a b n → slice_get a.notes n ≡ Some s → slice_get b.notes n ≡ Some t → IsSaid core a x s → IsSaid core b x t → before s ≡ before t → Agree core a b (n + 1)
   node_step n x s t g h same ga gb ma mb m =
       let eb : says core b x (before s) t.rule x.kind ≡ Some (said_by t) = subst (λ k. says core b x k t.rule x.kind ≡ Some (said_by t)) (sym m) mb in
       let looks = looks_alike n x x.kind (before s) s.rule t.rule (said_by s) (said_by t) same g h refl ma eb in

@@ -14,7 +14,8 @@ use Rattle.pc_ann.specs.declared.annotation.Note.{Note}
 use Rattle.pc_ann.specs.declared.annotation.Ann.{Ann}
 use Rattle.pc_ann.specs.declared.annotation.Rule.{Rule}
 use Rattle.pc_ann.specs.declared.annotation.Rule.TheVariants as rule
-use Rattle.pc_rules.specs.Parts.{Masks, type_of, one_child, one_type, notes_of}
+use Rattle.pc_rules.specs.Parts.{type_of, one_child, one_type, notes_of}
+use Rattle.pc_valid.specs.Words.{Masks}
 use Rattle.pc_rules.specs.Parts as parts
 use Rattle.pc_rules.specs.Values as values
 use Rattle.pc_rules.specs.Rules.{rule_says, says}

@@ -22,7 +22,8 @@ use Rattle.pc_ann.specs.declared.annotation.Ann.{Ann}
 use Rattle.pc_ann.specs.declared.annotation.Rule.{Rule}
 use Rattle.pc_ann.specs.declared.annotation.Rule.TheVariants as rule
 use Rattle.pc_rules.specs.declared.said.Said.{Said}
-use Rattle.pc_rules.specs.Parts.{Ty, Masks, Slots, says_of, reads_as, constructs, starts, before, after, through, through_notes, type_of, types_of, one_child, one_note, one_type, two_notes, three_notes, last_child, last_note, notes_of}
+use Rattle.pc_rules.specs.Parts.{says_of, reads_as, constructs, starts, through, through_notes, type_of, types_of, one_child, one_note, one_type, two_notes, three_notes, last_child, last_note, notes_of}
+use Rattle.pc_valid.specs.Words.{Ty, Masks, Slots, before, after}
 use Rattle.pc_rules.specs.Parts as parts
 use Rattle.pc_rules.specs.Values as values
 use Rattle.pc_rules.specs.Fields as fields
@@ -33,7 +34,7 @@ use Rattle.pc_rules.specs.Fields.{lacks_fields}
 use Rattle.pc_rules.specs.Operators.{is_arithmetic, is_comparison, is_equality, is_add, is_xor, comparable, both_read_as, meet_masks}
 use Rattle.pc_rules.specs.Control.{is_condition, joined}
 use Rattle.pc_rules.specs.Calls.{argument_goes, argument_sendable, is_function, is_behaviour, lends}
-use Rattle.pc_rules.specs.Rules.{rule_says, Holds, says, said_by, Meets, MeetsRule}
+use Rattle.pc_rules.specs.Rules.{rule_says, says, said_by, IsSaid, NoteIsSaid}
 use Rattle.pc_rules.proofs.ByNumber.{two_children, three_children, own_seen}
 use Rattle.pc_rules.proofs.ByNumber as numbered
 use Rattle.pc_rules.proofs.Alike.{bind_same}
@@ -439,21 +440,11 @@ by_number core ann x m r k q e =
     let a = bind_some (notes_of ann.notes x.children) _ q e in
     says_by core ann x a.0 (noted_of ann x.children a.0 a.1) r k m ∙ a.2
 
-pub meets_by_number : (core : CoreData) (ann : Ann) (x : Node) (t : Note) → Meets core ann x t → numbered.Meets core ann x t
+pub meets_by_number : (core : CoreData) (ann : Ann) (x : Node) (t : Note) → IsSaid core ann x t → numbered.IsSaid core ann x t
 meets_by_number core ann x t m = by_number core ann x (before t) t.rule x.kind (said_by t) m
 
-pub meets_threads : (core : CoreData) (ann : Ann) (x : Node) (t : Note) → is_branch x.kind ≡ false → HasArity x.kind (length x.children) → Meets core ann x t → Threaded ann x.children (before t)
+pub meets_threads : (core : CoreData) (ann : Ann) (x : Node) (t : Note) → is_branch x.kind ≡ false → HasArity x.kind (length x.children) → IsSaid core ann x t → Threaded ann x.children (before t)
 meets_threads core ann x t plain arity m = threads core ann x (before t) (said_by t) t.rule x.kind plain arity (meets_by_number core ann x t m)
 
-pub meets_if_threads : (core : CoreData) (ann : Ann) (x : Node) (t : Note) → x.kind ≡ node.If → Meets core ann x t → Threaded ann (then_way x.children) (before t) × Threaded ann (else_way x.children) (before t)
+pub meets_if_threads : (core : CoreData) (ann : Ann) (x : Node) (t : Note) → x.kind ≡ node.If → IsSaid core ann x t → Threaded ann (then_way x.children) (before t) × Threaded ann (else_way x.children) (before t)
 meets_if_threads core ann x t is m = if_threads core ann x (before t) (said_by t) t.rule is (meets_by_number core ann x t m)
-
--- A node meets its rule in an annotation exactly where it does by its own note and those of its children.
-pub holds_meets : (core : CoreData) (ann : Ann) (n : ℕ) (x : Node) (own : Note) (ns : List Note) → slice_get core.nodes n ≡ Some x → slice_get ann.notes n ≡ Some own → notes_of ann.notes x.children ≡ Some ns → (Holds core ann.slots own ns n) ↔ (MeetsRule core ann n)
-holds_meets core ann n x own ns g h e =
-    let at : says core ann x (before own) own.rule x.kind ≡ rule_says core ann.slots ns x (before own) own.rule x.kind = ap (λ (o : Option (List Note)). o >>= λ ts. rule_says core ann.slots ts x (before own) own.rule x.kind) e in (
-      λ r. let is = same_Some r.0 x (sym r.1 ∙ g) in
-          (x, own, g, h, at ∙ subst (λ (y : Node). rule_says core ann.slots ns y (before own) own.rule y.kind ≡ Some (said_by own)) is r.2),
-      λ r. let is = same_Some r.0 x (sym r.2 ∙ g) in let as' = same_Some r.1 own (sym r.3 ∙ h) in
-          (x, g, sym at ∙ subst (λ (t : Note). Meets core ann x t) as' (subst (λ (y : Node). Meets core ann y r.1) is r.4)),
-    )

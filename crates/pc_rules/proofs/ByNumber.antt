@@ -23,7 +23,8 @@ use Rattle.pc_ann.specs.declared.annotation.Rule.{Rule}
 use Rattle.pc_ann.specs.declared.annotation.Rule.TheVariants as rule
 use Rattle.pc_masks.specs.Masks.{has, with_number, without_number, within, same}
 use Rattle.pc_rules.specs.declared.said.Said.{Said}
-use Rattle.pc_rules.specs.Parts.{Ty, Masks, says_of, reads_as, reachable, constructs, before, through, type_of, one_child, last_child}
+use Rattle.pc_rules.specs.Parts.{says_of, reads_as, reachable, constructs, through, type_of, one_child, last_child}
+use Rattle.pc_valid.specs.Words.{Ty, Masks, before}
 use Rattle.pc_rules.specs.Values.{literal_says, this_form, defines, assigns, old_value}
 use Rattle.pc_rules.specs.Fields.{own_field, is_this, lacks_fields, field_type, old_type, own_old, own_writes}
 use Rattle.pc_rules.specs.Calls.{argument_goes, is_function, is_behaviour, argument_sendable, lends, recovered_result, has_string}
@@ -393,8 +394,8 @@ says core ann x m rule.Body node.Body = body_says core ann x m
 says core ann x m r k = None
 
 -- The note of node x is what its rule says.
-abbrev pub Meets : CoreData → Ann → Node → Note → Type 0
-Meets core ann x t = says core ann x (before t) t.rule x.kind ≡ Some (said_by t)
+abbrev pub IsSaid : CoreData → Ann → Node → Note → Type 0
+IsSaid core ann x t = says core ann x (before t) t.rule x.kind ≡ Some (said_by t)
 
 -- What is read of an own field that sees form s there.
 abbrev pub own_seen : ℕ × FieldInfo → Form → Masks → Option Said

@@ -10,7 +10,7 @@ use Rattle.pc_ann.specs.declared.annotation.Note.{Note}
 use Rattle.pc_ann.specs.declared.annotation.Rule.{Rule}
 use Rattle.pc_ann.specs.declared.annotation.Rule.TheVariants as rule
 use Rattle.pc_rules.specs.declared.said.Said.{Said}
-use Rattle.pc_rules.specs.Rules.{Meets}
+use Rattle.pc_rules.specs.Rules.{IsSaid}
 use Rattle.pc_rules.specs.Example.{four_slots, derivation, at, node_of, noted, EachMeets, MeetsNone, WrongNotes}
 use Rattle.pc_lists.proofs.Bools.{true_false}
 
@@ -22,20 +22,20 @@ abbrev says_ref : Option (ℕ × Form) → Bool
 says_ref (Some (e, form.Ref)) = true
 says_ref ty = false
 
-wrong_new : (r : Rule) → Meets four_slots derivation (node_of 2 (node.New 1) [] (at 64 65)) (record (noted rule.New (Some (6, form.Ref)) 3 3) { rule = r }) → ⊥
+wrong_new : (r : Rule) → IsSaid four_slots derivation (node_of 2 (node.New 1) [] (at 64 65)) (record (noted rule.New (Some (6, form.Ref)) 3 3) { rule = r }) → ⊥
 wrong_new rule.New e = true_false (sym (ap (λ (q : Said). says_ref q.ty) (same_Some _ _ e)))
 wrong_new r e = none-some _ e
 
-wrong_define : (r : Rule) → Meets four_slots derivation (node_of 2 (node.Define 2) (3 ∷ []) (at 49 65)) (record (noted rule.Define None 3 3) { rule = r }) → ⊥
+wrong_define : (r : Rule) → IsSaid four_slots derivation (node_of 2 (node.Define 2) (3 ∷ []) (at 49 65)) (record (noted rule.Define None 3 3) { rule = r }) → ⊥
 wrong_define rule.Define e = let k = ap (λ (q : Said). q.live.0) (same_Some _ _ e) in omega (arith, k)
 wrong_define r e = none-some _ e
 
-wrong_seq : (r : Rule) → Meets four_slots derivation (node_of 2 node.Seq (4 ∷ []) (at 49 65)) (record (noted rule.Seq None 3 7) { rule = r }) → ⊥
+wrong_seq : (r : Rule) → IsSaid four_slots derivation (node_of 2 node.Seq (4 ∷ []) (at 49 65)) (record (noted rule.Seq None 3 7) { rule = r }) → ⊥
 wrong_seq rule.Seq e = let k = ap (λ (q : Said). q.live.0) (same_Some _ _ e) in omega (arith, k)
 wrong_seq r e = none-some _ e
 
-at_node : (n : ℕ) (y : Node) (t : Note) → slice_get four_slots.nodes n ≡ Some y → ((r : Rule) → Meets four_slots derivation y (record t { rule = r }) → ⊥) → MeetsNone n t
-at_node n y t e f x g r = subst (λ (z : Node). Meets four_slots derivation z (record t { rule = r }) → ⊥) (same_Some y x (sym e ∙ g)) (f r)
+at_node : (n : ℕ) (y : Node) (t : Note) → slice_get four_slots.nodes n ≡ Some y → ((r : Rule) → IsSaid four_slots derivation y (record t { rule = r }) → ⊥) → MeetsNone n t
+at_node n y t e f x g r = subst (λ (z : Node). IsSaid four_slots derivation z (record t { rule = r }) → ⊥) (same_Some y x (sym e ∙ g)) (f r)
 
 pub wrong_notes : WrongNotes
 wrong_notes =

@@ -11,7 +11,8 @@ use Rattle.pc_lists.specs.Options.{◌>>=◌}
 use Rattle.pc_lists.proofs.Gets.{take_get}
 use Rattle.pc_masks.specs.declared.mask.Mask.{Mask}
 use Rattle.pc_ann.specs.declared.annotation.Note.{Note}
-use Rattle.pc_rules.specs.Parts.{Masks, starts, after, through_notes}
+use Rattle.pc_rules.specs.Parts.{starts, through_notes}
+use Rattle.pc_valid.specs.Words.{Masks, after}
 use Rattle.pc_rules.specs.Calls.{argument_goes, argument_sendable, arguments_go, arguments_sendable}
 use Rattle.pc_rules.specs.Children.{is_there, each_has, goes_at, goes_to_param, sendable_at, sendable_to_param}
 use Rattle.pc_rules.specs.Control.{without_item, without_items}

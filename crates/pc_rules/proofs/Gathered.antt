@@ -11,7 +11,8 @@ use Rattle.pc_lists.proofs.Gets.{get_below}
 use Rattle.pc_ann.specs.declared.annotation.Note.{Note}
 use Rattle.pc_ann.specs.declared.annotation.Ann.{Ann}
 use Rattle.pc_ann.specs.declared.annotation.Rule.{Rule}
-use Rattle.pc_rules.specs.Parts.{Masks, notes_of}
+use Rattle.pc_rules.specs.Parts.{notes_of}
+use Rattle.pc_valid.specs.Words.{Masks}
 use Rattle.pc_rules.specs.Rules.{rule_says, says}
 use Rattle.pc_lists.proofs.Bools.{false_true}
 use Rattle.pc_rules.specs.Children.{HaveNotes, is_there, each_has, put_before, gather, either, MayGather, picked}

@@ -12,13 +12,14 @@ use Rattle.pc_ann.specs.declared.annotation.Rule.TheVariants as rule
 use Rattle.pc_masks.specs.Masks.{IsIn, with_number}
 use Rattle.pc_masks.specs.MaskLaws.{without_number_bits, with_number_bits}
 use Rattle.pc_rules.specs.declared.said.Said.{Said}
-use Rattle.pc_rules.specs.Parts.{Masks, before, through, one_child, type_of, last_child}
+use Rattle.pc_rules.specs.Parts.{through, one_child, type_of, last_child}
+use Rattle.pc_valid.specs.Words.{Masks, before, Defines}
 use Rattle.pc_rules.specs.Values.{defines}
 use Rattle.pc_rules.proofs.ByNumber.{slot_of, used, defined}
 use Rattle.pc_rules.proofs.Bridge.{by_number}
 use Rattle.pc_rules.specs.Control.{without_definition, without_item, without_items}
 use Rattle.pc_rules.specs.Rules.{says, said_by}
-use Rattle.pc_rules.specs.Statements.{RulesDetermine, ConsumeTakesOut, DefinePutsIn, Defines, SeqTakesOut}
+use Rattle.pc_rules.specs.Statements.{RulesDetermine, ConsumeTakesOut, DefinePutsIn, SeqTakesOut}
 
 pub rules_determine : RulesDetermine
 rules_determine core ann x a b r m p q =
@@ -77,7 +78,7 @@ split core c cs i d y (suc k) e f g p q = q (d, y, (k, e), f, g)
 either : (core : CoreData) (c : ℕ) (cs : List ℕ) (i : ℕ) → Defines core (c ∷ cs) i → ((y : Node) → slice_get core.nodes c ≡ Some y → y.kind ≡ node.Define i → ⊥) → ((Defines core cs i) → ⊥) → ⊥
 either core c cs i d p q = split core c cs i d.0 d.1 d.2.0 d.2.1 d.3 d.4 p q
 
-items_bits : (core : CoreData) (cs : List ℕ) (l : Mask) (i : ℕ) → (IsIn (without_items core cs l) i) ↔ (IsIn l i × ((Defines core cs i) → ⊥))
+pub items_bits : (core : CoreData) (cs : List ℕ) (l : Mask) (i : ℕ) → (IsIn (without_items core cs l) i) ↔ (IsIn l i × ((Defines core cs i) → ⊥))
 items_bits core [] l i = (λ h. (h, λ d. none-some d.0 d.2.1), λ h. h.0)
 items_bits core (c ∷ cs) l i =
     let rest = items_bits core cs (without_item (slice_get core.nodes c) l) i in

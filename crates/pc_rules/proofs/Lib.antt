@@ -12,7 +12,11 @@ pub mod Homes
 pub mod Slotted
 pub mod Agreeing
 pub mod Lawful
-pub mod Unique
 pub mod Computed
+pub mod Meaning
 pub mod Meant
 pub mod MeantCalls
+pub mod RecordWords
+pub mod Records
+pub mod Derivations
+pub mod Unique

@@ -23,12 +23,13 @@ use Rattle.pc_masks.specs.declared.mask.Mask.{Mask}
 use Rattle.pc_ann.specs.declared.annotation.Note.{Note}
 use Rattle.pc_masks.specs.Masks.{has, same, with_number, without_number}
 use Rattle.pc_rules.specs.declared.said.Said.{Said}
-use Rattle.pc_rules.specs.Parts.{Ty, Masks, Slots, says_of, starts, before, after, constructs, full, reachable, readable, reads_as, goes_to, slot_of, last_child, through_notes, one_note, two_notes, three_notes, last_note, one_type, types_of, two_types}
+use Rattle.pc_rules.specs.Parts.{says_of, starts, constructs, full, reachable, readable, reads_as, goes_to, slot_of, last_child, through_notes, one_note, two_notes, three_notes, last_note, one_type, types_of, two_types}
+use Rattle.pc_valid.specs.Words.{Ty, Masks, Slots, before, after, place}
 use Rattle.pc_rules.specs.Values.{literal_says, this_form, this_says, used, local_says, consume_says, same_cap, same_place, defined_type, defines, defined, define_says, is_var, old_value, assigns, assigned, assign_says}
-use Rattle.pc_rules.specs.Fields.{is_this, lacks_fields, own_set, incomplete_in, incomplete, field_of, own_field, place, field_type, read_says, get_says, own_read_says, getown_says, writes, written_field, old_type, write_says, put_says, value_type, own_old, own_writes, own_write_says, putown_says}
+use Rattle.pc_rules.specs.Fields.{is_this, lacks_fields, own_set, incomplete_in, incomplete, field_of, own_field, field_type, read_says, get_says, own_read_says, getown_says, writes, written_field, old_type, write_says, put_says, value_type, own_old, own_writes, own_write_says, putown_says}
 use Rattle.pc_rules.specs.Operators.{both_read_as, value_says, not_says, identity_says, lazy_masks, lazy_says, meet_masks}
 use Rattle.pc_rules.specs.Rules.{said_by}
-use Rattle.pc_rules.specs.Meaning.{OneAfterOther, Reachable, Reads, BothRead, Incomplete, Literal, This, Local, Consume, Define, Assign, Get, GetOwn, Put, PutOwn, Not, Lazy, Identity}
+use Rattle.pc_rules.proofs.Meaning.{OneAfterOther, Reachable, Reads, BothRead, Incomplete, Literal, This, Local, Consume, Define, Assign, Get, GetOwn, Put, PutOwn, Not, Lazy, Identity}
 use Rattle.pc_rules.proofs.Threads.{starts_so}
 use Rattle.pc_lists.proofs.Bools.{false_true}
 use Rattle.pc_rules.proofs.Agreeing.{places_equal}
@@ -286,14 +287,14 @@ module _ (core : CoreData) (slots : Slots) (own : Note) (ns : List Note) (x : No
       let k = kept (defines core i.0 v.0) (defined ns s (before own)) (said_by own) i.2 in
       let q = and_parts (same_place i.0.1 (defined_type i.0.0.written v.0)) (goes_to core v.0 i.0.1) k.0 in
       let p = ends_at own ns (λ n. None) (λ n. (with_number n.0 s, n.1)) k.1 in
-      record { child = t.0; children = t.1; value = v.0; is_value = t.2; slot = i.0; is_slot = i.1; has_type = places_equal i.0.1 (defined_type i.0.0.written v.0) q.0; goes = q.1; type = p.2; behind = p.0; in_order = p.1; masks = p.3 }
+      record { child = t.0; children = t.1; value = v.0; is_value = t.2; slot = i.0; is_slot = i.1; has_type = places_equal i.0.1 (defined_type i.0.0.written v.0) q.0; goes = q.1; type = p.2; after_children = p.0; in_order = p.1; masks = p.3 }
 
   pub means_define : (s : ℕ) → Define core slots own ns x s → define_says core slots ns x s (before own) ≡ Some (said_by own)
   means_define s r =
       let test : defines core r.slot r.value ≡ true =
       and_from (same_place r.slot.1 (defined_type r.slot.0.written r.value)) (goes_to core r.value r.slot.1) (place_same r.slot.1 (defined_type r.slot.0.written r.value) r.has_type) r.goes in
       bind_is (one_type ns) _ r.value (typed_one ns r.child r.value r.children r.is_value) ∙ bind_is (slot_of core slots x.method s) _ r.slot r.is_slot
-      ∙ ap (λ b. cond b (defined ns s (before own)) None) test ∙ ended_at own ns (λ n. None) (λ n. (with_number n.0 s, n.1)) r.behind r.in_order r.type r.masks
+      ∙ ap (λ b. cond b (defined ns s (before own)) None) test ∙ ended_at own ns (λ n. None) (λ n. (with_number n.0 s, n.1)) r.after_children r.in_order r.type r.masks
 
   var_is : (k : SlotKind) → is_var k ≡ true → k ≡ slot_kind.Var
   var_is slot_kind.Var e = refl
@@ -308,7 +309,7 @@ module _ (core : CoreData) (slots : Slots) (own : Note) (ns : List Note) (x : No
       let q = and_parts (is_var i.0.0.kind) (reachable x i.0 && goes_to core v.0 i.0.1) k.0 in
       let w = and_parts (reachable x i.0) (goes_to core v.0 i.0.1) q.1 in
       let p = ends_at own ns (λ n. old_value s i.0.1 n.0) (λ n. (with_number n.0 s, n.1)) k.1 in
-      record { child = t.0; children = t.1; value = v.0; is_value = t.2; slot = i.0; is_slot = i.1; variable = var_is i.0.0.kind q.0; reachable = (reaches x i.0).0 w.0; goes = w.1; behind = p.0; in_order = p.1; type = p.2; masks = p.3 }
+      record { child = t.0; children = t.1; value = v.0; is_value = t.2; slot = i.0; is_slot = i.1; variable = var_is i.0.0.kind q.0; reachable = (reaches x i.0).0 w.0; goes = w.1; after_children = p.0; in_order = p.1; type = p.2; masks = p.3 }
 
   pub means_assign : (s : ℕ) → Assign core slots own ns x s → assign_says core slots ns x s (before own) ≡ Some (said_by own)
   means_assign s r =
@@ -316,7 +317,7 @@ module _ (core : CoreData) (slots : Slots) (own : Note) (ns : List Note) (x : No
       and_from (is_var r.slot.0.kind) (reachable x r.slot && goes_to core r.value r.slot.1) (ap is_var r.variable)
       (and_from (reachable x r.slot) (goes_to core r.value r.slot.1) ((reaches x r.slot).1 r.reachable) r.goes) in
       bind_is (one_type ns) _ r.value (typed_one ns r.child r.value r.children r.is_value) ∙ bind_is (slot_of core slots x.method s) _ r.slot r.is_slot
-      ∙ ap (λ b. cond b (assigned ns s r.slot.1 (before own)) None) test ∙ ended_at own ns (λ n. old_value s r.slot.1 n.0) (λ n. (with_number n.0 s, n.1)) r.behind r.in_order r.type r.masks
+      ∙ ap (λ b. cond b (assigned ns s r.slot.1 (before own)) None) test ∙ ended_at own ns (λ n. old_value s r.slot.1 n.0) (λ n. (with_number n.0 s, n.1)) r.after_children r.in_order r.type r.masks
 
 -- ---- fields
 
@@ -489,7 +490,7 @@ module _ (core : CoreData) (own : Note) (ns : List Note) (x : Node) where
         children = two_are ns c.0 c.1;
         value = v.0;
         is_value = c.2;
-        behind = n.0;
+        after_children = n.0;
         in_order = through_means ns (before own) n.0 n.1;
         may = or_not f.0.1.fixed (has n.0.1 f.0.0) q.0;
         goes = q.1;
@@ -499,14 +500,14 @@ module _ (core : CoreData) (own : Note) (ns : List Note) (x : Node) where
 
   pub means_putown : (name : ℕ) → PutOwn core own ns x name → putown_says core ns x name (before own) ≡ Some (said_by own)
   means_putown name r =
-      let test : own_writes core r.value r.field r.behind.1 ≡ true =
-      and_from (not r.field.1.fixed || not (has r.behind.1 r.field.0)) (goes_to core r.value (place r.field.1)) (not_or r.field.1.fixed (has r.behind.1 r.field.0) r.may) r.goes in
+      let test : own_writes core r.value r.field r.after_children.1 ≡ true =
+      and_from (not r.field.1.fixed || not (has r.after_children.1 r.field.0)) (goes_to core r.value (place r.field.1)) (not_or r.field.1.fixed (has r.after_children.1 r.field.0) r.may) r.goes in
       let v : value_type ns ≡ Some r.value = bind_is (two_notes ns) _ (r.first, r.second) (ap two_notes r.children) ∙ r.is_value in
       ap (λ b. cond b (own_write_says core ns x name (before own)) None) (means_incomplete r.incomplete)
       ∙ bind_is (own_field core x name) _ r.field r.is_field ∙ bind_is (value_type ns) _ r.value v
-      ∙ bind_is (through_notes ns (before own)) _ r.behind (means_through ns (before own) r.behind r.in_order)
-      ∙ ap (λ b. cond b (Some (says_of (own_old r.field r.behind.1) (r.behind.0, with_number r.behind.1 r.field.0))) None) test
-      ∙ parts_said own (own_old r.field r.behind.1) (r.behind.0, with_number r.behind.1 r.field.0) r.type r.masks
+      ∙ bind_is (through_notes ns (before own)) _ r.after_children (means_through ns (before own) r.after_children r.in_order)
+      ∙ ap (λ b. cond b (Some (says_of (own_old r.field r.after_children.1) (r.after_children.0, with_number r.after_children.1 r.field.0))) None) test
+      ∙ parts_said own (own_old r.field r.after_children.1) (r.after_children.0, with_number r.after_children.1 r.field.0) r.type r.masks
 
 -- ---- operators on one value, and those that are not tested as a pair
 

@@ -24,13 +24,13 @@ use Rattle.pc_ann.specs.declared.annotation.Note.{Note}
 use Rattle.pc_ann.specs.declared.annotation.Rule.{Rule}
 use Rattle.pc_ann.specs.declared.annotation.Rule.TheVariants as rule
 use Rattle.pc_masks.specs.Masks.{same, within, first}
-use Rattle.pc_rules.specs.Parts.{Ty, Slots, says_of, starts, before, after, lower, reads_as, goes_to, through_notes, one_note, two_notes, three_notes, last_note, one_type, two_types}
+use Rattle.pc_rules.specs.Parts.{says_of, starts, lower, reads_as, goes_to, through_notes, one_note, two_notes, three_notes, last_note, one_type, two_types}
+use Rattle.pc_valid.specs.Words.{Ty, Slots, before, after}
 use Rattle.pc_rules.specs.Calls.{argument_goes, arguments_go, arguments, called, is_function, is_behaviour, calls, call_says, new_says, spawn_says, is_isolated, is_lent, argument_sendable, arguments_sendable, lends, recovers, recovered_result, callrecover_says, sends, send_says, same_text, has_text, has_string, builtin_says}
 use Rattle.pc_rules.specs.Operators.{is_arithmetic, is_comparison, is_equality, is_add, is_xor, both_read_as, comparable, value_says, arith_says, compare_says, equal_says, join_says, xor_says, meet_masks}
 use Rattle.pc_rules.specs.Control.{without_items, seq_says, joined, is_condition, branch_masks, if_says, loop_masks, while_says, recovered, recover_says, start_set, starts_method, gives, result_ok, body_says}
 use Rattle.pc_rules.specs.Rules.{said_by, rule_says}
-use Rattle.pc_rules.specs.Meaning.{OneAfterOther, Reads, BothRead, Go, Sendable, Called, New, Spawn, Call, CallRecover, Send, Builtin, Arith, Compare, Equal, Join, Xor, Seq, If, While, Recover, Body, Means}
-use Rattle.pc_rules.specs.Statements.{RulesAreRecords}
+use Rattle.pc_rules.proofs.Meaning.{OneAfterOther, Reads, BothRead, Go, Sendable, Called, New, Spawn, Call, CallRecover, Send, Builtin, Arith, Compare, Equal, Join, Xor, Seq, If, While, Recover, Body, Means}
 use Rattle.pc_rules.proofs.Threads.{starts_so}
 use Rattle.pc_lists.proofs.Bools.{false_true}
 use Rattle.pc_rules.proofs.Agreeing.{same_mask}
@@ -308,12 +308,12 @@ module _ (core : CoreData) (own : Note) (ns : List Note) where
   seq_means x h =
       let l = bind_some (last_note ns) _ (said_by own) h in
       let p = ends_at own ns (λ n. l.0.ty) (λ n. (without_items core x.children n.0, n.1)) l.2 in
-      record { front = arguments ns; last = l.0; children = last_is ns l.0 l.1; type = p.2; behind = p.0; in_order = p.1; masks = p.3 }
+      record { front = arguments ns; last = l.0; children = last_is ns l.0 l.1; type = p.2; after_children = p.0; in_order = p.1; masks = p.3 }
 
   pub means_seq : (x : Node) → Seq core own ns x → seq_says core ns x (before own) ≡ Some (said_by own)
   means_seq x r =
       bind_is (last_note ns) _ r.last (ap last_note r.children ∙ (is_last r.front r.last).0)
-      ∙ ended_at own ns (λ n. r.last.ty) (λ n. (without_items core x.children n.0, n.1)) r.behind r.in_order r.type r.masks
+      ∙ ended_at own ns (λ n. r.last.ty) (λ n. (without_items core x.children n.0, n.1)) r.after_children r.in_order r.type r.masks
 
   condition_is : (o : Option Ty) → is_condition o ≡ true → Reads 2 o
   condition_is None e = absurd (false_true e)
@@ -575,5 +575,5 @@ meant_is_said core slots own ns x rule.Recover (node.Recover c) m = means_recove
 meant_is_said core slots own ns x rule.Body node.Body m = means_body core own ns x m
 meant_is_said core slots own ns x r k m = absurd m
 
-pub rules_are_records : RulesAreRecords
+pub rules_are_records : (core : CoreData) (slots : Slots) (own : Note) (ns : List Note) (x : Node) (r : Rule) (k : NodeKind) → (rule_says core slots ns x (before own) r k ≡ Some (said_by own)) ↔ Means core slots own ns x r k
 rules_are_records core slots own ns x r k = (said_is_meant core slots own ns x r k, meant_is_said core slots own ns x r k)

@@ -23,7 +23,8 @@ use Rattle.pc_ann.specs.declared.annotation.Ann.{Ann}
 use Rattle.pc_ann.specs.declared.annotation.Rule.{Rule}
 use Rattle.pc_ann.specs.declared.annotation.Rule.TheVariants as rule
 use Rattle.pc_rules.specs.declared.said.Said.{Said}
-use Rattle.pc_rules.specs.Parts.{Ty, Masks, reads_as, readable, through, type_of, one_child, last_child}
+use Rattle.pc_rules.specs.Parts.{reads_as, readable, through, type_of, one_child, last_child}
+use Rattle.pc_valid.specs.Words.{Ty, Masks}
 use Rattle.pc_rules.specs.Calls.{is_function, is_behaviour, is_isolated, is_lent, lends, same_text, has_text, has_string}
 use Rattle.pc_rules.specs.Operators.{is_arithmetic, is_comparison, is_equality, is_add, is_xor, both_read_as, comparable}
 use Rattle.pc_rules.proofs.ByNumber.{two_types, define_says, body_says, incomplete, read_says, own_read_says, write_says, own_write_says, arguments, arguments_go, arguments_sendable, called, calls, call_says, recovers, callrecover_says, sends, send_says, builtin_says, value_says, says}

@@ -21,7 +21,8 @@ use Rattle.pc_ann.specs.declared.annotation.Rule.{Rule}
 use Rattle.pc_ann.specs.declared.annotation.Rule.TheVariants as rule
 use Rattle.pc_masks.specs.Masks.{same}
 use Rattle.pc_rules.specs.declared.said.Said.{Said}
-use Rattle.pc_rules.specs.Parts.{Ty, Masks, starts, before, after, through, type_of, one_child, last_child}
+use Rattle.pc_rules.specs.Parts.{starts, through, type_of, one_child, last_child}
+use Rattle.pc_valid.specs.Words.{Ty, Masks, before, after}
 use Rattle.pc_rules.specs.Values.{defines, assigns}
 use Rattle.pc_rules.specs.Fields.{own_field, field_type, old_type}
 use Rattle.pc_rules.specs.Control.{recovered}

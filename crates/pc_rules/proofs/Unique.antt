@@ -19,9 +19,11 @@ use Rattle.pc_lists.proofs.Options.{bind_some, kept}
 use Rattle.pc_ann.specs.declared.annotation.Note.{Note}
 use Rattle.pc_ann.specs.declared.annotation.Ann.{Ann}
 use Rattle.pc_masks.specs.Masks.{same}
-use Rattle.pc_rules.specs.Parts.{Masks, starts, before, after, through}
-use Rattle.pc_rules.specs.Rules.{said_by, Meets}
-use Rattle.pc_rules.specs.Valid.{Valid}
+use Rattle.pc_rules.specs.Parts.{starts, through}
+use Rattle.pc_valid.specs.Words.{Masks, before, after}
+use Rattle.pc_rules.specs.Rules.{said_by, IsSaid}
+use Rattle.pc_rules.specs.Checks.{Checks}
+use Rattle.pc_rules.proofs.Derivations.{to_valid}
 use Rattle.pc_rules.specs.Trees.{Tree, Forest, tree, empty, more, body_tree, forest_below}
 use Rattle.pc_rules.specs.Statements.{OneValid}
 use Rattle.pc_rules.proofs.Bridge.{meets_threads, meets_if_threads}
@@ -39,10 +41,10 @@ lists_equal (x ∷ xs) (y ∷ ys) e h =
 
 -- ---- two valid annotations
 
-meets_at : (core : CoreData) (ann : Ann) (n : ℕ) (x : Node) (t : Note) → Valid core ann → slice_get core.nodes n ≡ Some x → slice_get ann.notes n ≡ Some t → Meets core ann x t
+meets_at : (core : CoreData) (ann : Ann) (n : ℕ) (x : Node) (t : Note) → Checks core ann → slice_get core.nodes n ≡ Some x → slice_get ann.notes n ≡ Some t → IsSaid core ann x t
 meets_at core ann n x t v g h =
     let r = v.rules n (get_below core.nodes n x g) in
-    subst (λ (y : Node). Meets core ann y t) (same_Some r.0 x (sym r.2 ∙ g)) (subst (λ (s : Note). Meets core ann r.0 s) (same_Some r.1 t (sym r.3 ∙ h)) r.4)
+    subst (λ (y : Node). IsSaid core ann y t) (same_Some r.0 x (sym r.2 ∙ g)) (subst (λ (s : Note). IsSaid core ann r.0 s) (same_Some r.1 t (sym r.3 ∙ h)) r.4)
 
 branches : (k : NodeKind) → (is_branch k ≡ false) ⊎ (k ≡ node.If)
 branches node.If = inr refl
@@ -60,7 +62,7 @@ note_of_child ann (d ∷ cs) m (suc i) c h e =
     let k = kept (starts a.0 m) (through ann cs (after a.0)) h.0 a.2 in
     note_of_child ann cs (after a.0) i c (h.0, k.1) e
 
-module _ (core : CoreData) (a b : Ann) (formed : Formed core) (va : Valid core a) (vb : Valid core b) where
+module _ (core : CoreData) (a b : Ann) (formed : Formed core) (va : Checks core a) (vb : Checks core b) where
   -- A node that starts from the same masks in both: what stands in it agrees, and so does it.
   mutual
     same_tree : (low n : ℕ) (s t : Note) → Tree core low n → Agree core a b low → slice_get a.notes n ≡ Some s → slice_get b.notes n ≡ Some t → before s ≡ before t → Agree core a b (n + 1)
@@ -171,4 +173,4 @@ module _ (core : CoreData) (a b : Ann) (formed : Formed core) (va : Valid core a
       ap (λ z. record { slots = z; notes = a.notes }) slots ∙ ap (λ z. record { slots = b.slots; notes = z }) notes
 
 pub one_valid : OneValid
-one_valid core a b f va vb = annotations_equal core a b f va vb
+one_valid core a b f va vb = annotations_equal core a b f (to_valid core f a va) (to_valid core f b vb)

@@ -2,7 +2,8 @@
 use Rattle.std.specs.Prelude.{ℕ, ◌-◌, Bool, true, false, ◌&&◌, ◌||◌, not, List, [], ◌∷◌, length, take, Option, Some, None, nat_eq, slice_get, codes, if◌then◌else◌}
 use Rattle.pc_caps.specs.Tables.{fits, sendable, sendable_form}
 use Rattle.pc_core.specs.Lookup.{method_named}
-use Rattle.pc_rules.specs.Parts.{Ty, Masks, says_of, goes_to, reads_as, through_notes, one_type, last_note}
+use Rattle.pc_rules.specs.Parts.{says_of, goes_to, reads_as, through_notes, one_type, last_note}
+use Rattle.pc_valid.specs.Words.{Ty, Masks}
 use Rattle.pc_caps.specs.declared.capability.Cap.{Cap}
 use Rattle.pc_caps.specs.declared.capability.Cap.TheVariants as cap
 use Rattle.pc_caps.specs.declared.capability.Form.{Form}

@@ -1,7 +1,8 @@
 -- Rules for sequences, branches, loops, recover and bodies.
 use Rattle.std.specs.Prelude.{ℕ, ◌+◌, Bool, true, false, ◌&&◌, List, [], ◌∷◌, length, Option, Some, None, slice_get, if◌then◌else◌}
 use Rattle.pc_caps.specs.Tables.{fits, unalias, lift}
-use Rattle.pc_rules.specs.Parts.{Ty, Masks, says_of, reads_as, lower, constructs, all_fields, starts, after, through_notes, one_note, one_type, two_notes, three_notes, last_note}
+use Rattle.pc_rules.specs.Parts.{says_of, reads_as, lower, constructs, all_fields, starts, through_notes, one_note, one_type, two_notes, three_notes, last_note}
+use Rattle.pc_valid.specs.Words.{Ty, Masks, after}
 use Rattle.pc_rules.specs.Operators.{meet_masks}
 use Rattle.pc_caps.specs.declared.capability.Cap.{Cap}
 use Rattle.pc_caps.specs.declared.capability.Form.{Form}

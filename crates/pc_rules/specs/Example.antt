@@ -24,7 +24,7 @@ use Rattle.pc_ann.specs.declared.annotation.Note.{Note}
 use Rattle.pc_ann.specs.declared.annotation.Ann.{Ann}
 use Rattle.pc_ann.specs.declared.annotation.Rule.{Rule}
 use Rattle.pc_ann.specs.declared.annotation.Rule.TheVariants as rule
-use Rattle.pc_rules.specs.Rules.{Meets, MeetsRule}
+use Rattle.pc_rules.specs.Rules.{IsSaid, NoteIsSaid}
 
 abbrev pub at : (from to : ℕ) → Span
 at from to = record { start = from; end = to }
@@ -112,15 +112,15 @@ derivation = record {
 -- Each node meets its rule.
 abbrev pub EachMeets : Type 0
 EachMeets =
-    MeetsRule four_slots derivation 0 × MeetsRule four_slots derivation 1 × MeetsRule four_slots derivation 2
-    × MeetsRule four_slots derivation 3 × MeetsRule four_slots derivation 4 × MeetsRule four_slots derivation 5
-    × MeetsRule four_slots derivation 6
+    NoteIsSaid four_slots derivation 0 × NoteIsSaid four_slots derivation 1 × NoteIsSaid four_slots derivation 2
+    × NoteIsSaid four_slots derivation 3 × NoteIsSaid four_slots derivation 4 × NoteIsSaid four_slots derivation 5
+    × NoteIsSaid four_slots derivation 6
 
 -- ---- wrong notes
 
 -- With this note a node meets no rule, whichever is named.
 abbrev pub MeetsNone : ℕ → Note → Type 0
-MeetsNone n t = (x : Node) → slice_get four_slots.nodes n ≡ Some x → (r : Rule) → Meets four_slots derivation x (record t { rule = r }) → ⊥
+MeetsNone n t = (x : Node) → slice_get four_slots.nodes n ≡ Some x → (r : Rule) → IsSaid four_slots derivation x (record t { rule = r }) → ⊥
 
 -- The new object as `ref`, a definition that leaves its slot without a value, and a sequence that keeps what it defines.
 abbrev pub WrongNotes : Type 0

@@ -2,7 +2,8 @@
 use Rattle.std.specs.Prelude.{ℕ, Bool, true, false, ◌&&◌, ◌||◌, not, List, Option, Some, None, nat_eq, slice_get, if◌then◌else◌}
 use Rattle.pc_caps.specs.Tables.{view, taken, may_write}
 use Rattle.pc_core.specs.Lookup.{field_named}
-use Rattle.pc_rules.specs.Parts.{Ty, Masks, says_of, goes_to, constructs, full, through_notes, one_type, two_notes, two_types, last_note, last_child}
+use Rattle.pc_rules.specs.Parts.{says_of, goes_to, constructs, full, through_notes, one_type, two_notes, two_types, last_note, last_child}
+use Rattle.pc_valid.specs.Words.{Ty, Masks, place}
 use Rattle.pc_caps.specs.declared.capability.Cap.{Cap}
 use Rattle.pc_caps.specs.declared.capability.Form.{Form}
 use Rattle.pc_caps.specs.declared.capability.Form.TheVariants as form
@@ -31,10 +32,6 @@ abbrev pub own_field : CoreData → Node → ℕ → Option (ℕ × FieldInfo)
 own_field core x name = do
   f ← slice_get core.methods x.method
   field_of core f.entity name
-
--- A field's place: its entity and capability.
-abbrev pub place : FieldInfo → ℕ × Cap
-place f = (f.entity, f.cap)
 
 -- ---- incomplete nodes
 

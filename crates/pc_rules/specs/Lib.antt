@@ -6,8 +6,7 @@ pub mod Operators
 pub mod Control
 pub mod Children
 pub mod Rules
-pub mod Meaning
-pub mod Valid
+pub mod Checks
 pub mod Statements
 pub mod Example
 pub mod Trees

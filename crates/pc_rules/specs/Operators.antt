@@ -2,7 +2,8 @@
 use Rattle.std.specs.Prelude.{ℕ, Bool, true, false, ◌&&◌, ◌||◌, List, Option, Some, None, if◌then◌else◌}
 use Rattle.pc_tree.specs.declared.kinds.Op.{Op}
 use Rattle.pc_tree.specs.declared.kinds.Op.TheVariants as op
-use Rattle.pc_rules.specs.Parts.{Ty, Masks, says_of, reads_as, starts, after, through_notes, one_type, two_notes, two_types}
+use Rattle.pc_rules.specs.Parts.{says_of, reads_as, starts, through_notes, one_type, two_notes, two_types}
+use Rattle.pc_valid.specs.Words.{Ty, Masks, after}
 use Rattle.pc_caps.specs.declared.capability.Form.TheVariants as form
 use Rattle.pc_tree.specs.BuiltIn.{u64_entity, bool_entity, string_entity}
 use Rattle.pc_lists.specs.Options.{◌>>=◌}

@@ -17,15 +17,8 @@ use Rattle.pc_masks.specs.declared.mask.Mask.{Mask}
 use Rattle.pc_ann.specs.declared.annotation.Note.{Note}
 use Rattle.pc_ann.specs.declared.annotation.Ann.{Ann}
 use Rattle.pc_masks.specs.Masks.{first, within, same}
+use Rattle.pc_valid.specs.Words.{Ty, Masks, Slots, after}
 use Rattle.pc_rules.specs.declared.said.Said.{Said}
-
--- The type of a value: its entity and its form.
-abbrev pub Ty : Type 0
-Ty = ℕ × Form
-
--- The masks of live slots and of set fields.
-abbrev pub Masks : Type 0
-Masks = Mask × Mask
 
 -- What a rule says: this type, or none, and these masks after the node.
 abbrev pub says_of : Option Ty → Masks → Said
@@ -50,10 +43,6 @@ abbrev pub reads_as : ℕ → Ty → Bool
 reads_as e v = nat_eq v.0 e && readable v.1
 
 -- ---- slots
-
--- The types of the slots.
-abbrev pub Slots : Type 0
-Slots = List (ℕ × Cap)
 
 -- A slot of a method by its index, with its type.
 abbrev pub slot_of : CoreData → Slots → (method slot : ℕ) → Option (Slot × (ℕ × Cap))
@@ -92,14 +81,6 @@ abbrev pub full : CoreData → ℕ → Mask → Bool
 full core e s = within (all_fields core e) s
 
 -- ---- the notes of children
-
--- The masks of a note before its node.
-abbrev pub before : Note → Masks
-before t = (t.live_before, t.set_before)
-
--- The masks of a note behind its node.
-abbrev pub after : Note → Masks
-after t = (t.live_after, t.set_after)
 
 -- A node of this note starts from these masks.
 abbrev pub starts : Note → Masks → Bool

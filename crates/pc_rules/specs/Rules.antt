@@ -1,10 +1,11 @@
--- The rules: what each says of a node by the types of the slots and the notes of its children, in order, and when a node
--- meets the rule of its note.
+-- The rules as they are computed: what each says of a node by the types of the slots and the notes of its children, in
+-- order, and when the note of a node is what its rule says.
 use Rattle.std.specs.Prelude.{◌≡◌, ℕ, List, Option, Some, None, slice_get}
 use Rattle.pc_tree.specs.BuiltIn.{u64_entity, bool_entity, string_entity}
 use Rattle.pc_ann.specs.declared.annotation.Rule.{Rule}
 use Rattle.pc_ann.specs.declared.annotation.Rule.TheVariants as rule
-use Rattle.pc_rules.specs.Parts.{Masks, Slots, before, notes_of}
+use Rattle.pc_rules.specs.Parts.{notes_of}
+use Rattle.pc_valid.specs.Words.{Masks, Slots, before}
 use Rattle.pc_rules.specs.Values.{literal_says, this_says, local_says, consume_says, define_says, assign_says}
 use Rattle.pc_rules.specs.Fields.{get_says, getown_says, put_says, putown_says}
 use Rattle.pc_rules.specs.Calls.{new_says, spawn_says, call_says, callrecover_says, send_says, builtin_says}
@@ -61,10 +62,6 @@ rule_says core slots ns x m r k = None
 abbrev pub said_by : Note → Said
 said_by t = record { ty = t.ty; live = t.live_after; set = t.set_after }
 
--- Node n meets the rule of this note, by the types of the slots and the notes of its children, in order.
-abbrev pub Holds : CoreData → Slots → Note → List Note → ℕ → Type 0
-Holds core slots own ns n = (x : Node) × (slice_get core.nodes n ≡ Some x) × (rule_says core slots ns x (before own) own.rule x.kind ≡ Some (said_by own))
-
 -- ---- in an annotation
 
 -- What a rule says of node x by the types and the notes of an annotation. It says nothing where a child has no note.
@@ -74,9 +71,9 @@ says core ann x m r k = do
   rule_says core ann.slots ns x m r k
 
 -- The note of node x is what its rule says.
-abbrev pub Meets : CoreData → Ann → Node → Note → Type 0
-Meets core ann x t = says core ann x (before t) t.rule x.kind ≡ Some (said_by t)
+abbrev pub IsSaid : CoreData → Ann → Node → Note → Type 0
+IsSaid core ann x t = says core ann x (before t) t.rule x.kind ≡ Some (said_by t)
 
--- Node n meets the rule of its note.
-abbrev pub MeetsRule : CoreData → Ann → ℕ → Type 0
-MeetsRule core ann n = (x : Node) × (t : Note) × (slice_get core.nodes n ≡ Some x) × (slice_get ann.notes n ≡ Some t) × Meets core ann x t
+-- Node n has a note that is what its rule says.
+abbrev pub NoteIsSaid : CoreData → Ann → ℕ → Type 0
+NoteIsSaid core ann n = (x : Node) × (t : Note) × (slice_get core.nodes n ≡ Some x) × (slice_get ann.notes n ≡ Some t) × IsSaid core ann x t

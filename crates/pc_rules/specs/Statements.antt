@@ -12,15 +12,17 @@ use Rattle.pc_ann.specs.declared.annotation.Rule.{Rule}
 use Rattle.pc_ann.specs.declared.annotation.Rule.TheVariants as rule
 use Rattle.pc_masks.specs.Masks.{IsIn}
 use Rattle.pc_rules.specs.declared.said.Said.{Said}
-use Rattle.pc_rules.specs.Parts.{Masks, Slots, before, through}
-use Rattle.pc_rules.specs.Rules.{says, said_by, Meets, rule_says}
-use Rattle.pc_rules.specs.Meaning.{Means}
-use Rattle.pc_rules.specs.Valid.{Valid}
+use Rattle.pc_rules.specs.Parts.{through}
+use Rattle.pc_valid.specs.Words.{Masks, Slots, before, Defines}
+use Rattle.pc_valid.specs.Rules.{Means}
+use Rattle.pc_valid.specs.Valid.{MeetsRule, Valid, NoRule, Unset}
+use Rattle.pc_rules.specs.Rules.{says, said_by, IsSaid, NoteIsSaid, rule_says}
+use Rattle.pc_rules.specs.Checks.{Checks, SaysNothing, StaysUnset}
 use Rattle.pc_core.specs.Formed.{Formed}
 
 -- Two notes of one node that meet the same rule from the same masks say the same type and the same masks behind it.
 abbrev pub RulesDetermine : Type 0
-RulesDetermine = (core : CoreData) (ann : Ann) (x : Node) (a b : Note) → a.rule ≡ b.rule → before a ≡ before b → Meets core ann x a → Meets core ann x b → said_by a ≡ said_by b
+RulesDetermine = (core : CoreData) (ann : Ann) (x : Node) (a b : Note) → a.rule ≡ b.rule → before a ≡ before b → IsSaid core ann x a → IsSaid core ann x b → said_by a ≡ said_by b
 
 -- Behind a consume exactly its slot is live no more, and the set fields are as before.
 abbrev pub ConsumeTakesOut : Type 0
@@ -34,10 +36,6 @@ DefinePutsIn =
     (core : CoreData) (ann : Ann) (x : Node) (s : ℕ) (m n : Masks) (r : Said) → says core ann x m rule.Define (node.Define s) ≡ Some r → through ann x.children m ≡ Some n
     → ((i : ℕ) → (IsIn r.live i) ↔ (((i ≡ s) × (s < slot_limit)) ⊎ IsIn n.0 i)) × (r.set ≡ n.1)
 
--- One of these nodes defines the slot of this index.
-abbrev pub Defines : CoreData → List ℕ → ℕ → Type 0
-Defines core cs i = (c : ℕ) × (y : Node) × Has cs c × (slice_get core.nodes c ≡ Some y) × (y.kind ≡ node.Define i)
-
 -- Behind a sequence exactly the slots that its items define are live no more, and the set fields are as behind its last item.
 abbrev pub SeqTakesOut : Type 0
 SeqTakesOut =
@@ -48,9 +46,22 @@ SeqTakesOut =
 abbrev pub OneValid : Type 0
 OneValid = (core : CoreData) (a b : Ann) → Formed core → Valid core a → Valid core b → a ≡ b
 
--- A rule says of a node what the node's note says exactly where the record of this rule holds of the note: the rules are the
--- records.
-abbrev pub RulesAreRecords : Type 0
-RulesAreRecords =
-    (core : CoreData) (slots : Slots) (own : Note) (ns : List Note) (x : Node) (r : Rule) (k : NodeKind)
+-- ---- what is computed is what the records say, in a core whose parts fit together
+
+-- A rule says of a node what the node's note says exactly if the record of this rule holds of the note.
+abbrev pub SaysWhatIsMeant : Type 0
+SaysWhatIsMeant =
+    (core : CoreData) → Formed core → (slots : Slots) (own : Note) (ns : List Note) (x : Node) (r : Rule) (k : NodeKind)
     → (rule_says core slots ns x (before own) r k ≡ Some (said_by own)) ↔ Means core slots own ns x r k
+
+abbrev pub MeetsTheSameRules : Type 0
+MeetsTheSameRules = (core : CoreData) → Formed core → (ann : Ann) (n : ℕ) → NoteIsSaid core ann n ↔ MeetsRule core ann n
+
+abbrev pub SameAreValid : Type 0
+SameAreValid = (core : CoreData) → Formed core → (ann : Ann) → Checks core ann ↔ Valid core ann
+
+abbrev pub SameHaveNoRule : Type 0
+SameHaveNoRule = (core : CoreData) → Formed core → (ann : Ann) (n : ℕ) → SaysNothing core ann n ↔ NoRule core ann n
+
+abbrev pub SameAreUnset : Type 0
+SameAreUnset = (core : CoreData) → Formed core → (ann : Ann) (m : ℕ) → StaysUnset core ann m ↔ Unset core ann m

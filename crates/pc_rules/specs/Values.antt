@@ -1,7 +1,8 @@
 -- Rules for literals, `this`, locals and their definitions.
 use Rattle.std.specs.Prelude.{ℕ, Bool, true, false, ◌&&◌, List, Option, Some, None, nat_eq, slice_get, if◌then◌else◌}
 use Rattle.pc_caps.specs.Tables.{plain, unalias, stored}
-use Rattle.pc_rules.specs.Parts.{Ty, Masks, Slots, says_of, goes_to, slot_of, reachable, full, through_notes, one_type}
+use Rattle.pc_rules.specs.Parts.{says_of, goes_to, slot_of, reachable, full, through_notes, one_type}
+use Rattle.pc_valid.specs.Words.{Ty, Masks, Slots}
 use Rattle.pc_caps.specs.declared.capability.Cap.{Cap}
 use Rattle.pc_caps.specs.declared.capability.Cap.TheVariants as cap
 use Rattle.pc_caps.specs.declared.capability.Form.{Form}

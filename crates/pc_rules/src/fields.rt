@@ -1,5 +1,6 @@
 //! Rules for fields that are read and written.
 ghost use Rattle.std.specs.Prelude.{◌≡◌};
+ghost use Rattle.pc_valid.specs.Words.{place as place_of};
 ghost use Rattle.pc_rules.specs.Fields as spec;
 
 use crate::children::Children;
@@ -32,7 +33,7 @@ fn own_field(core: &Core, node: &Node, name: u32) -> Option<(u32, FieldInfo)>
 
 // A field's entity and capability.
 fn place(field: FieldInfo) -> (u32, Cap)
-    ensures { result ≡ spec.place field }
+    ensures { result ≡ place_of field }
 {
     (field.entity, field.cap)
 }

@@ -31,9 +31,27 @@ pub fn one_annotation_is_valid()
     ensures { law.OneValid }
 {}
 
-/// The rules are the records of `specs/Meaning.antt`, which say of each rule its condition, its type and its masks: a rule
-/// says of a node what the node's note says exactly where its record holds of the note.
-#[tactic(auto, using(crate::proofs::MeantCalls::rules_are_records))]
-pub fn rules_are_records()
-    ensures { law.RulesAreRecords }
+/// A computed rule says of a node what its note says exactly if the record of the rule holds of the note.
+pub fn rules_say_what_is_meant()
+    ensures { law.SaysWhatIsMeant }
+{}
+
+/// A node has a note that is what its rule says exactly if it meets its rule by the records.
+pub fn meets_the_same_rules()
+    ensures { law.MeetsTheSameRules }
+{}
+
+/// An annotation checks, as it is computed, exactly if it is valid by the records.
+pub fn same_are_valid()
+    ensures { law.SameAreValid }
+{}
+
+/// No computed rule says anything of a node exactly if no record holds there.
+pub fn same_have_no_rule()
+    ensures { law.SameHaveNoRule }
+{}
+
+/// A constructor leaves a field unset as it is computed exactly if it does by the relations.
+pub fn same_are_unset()
+    ensures { law.SameAreUnset }
 {}

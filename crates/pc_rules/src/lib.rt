@@ -23,7 +23,8 @@ mod values;
 pub use control::{start_live, start_set};
 pub use examples::{each_node_meets_its_rule, wrong_notes_meet_no_rule};
 pub use laws::{
-    consume_takes_out, define_puts_in, one_annotation_is_valid, rules_are_records, rules_determine,
+    consume_takes_out, define_puts_in, meets_the_same_rules, one_annotation_is_valid,
+    rules_determine, rules_say_what_is_meant, same_are_unset, same_are_valid, same_have_no_rule,
     seq_takes_out,
 };
 pub use parts::{constructs, full};

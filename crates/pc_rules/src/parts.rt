@@ -1,6 +1,7 @@
 //! What the rules look at: slots, masks, the notes of children and their types.
 ghost use Rattle.std.specs.Prelude.{◌≡◌, length, slice_get};
 ghost use Rattle.pc_masks.specs.Masks.{first};
+ghost use Rattle.pc_valid.specs.Words.{after as after_of};
 ghost use Rattle.pc_rules.specs.Parts as spec;
 
 use crate::children::Children;
@@ -139,7 +140,7 @@ pub(crate) fn through_notes(children: &Children, masks: (Mask, Mask)) -> Option<
 
 // The masks behind a node of this note.
 pub(crate) fn after(note: Note) -> (Mask, Mask)
-    ensures { result ≡ spec.after note }
+    ensures { result ≡ after_of note }
 {
     (note.live_after, note.set_after)
 }

@@ -1,7 +1,8 @@
 //! The rules.
 ghost use Rattle.std.specs.Prelude.{◌≡◌, ◌↔◌, ◌<◌, IsTrue, Some, false, length};
-ghost use Rattle.pc_rules.specs.Parts.{before};
+ghost use Rattle.pc_valid.specs.Words.{before};
 ghost use Rattle.pc_rules.specs.Children.{HaveNotes, either};
+ghost use Rattle.pc_valid.specs.Valid.{MeetsRule, Holds};
 ghost use Rattle.pc_rules.specs.Rules as spec;
 
 use crate::calls::{builtin_says, call_says, callrecover_says, new_says, send_says, spawn_says};
@@ -111,7 +112,7 @@ fn agrees(said: Option<Said>, note: Note) -> bool
 
 // Whether the note of this node is what its rule says.
 fn meets(core: &Core, ann: &Ann, node: &Node, note: Note) -> bool
-    ensures { IsTrue result ↔ spec.Meets core.now ann.now node.now note }
+    ensures { IsTrue result ↔ spec.IsSaid core.now ann.now node.now note }
 {
     agrees(
         says(
@@ -131,8 +132,9 @@ pub fn rule_holds(core: &Core, ann: &Ann, number: u32) -> bool
     requires slots { length ann.now.slots ≡ length core.now.slots }
     requires notes { length ann.now.notes ≡ length core.now.nodes }
     requires node { number < length core.now.nodes }
-    ensures { IsTrue result ↔ spec.MeetsRule core.now ann.now number }
+    ensures { IsTrue result ↔ MeetsRule core.now ann.now number }
 {
+    core.formed();
     match (core.node_at(number), note_at(ann, number)) {
         (Some(node), Some(note)) => meets(core, ann, node, note),
         (_, _) => false,
@@ -161,8 +163,9 @@ fn meets_by(core: &Core, slots: &[(u32, Cap)], own: Note, children: &Children, n
 pub fn holds(core: &Core, slots: &[(u32, Cap)], own: &Note, children: &[Note], number: u32) -> bool
     requires slots { length slots.now ≡ length core.now.slots }
     requires node { number < length core.now.nodes }
-    ensures { IsTrue result ↔ spec.Holds core.now slots.now own.now children.now number }
+    ensures { IsTrue result ↔ Holds core.now slots.now own.now children.now number }
 {
+    core.formed();
     match core.node_at(number) {
         None => false,
         Some(node) => meets_by(core, slots, *own, &Children::held(children), node),

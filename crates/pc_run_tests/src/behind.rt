@@ -1,6 +1,6 @@
 //! Machines of accepted programs, behind the steps of lists of actors.
 ghost use Rattle.std.specs.Prelude.{◌≤◌, length};
-ghost use Rattle.pc_rules.specs.Valid.{Valid};
+ghost use Rattle.pc_valid.specs.Valid.{Valid};
 ghost use Rattle.pc_machine.specs.Limits.{list_limit};
 
 use pc_ann::Ann;

@@ -1,6 +1,6 @@
 //! The run of a list of actors, of a core that has a valid annotation.
 ghost use Rattle.std.specs.Prelude.{◌≤◌, length, List as Sequence, ℕ};
-ghost use Rattle.pc_rules.specs.Valid.{Valid};
+ghost use Rattle.pc_valid.specs.Valid.{Valid};
 ghost use Rattle.pc_semantics.specs.Runs.{after};
 ghost use Rattle.pc_semantics.specs.Safety.{LacksNothing};
 ghost use Rattle.pc_machine.specs.Limits.{list_limit};

@@ -1,6 +1,6 @@
 //! Safety of accepted cores, over every list of actors.
 ghost use Rattle.std.specs.Prelude.{◌≤◌, length};
-ghost use Rattle.pc_rules.specs.Valid.{Valid, Derivable};
+ghost use Rattle.pc_valid.specs.Valid.{Valid, Derivable};
 ghost use Rattle.pc_semantics.specs.Safety.{Safe};
 ghost use Rattle.pc_safe.specs.Apart.{EndsApart};
 ghost use Rattle.pc_machine.specs.Limits.{list_limit};

@@ -1,5 +1,5 @@
 //! From the text of a program to the lines of its table.
-ghost use Rattle.pc_rules.specs.Valid.{Valid};
+ghost use Rattle.pc_valid.specs.Valid.{Valid};
 
 use pc_ann::Ann;
 use pc_check::check;

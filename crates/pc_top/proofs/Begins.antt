@@ -4,7 +4,7 @@ use Rattle.std.specs.Prelude.{IfSome}
 use Rattle.pc_lists.specs.Texts.{Text}
 use Rattle.pc_core.specs.CoreData.{CoreData}
 use Rattle.pc_core.specs.Formed.{Formed}
-use Rattle.pc_rules.specs.Valid.{Derivable}
+use Rattle.pc_valid.specs.Valid.{Derivable}
 use Rattle.pc_refusals.specs.Accepting.{AcceptedStage, Typing}
 use Rattle.pc_refusals.specs.Accepting.Typing.{declared, no_rule, unset}
 use Rattle.pc_refusals.specs.After.After.{stops, goes}

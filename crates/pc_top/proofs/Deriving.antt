@@ -14,7 +14,7 @@ use Rattle.pc_grammar.specs.FileAnswers.{IsFileAnswer, spelled}
 use Rattle.pc_lex.specs.Answers.{TokenList}
 use Rattle.pc_text_order.specs.Laws.{TokensAscend}
 use Rattle.pc_regions.specs.Laws.{ValidIsSafe}
-use Rattle.pc_rules.specs.Valid.{Valid}
+use Rattle.pc_valid.specs.Valid.{Valid}
 use Rattle.pc_run.specs.Ends.{NeverLacks}
 use Rattle.pc_semantics.specs.Safety.{Safe}
 use Rattle.pc_types.specs.Laws.{AcceptedNeverLacks}

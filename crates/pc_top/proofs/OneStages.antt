@@ -9,7 +9,7 @@ use Rattle.pc_core.specs.CoreData.{CoreData}
 use Rattle.pc_core.specs.Formed.{Formed}
 use Rattle.pc_deriv.specs.declared.fault.DerivFault.{DerivFault}
 use Rattle.pc_judge.specs.declared.faults.JudgeFault.{JudgeFault}
-use Rattle.pc_rules.specs.Valid.{NoRule, Unset}
+use Rattle.pc_valid.specs.Valid.{NoRule, Unset}
 use Rattle.pc_sched.specs.Limits.{schedule_limit}
 use Rattle.pc_sched.specs.declared.fault.SchedFault.TheVariants.{BadWord, TooMany}
 use Rattle.pc_sched.specs.declared.turns.Turn.{Turn}

@@ -6,7 +6,7 @@ use Rattle.pc_lists.specs.Texts.{Text}
 use Rattle.pc_core.specs.CoreData.{CoreData}
 use Rattle.pc_deriv.specs.Faults.{IsText}
 use Rattle.pc_sched_lines.proofs.Spreads.{length-spread}
-use Rattle.pc_rules.specs.Valid.{Valid}
+use Rattle.pc_valid.specs.Valid.{Valid}
 use Rattle.pc_run.specs.Spreading.{spread}
 use Rattle.pc_sched.specs.Limits.{schedule_limit, turn_limit}
 use Rattle.pc_sched.specs.Schedules.{TurnList, total}

@@ -4,7 +4,7 @@ use Rattle.pc_core.specs.CoreData.{CoreData}
 use Rattle.pc_grammar.specs.FileAnswers.{IsFileAnswer, spelled}
 use Rattle.pc_lex.specs.Answers.{TokenList}
 use Rattle.pc_core_relation.specs.Files.{IsCoreOf}
-use Rattle.pc_rules.specs.Valid.{Derivable}
+use Rattle.pc_valid.specs.Valid.{Derivable}
 use Rattle.pc_semantics.specs.Safety.{Safe}
 use Rattle.pc_token.specs.declared.kinds.Token.{Token}
 use Rattle.pc_tree.specs.Tree as t

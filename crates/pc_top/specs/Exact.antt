@@ -3,7 +3,7 @@ use Rattle.std.specs.Prelude.{ℕ, ◌≡◌, ◌↔◌, Some, List, [], ◌∷�
 use Rattle.pc_ann.specs.declared.annotation.Ann.{Ann}
 use Rattle.pc_core.specs.CoreData.{CoreData}
 use Rattle.pc_deriv.specs.Faults.{IsText}
-use Rattle.pc_rules.specs.Valid.{Valid}
+use Rattle.pc_valid.specs.Valid.{Valid}
 use Rattle.pc_args.specs.Numbers.{IsSeed, IsSize}
 use Rattle.pc_lists.specs.Texts.{Text}
 use Rattle.pc_args.specs.Asked.{Asked, check, judge, make, upgrade, command_of}

@@ -1,7 +1,7 @@
 //! Traces of programs.
 ghost use Rattle.std.specs.Prelude.{◌≤◌, length};
 ghost use Rattle.pc_machine.specs.Limits.{list_limit};
-ghost use Rattle.pc_rules.specs.Valid.{Valid};
+ghost use Rattle.pc_valid.specs.Valid.{Valid};
 
 use pc_ann::Ann;
 use pc_caps::List;

@@ -24,7 +24,8 @@ use Rattle.pc_semantics.specs.Around.{Around, Move, Overflows, Goes, with_stack,
 use Rattle.pc_semantics.specs.Operators.{gives, of_numbers, of_truths, joined, of_texts, with_number, with_truth, with_text, binary, negated, same_truth, same_value, compared}
 use Rattle.pc_caps.specs.Limits.{text_limit}
 use Rattle.pc_semantics.specs.Choices.{apply_task}
-use Rattle.pc_rules.specs.Parts.{Ty, Masks, reads_as, before, through, type_of, one_child}
+use Rattle.pc_rules.specs.Parts.{reads_as, through, type_of, one_child}
+use Rattle.pc_valid.specs.Words.{Ty, Masks, before}
 use Rattle.pc_rules.specs.Fields.{is_this}
 use Rattle.pc_rules.specs.Operators.{is_arithmetic, is_comparison, is_equality, is_add, is_xor, both_read_as, comparable}
 use Rattle.pc_rules.specs.Rules.{said_by}

@@ -9,7 +9,7 @@ use Rattle.pc_ann.specs.declared.annotation.Ann.{Ann}
 use Rattle.pc_semantics.specs.declared.frames.Task.{Task}
 use Rattle.pc_semantics.specs.declared.frames.Task.TheVariants as task
 use Rattle.pc_core.specs.declared.nodes.NodeKind.{NodeKind}
-use Rattle.pc_rules.specs.Parts.{Ty}
+use Rattle.pc_valid.specs.Words.{Ty}
 use Rattle.pc_types.proofs.Types.{OfType, OfSome, LowerType, Lower, Want}
 use Rattle.pc_types.proofs.Tasks.{Within, EvalOk, BodyOk, FinishOk, TestOk, BranchOk, LoopOk, ReturnOk, TasksOk}
 use Rattle.pc_types.proofs.Needs.{Needs}

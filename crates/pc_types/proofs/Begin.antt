@@ -19,7 +19,8 @@ use Rattle.pc_masks.specs.Masks.{first, same}
 use Rattle.pc_masks.specs.MaskLaws.{first_bits}
 use Rattle.pc_semantics.specs.Around.{first_slots, first_frame}
 use Rattle.pc_rules.specs.declared.said.Said.{Said}
-use Rattle.pc_rules.specs.Parts.{Masks, before, through, one_child}
+use Rattle.pc_rules.specs.Parts.{through, one_child}
+use Rattle.pc_valid.specs.Words.{Masks, before}
 use Rattle.pc_rules.specs.Control.{start_set, starts_method, result_ok}
 use Rattle.pc_rules.specs.Rules.{said_by}
 use Rattle.pc_rules.proofs.ByNumber.{body_says, says}

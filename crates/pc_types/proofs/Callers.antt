@@ -32,7 +32,8 @@ use Rattle.pc_masks.specs.MaskLaws.{first_bits}
 use Rattle.pc_semantics.specs.declared.frames.Frame.{Frame}
 use Rattle.pc_semantics.specs.Configurations.{blank_object}
 use Rattle.pc_semantics.specs.Around.{Around, with_stack}
-use Rattle.pc_rules.specs.Parts.{Masks, constructs}
+use Rattle.pc_rules.specs.Parts.{constructs}
+use Rattle.pc_valid.specs.Words.{Masks}
 use Rattle.pc_rules.specs.Control.{start_set}
 use Rattle.pc_rules.specs.Fields.{is_this}
 use Rattle.pc_lists.proofs.Bools.{false_true}

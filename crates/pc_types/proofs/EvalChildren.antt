@@ -17,7 +17,8 @@ use Rattle.pc_semantics.specs.declared.frames.Task.{Task}
 use Rattle.pc_semantics.specs.declared.frames.Task.TheVariants as task
 use Rattle.pc_semantics.specs.Children.{evaluations}
 use Rattle.pc_semantics.specs.Evaluation.{items}
-use Rattle.pc_rules.specs.Parts.{Ty, Masks, starts, before, after, through, type_of, last_child}
+use Rattle.pc_rules.specs.Parts.{starts, through, type_of, last_child}
+use Rattle.pc_valid.specs.Words.{Ty, Masks, before, after}
 use Rattle.pc_rules.specs.Control.{without_definition, without_item, without_items}
 use Rattle.pc_rules.proofs.Threads.{starts_so}
 use Rattle.pc_types.proofs.Types.{Lower, Want}

@@ -27,7 +27,8 @@ use Rattle.pc_semantics.specs.declared.frames.Task.TheVariants as task
 use Rattle.pc_semantics.specs.Around.{Around, Goes, doing}
 use Rattle.pc_semantics.specs.Children.{evaluations}
 use Rattle.pc_semantics.specs.Evaluation.{children_first, first_then, items}
-use Rattle.pc_rules.specs.Parts.{Ty, Masks, readable, lower, all_fields, before, after, through, type_of}
+use Rattle.pc_rules.specs.Parts.{readable, lower, all_fields, through, type_of}
+use Rattle.pc_valid.specs.Words.{Ty, Masks, before, after}
 use Rattle.pc_rules.specs.Fields.{is_this}
 use Rattle.pc_rules.specs.Control.{joined, gives, result_ok}
 use Rattle.pc_rules.proofs.ByNumber.{body_says}

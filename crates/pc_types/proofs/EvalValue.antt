@@ -22,7 +22,8 @@ use Rattle.pc_masks.specs.MaskLaws.{within_bits, without_number_bits}
 use Rattle.pc_semantics.specs.declared.frames.Frame.{Frame}
 use Rattle.pc_semantics.specs.Around.{Around, Goes, pushed}
 use Rattle.pc_semantics.specs.Evaluation.{push_slot, take_slot}
-use Rattle.pc_rules.specs.Parts.{Ty, all_fields, full, constructs, reachable, before}
+use Rattle.pc_rules.specs.Parts.{all_fields, full, constructs, reachable}
+use Rattle.pc_valid.specs.Words.{Ty, before}
 use Rattle.pc_rules.specs.Fields.{is_this}
 use Rattle.pc_rules.specs.Values.{this_form}
 use Rattle.pc_lists.proofs.Bools.{false_true}

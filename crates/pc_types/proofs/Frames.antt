@@ -18,7 +18,8 @@ use Rattle.pc_masks.specs.Masks.{IsIn}
 use Rattle.pc_semantics.specs.declared.frames.Frame.{Frame}
 use Rattle.pc_semantics.specs.Configurations.{own_address}
 use Rattle.pc_semantics.specs.Around.{entity_of}
-use Rattle.pc_rules.specs.Parts.{Ty, constructs}
+use Rattle.pc_rules.specs.Parts.{constructs}
+use Rattle.pc_valid.specs.Words.{Ty}
 use Rattle.pc_types.proofs.Types.{sees, Finished, OfKind, OfType, held_in, Lower, Want, wanted, StackOk}
 use Rattle.pc_types.proofs.Tasks.{TasksOk}
 

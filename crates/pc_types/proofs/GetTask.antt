@@ -25,7 +25,8 @@ use Rattle.pc_semantics.specs.declared.frames.Frame.{Frame}
 use Rattle.pc_semantics.specs.declared.frames.Task.TheVariants as task
 use Rattle.pc_semantics.specs.Around.{Around, Move, Goes, with_stack, pushed}
 use Rattle.pc_semantics.specs.Fields.{get_value, get_field, get_of, get_from, get_task}
-use Rattle.pc_rules.specs.Parts.{Ty, Masks, says_of, before, through, type_of, one_child, last_child, constructs}
+use Rattle.pc_rules.specs.Parts.{says_of, through, type_of, one_child, last_child, constructs}
+use Rattle.pc_valid.specs.Words.{Ty, Masks, before}
 use Rattle.pc_rules.specs.Fields.{is_this, field_of, own_field, field_type}
 use Rattle.pc_rules.specs.Rules.{said_by}
 use Rattle.pc_rules.proofs.ByNumber.{incomplete, read_says, own_read_says, own_seen, says}

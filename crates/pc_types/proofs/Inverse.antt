@@ -20,7 +20,8 @@ use Rattle.pc_ann.specs.declared.annotation.Rule.{Rule}
 use Rattle.pc_ann.specs.declared.annotation.Rule.TheVariants as rule
 use Rattle.pc_masks.specs.Masks.{has, without_number, within, same}
 use Rattle.pc_rules.specs.declared.said.Said.{Said}
-use Rattle.pc_rules.specs.Parts.{Ty, Masks, says_of, reads_as, readable, reachable, before, through, type_of, one_child, last_child}
+use Rattle.pc_rules.specs.Parts.{says_of, reads_as, readable, reachable, through, type_of, one_child, last_child}
+use Rattle.pc_valid.specs.Words.{Ty, Masks, before}
 use Rattle.pc_rules.specs.Values.{this_form}
 use Rattle.pc_rules.specs.Operators.{both_read_as, meet_masks}
 use Rattle.pc_rules.specs.Control.{without_items, joined, is_condition, recovered}

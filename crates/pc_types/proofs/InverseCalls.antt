@@ -20,10 +20,11 @@ use Rattle.pc_ann.specs.declared.annotation.Ann.{Ann}
 use Rattle.pc_ann.specs.declared.annotation.Rule.{Rule}
 use Rattle.pc_ann.specs.declared.annotation.Rule.TheVariants as rule
 use Rattle.pc_rules.specs.declared.said.Said.{Said}
-use Rattle.pc_rules.specs.Parts.{Ty, Masks, says_of, before, through, type_of, one_child, last_child, readable, reads_as}
+use Rattle.pc_rules.specs.Parts.{says_of, through, type_of, one_child, last_child, readable, reads_as}
+use Rattle.pc_valid.specs.Words.{Ty, Masks, before}
 use Rattle.pc_rules.specs.Calls.{is_function, is_behaviour, is_isolated, is_lent, lends, recovered_result, same_text, has_text, has_string}
 use Rattle.pc_rules.specs.Rules.{said_by}
-use Rattle.pc_rules.proofs.ByNumber.{arguments, arguments_go, arguments_sendable, called, calls, recovers, sends, new_says, spawn_says, call_says, callrecover_says, send_says, builtin_says, says, Meets}
+use Rattle.pc_rules.proofs.ByNumber.{arguments, arguments_go, arguments_sendable, called, calls, recovers, sends, new_says, spawn_says, call_says, callrecover_says, send_says, builtin_says, says, IsSaid}
 use Rattle.pc_lists.proofs.Bools.{false_true}
 use Rattle.pc_types.proofs.Types.{sees, Lower}
 use Rattle.pc_types.proofs.Basic.{lower_same}
@@ -268,7 +269,7 @@ module _ (core : CoreData) (ann : Ann) (x : Node) (name : ℕ) (t : Note) where
 
 -- ---- from the note
 
-module _ (core : CoreData) (ann : Ann) (x : Node) (t : Note) (meets : Meets core ann x t) where
+module _ (core : CoreData) (ann : Ann) (x : Node) (t : Note) (meets : IsSaid core ann x t) where
   pub at_kind : (k : NodeKind) → x.kind ≡ k → says core ann x (before t) t.rule k ≡ Some (said_by t)
   at_kind k is = subst (λ (j : NodeKind). says core ann x (before t) t.rule j ≡ Some (said_by t)) is meets
 

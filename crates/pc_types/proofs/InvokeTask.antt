@@ -27,7 +27,8 @@ use Rattle.pc_semantics.specs.declared.frames.Task.TheVariants as task
 use Rattle.pc_semantics.specs.Configurations.{own_address}
 use Rattle.pc_semantics.specs.Around.{Around, none, entity_of}
 use Rattle.pc_semantics.specs.Calls.{invoke_task, truth_text}
-use Rattle.pc_rules.specs.Parts.{Ty, before, through, constructs}
+use Rattle.pc_rules.specs.Parts.{through, constructs}
+use Rattle.pc_valid.specs.Words.{Ty, before}
 use Rattle.pc_rules.proofs.ByNumber.{arguments}
 use Rattle.pc_rules.specs.Control.{start_set}
 use Rattle.pc_rules.specs.Fields.{is_this}

@@ -29,7 +29,8 @@ use Rattle.pc_semantics.specs.declared.frames.Task.TheVariants as task
 use Rattle.pc_semantics.specs.Configurations.{blank_object}
 use Rattle.pc_semantics.specs.Around.{Around, Move, Makes, first_frame, with_stack}
 use Rattle.pc_semantics.specs.Calls.{make_task}
-use Rattle.pc_rules.specs.Parts.{constructs, before, through}
+use Rattle.pc_rules.specs.Parts.{constructs, through}
+use Rattle.pc_valid.specs.Words.{before}
 use Rattle.pc_rules.specs.Fields.{is_this}
 use Rattle.pc_lists.proofs.Bools.{false_true}
 use Rattle.pc_types.proofs.Types.{Lower, Want, StackOk}

@@ -25,7 +25,7 @@ use Rattle.pc_rules.proofs.ByNumber.{slot_of}
 use Rattle.pc_core.proofs.Homes.{Home, home, home_method}
 use Rattle.pc_rules.proofs.Homes.{children_before}
 use Rattle.pc_lists.proofs.Bools.{false_true}
-use Rattle.pc_rules.specs.Valid.{Valid}
+use Rattle.pc_rules.specs.Checks.{Checks}
 use Rattle.pc_types.proofs.Needs.{IsChild, Needs}
 use Rattle.pc_types.proofs.Notes.{slot_at}
 use Rattle.pc_types.proofs.Declarations.{under_trans, under_no_trait, sub_under, all_declared}
@@ -157,7 +157,7 @@ module _ (core : CoreData) (formed : Formed core) where
 
   -- ---- with the annotation
 
-  module _ (ann : Ann) (valid : Valid core ann) where
+  module _ (ann : Ann) (valid : Checks core ann) where
     this_type : (n : ℕ) (x : Node) (f : Method) (i : Slot × (ℕ × Cap)) → slice_get core.nodes n ≡ Some x → slice_get core.methods x.method ≡ Some f → slot_of core ann x.method 0 ≡ Some i → i.1 ≡ (f.entity, f.receiver)
     this_type n x f i at own is =
         let is_typed = slot_at core ann x.method 0 f i own is in

@@ -17,7 +17,7 @@ use Rattle.pc_ann.specs.declared.annotation.Ann.{Ann}
 use Rattle.pc_sub.specs.Sub.{Sub}
 use Rattle.pc_core.specs.Conforms.{StandsFor}
 use Rattle.pc_rules.proofs.ByNumber.{slot_of}
-use Rattle.pc_rules.specs.Valid.{Valid}
+use Rattle.pc_rules.specs.Checks.{Checks}
 use Rattle.pc_types.proofs.Under.{Under}
 
 -- Node c is there, in method m.
@@ -36,7 +36,7 @@ pub record Declared (core : CoreData) (d name : ℕ) (f : Method) : Type 0 where
 
 pub record Needs (core : CoreData) (ann : Ann) : Type 0 where
   pub formed : Formed core
-  pub valid : Valid core ann
+  pub valid : Checks core ann
   -- nodes
   pub children : (n : ℕ) (x : Node) → slice_get core.nodes n ≡ Some x → Each (λ i c. IsChild core x.method c) x.children
   pub defined_slot : (n s : ℕ) (x : Node) → slice_get core.nodes n ≡ Some x → x.kind ≡ nodes.Define s → NamesSlot core x.method s

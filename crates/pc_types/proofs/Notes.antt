@@ -15,9 +15,9 @@ use Rattle.pc_masks.specs.declared.mask.Mask.{Mask}
 use Rattle.pc_ann.specs.declared.annotation.Note.{Note}
 use Rattle.pc_ann.specs.declared.annotation.Ann.{Ann}
 use Rattle.pc_masks.specs.Masks.{same}
-use Rattle.pc_rules.specs.Parts.{before}
+use Rattle.pc_valid.specs.Words.{before}
 use Rattle.pc_rules.specs.Rules.{said_by}
-use Rattle.pc_rules.proofs.ByNumber.{slot_of, Meets, says}
+use Rattle.pc_rules.proofs.ByNumber.{slot_of, IsSaid, says}
 use Rattle.pc_rules.proofs.Bridge.{meets_by_number}
 use Rattle.pc_types.proofs.Tasks.{Within}
 use Rattle.pc_types.proofs.Needs.{Needs}
@@ -27,17 +27,17 @@ use Rattle.pc_core.specs.declared.nodes.NodeKind.{NodeKind}
 
 module _ (core : CoreData) (ann : Ann) (needs : Needs core ann) where
   -- A node has a note, which meets its rule.
-  pub note_at : (n : ℕ) (x : Node) → slice_get core.nodes n ≡ Some x → (t : Note) × (slice_get ann.notes n ≡ Some t) × Meets core ann x t
+  pub note_at : (n : ℕ) (x : Node) → slice_get core.nodes n ≡ Some x → (t : Note) × (slice_get ann.notes n ≡ Some t) × IsSaid core ann x t
   note_at n x e =
       let r = needs.valid.rules n (get_below core.nodes n x e) in
       let is : r.0 ≡ x = same_Some r.0 x (sym r.2 ∙ e) in
-      (r.1, r.3, subst (λ (y : Node). Meets core ann y r.1) is (meets_by_number core ann r.0 r.1 r.4))
+      (r.1, r.3, subst (λ (y : Node). IsSaid core ann y r.1) is (meets_by_number core ann r.0 r.1 r.4))
 
-  pub meets : (n : ℕ) (x : Node) (t : Note) → slice_get core.nodes n ≡ Some x → slice_get ann.notes n ≡ Some t → Meets core ann x t
+  pub meets : (n : ℕ) (x : Node) (t : Note) → slice_get core.nodes n ≡ Some x → slice_get ann.notes n ≡ Some t → IsSaid core ann x t
   meets n x t e g =
       let r = note_at n x e in
       let is : r.0 ≡ t = same_Some r.0 t (sym r.1 ∙ g) in
-      subst (λ (u : Note). Meets core ann x u) is r.2
+      subst (λ (u : Note). IsSaid core ann x u) is r.2
 
 -- What a node names is there, and it has as many children as its kind asks for.
 pub names_fit : (core : CoreData) (ann : Ann) → Needs core ann → (n : ℕ) (x : Node) → slice_get core.nodes n ≡ Some x → (k : NodeKind) → x.kind ≡ k → NamesFit core x.method k

@@ -23,7 +23,8 @@ use Rattle.pc_masks.specs.declared.mask.Mask.{Mask}
 use Rattle.pc_ann.specs.declared.annotation.Ann.{Ann}
 use Rattle.pc_masks.specs.Masks.{IsIn}
 use Rattle.pc_semantics.specs.Around.{entity_of}
-use Rattle.pc_rules.specs.Parts.{Ty, constructs, last_child}
+use Rattle.pc_rules.specs.Parts.{constructs, last_child}
+use Rattle.pc_valid.specs.Words.{Ty}
 use Rattle.pc_rules.specs.Fields.{field_of, is_this, lacks_fields}
 use Rattle.pc_rules.proofs.ByNumber.{own_set, incomplete_in, incomplete}
 use Rattle.pc_lists.proofs.Bools.{false_true}

@@ -8,7 +8,8 @@ use Rattle.pc_core.specs.CoreData.{CoreData}
 use Rattle.pc_ann.specs.declared.annotation.Ann.{Ann}
 use Rattle.pc_sub.specs.Sub.{is_sub}
 use Rattle.pc_sub.specs.Agreement.{is_sub_iff}
-use Rattle.pc_rules.specs.Parts.{Ty, goes_to}
+use Rattle.pc_rules.specs.Parts.{goes_to}
+use Rattle.pc_valid.specs.Words.{Ty}
 use Rattle.pc_types.proofs.Under.{Under}
 use Rattle.pc_types.proofs.Types.{LowerType, held_in}
 use Rattle.pc_types.proofs.Tables.{unalias_sees, fits_sees}

@@ -32,8 +32,9 @@ use Rattle.pc_semantics.specs.declared.frames.Frame.{Frame}
 use Rattle.pc_semantics.specs.declared.frames.Task.TheVariants as task
 use Rattle.pc_semantics.specs.Around.{Around, Move, Writes, with_stack, pushed, or_none}
 use Rattle.pc_semantics.specs.Fields.{put_value, put_field, put_of, put_into, put_task}
-use Rattle.pc_rules.specs.Parts.{Ty, Masks, says_of, goes_to, before, through, type_of, last_child, constructs}
-use Rattle.pc_rules.specs.Fields.{is_this, field_of, own_field, place, writes, written_field, old_type, own_old, own_writes}
+use Rattle.pc_rules.specs.Parts.{says_of, goes_to, through, type_of, last_child, constructs}
+use Rattle.pc_valid.specs.Words.{Ty, Masks, before, place}
+use Rattle.pc_rules.specs.Fields.{is_this, field_of, own_field, writes, written_field, old_type, own_old, own_writes}
 use Rattle.pc_rules.specs.Rules.{said_by}
 use Rattle.pc_rules.proofs.ByNumber.{two_children, two_types, incomplete, write_says, value_type, own_write_says, says}
 use Rattle.pc_lists.proofs.Bools.{false_true}

@@ -27,7 +27,8 @@ use Rattle.pc_semantics.specs.declared.frames.Task.TheVariants as task
 use Rattle.pc_semantics.specs.Configurations.{own_address, blank_object}
 use Rattle.pc_semantics.specs.Around.{Around, Move, Spawns, with_stack, pushed}
 use Rattle.pc_semantics.specs.Calls.{spawn_task}
-use Rattle.pc_rules.specs.Parts.{Ty, before, through}
+use Rattle.pc_rules.specs.Parts.{through}
+use Rattle.pc_valid.specs.Words.{Ty, before}
 use Rattle.pc_rules.specs.Fields.{is_this}
 use Rattle.pc_lists.proofs.Bools.{false_true}
 use Rattle.pc_types.proofs.Types.{OfType, OfSome, Want, StackOk}

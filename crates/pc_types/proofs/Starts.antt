@@ -28,7 +28,7 @@ use Rattle.pc_core.specs.Entities.{out_field}
 use Rattle.pc_core.specs.Formed.{Formed}
 use Rattle.pc_ann.specs.declared.annotation.Ann.{Ann}
 use Rattle.pc_lists.proofs.Bools.{false_true}
-use Rattle.pc_rules.specs.Valid.{Valid}
+use Rattle.pc_rules.specs.Checks.{Checks}
 use Rattle.pc_semantics.specs.declared.actors.Actor.{Actor}
 use Rattle.pc_semantics.specs.Configurations.{own_address, entity_named, main_create, fields_in, blank_object, environment, environment_address, start_of, start}
 use Rattle.pc_types.proofs.Types.{Finished, OfType, ArgumentsOk}
@@ -94,7 +94,7 @@ with_main core main = insert (with_environment core) (own_address 1) (blank_obje
 none_there : (q : Address) (o : Object) → get (empty {X = Object} {R = address_cmp}) q ≡ Some o → ⊥
 none_there q o e = none-some o (sym (get-empty address_cmp q) ∙ e)
 
-module _ (core : CoreData) (ann : Ann) (formed : Formed core) (valid : Valid core ann) where
+module _ (core : CoreData) (ann : Ann) (formed : Formed core) (valid : Checks core ann) where
   needs : Needs core ann
   needs = needed core formed ann valid
 

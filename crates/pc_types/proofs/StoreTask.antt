@@ -27,7 +27,8 @@ use Rattle.pc_semantics.specs.declared.frames.Frame.{Frame}
 use Rattle.pc_semantics.specs.declared.frames.Task.TheVariants as task
 use Rattle.pc_semantics.specs.Around.{Around, with_stack, or_none}
 use Rattle.pc_semantics.specs.Fields.{held, store, store_task}
-use Rattle.pc_rules.specs.Parts.{Ty, Masks, goes_to, reachable, before, through, type_of, one_child}
+use Rattle.pc_rules.specs.Parts.{goes_to, reachable, through, type_of, one_child}
+use Rattle.pc_valid.specs.Words.{Ty, Masks, before}
 use Rattle.pc_rules.specs.Fields.{is_this}
 use Rattle.pc_rules.specs.Values.{same_place, defined_type, defines, is_var, old_value, assigns}
 use Rattle.pc_rules.specs.Rules.{said_by}

@@ -15,7 +15,8 @@ use Rattle.pc_ann.specs.declared.annotation.Ann.{Ann}
 use Rattle.pc_masks.specs.Masks.{IsIn}
 use Rattle.pc_semantics.specs.declared.frames.Task.{Task}
 use Rattle.pc_semantics.specs.declared.frames.Task.TheVariants as task
-use Rattle.pc_rules.specs.Parts.{Masks, constructs, all_fields, before, through, type_of}
+use Rattle.pc_rules.specs.Parts.{constructs, all_fields, through, type_of}
+use Rattle.pc_valid.specs.Words.{Masks, before}
 use Rattle.pc_rules.specs.Fields.{is_this}
 use Rattle.pc_types.proofs.Types.{Lower, Want, wanted}
 

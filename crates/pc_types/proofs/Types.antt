@@ -16,7 +16,7 @@ use Rattle.pc_core.specs.CoreData.{CoreData}
 use Rattle.pc_tree.specs.Kinds.{may_have_fields}
 use Rattle.pc_core.specs.Nodes.{NamesPrimitive}
 use Rattle.pc_semantics.specs.Around.{entity_of}
-use Rattle.pc_rules.specs.Parts.{Ty}
+use Rattle.pc_valid.specs.Words.{Ty}
 use Rattle.pc_types.proofs.Under.{Under}
 
 -- ---- values

@@ -38,10 +38,11 @@ use Rattle.pc_rules.specs.Calls as call
 use Rattle.pc_rules.specs.Control as control
 use Rattle.pc_rules.specs.Fields as field
 use Rattle.pc_rules.specs.Operators as operator
-use Rattle.pc_rules.specs.Parts.{Masks, Slots, Ty, after, all_fields, constructs, field_count, last_note, notes_of, one_child, one_note, one_type, says_of, slot_of, starts, three_notes, through_notes, two_notes, two_types}
+use Rattle.pc_rules.specs.Parts.{all_fields, constructs, field_count, last_note, notes_of, one_child, one_note, one_type, says_of, slot_of, starts, three_notes, through_notes, two_notes, two_types}
+use Rattle.pc_valid.specs.Words.{Masks, Slots, Ty, after}
 use Rattle.pc_rules.specs.Rules.{rule_says, says}
-use Rattle.pc_rules.specs.Valid.{Reaches}
-use Rattle.pc_rules.specs.Valid.Reaches.{body as starts_body, else_branch, first_child, next_child}
+use Rattle.pc_rules.specs.Checks.{StartsFrom}
+use Rattle.pc_rules.specs.Checks.StartsFrom.{body as starts_body, else_branch, first_child, next_child}
 use Rattle.pc_rules.specs.Values as value
 use Rattle.pc_rules.specs.declared.said.Said.{Said}
 
@@ -548,7 +549,7 @@ module _ (core : CoreData) (formed : Formed core) where
       by true = empty_fits
       by false = first_fits (field_count core f.entity)
 
-  pub reaches_fit : (ann : Ann) (n : ℕ) (m : Masks) → NotesFit ann.notes → Reaches core ann n m → BothFit m
+  pub reaches_fit : (ann : Ann) (n : ℕ) (m : Masks) → NotesFit ann.notes → StartsFrom core ann n m → BothFit m
   reaches_fit ann n _ fit (starts_body x f g k e) = (first_fits (1 + length f.params), start_fits f)
   reaches_fit ann n m fit (first_child p x g e r) = reaches_fit ann p m fit r
   reaches_fit ann n _ fit (else_branch p c x t g k e h i) = after_fits t (note_at ann.notes c t fit i)

@@ -27,11 +27,11 @@ use Rattle.pc_masks.specs.Masks.{first}
 use Rattle.pc_rules.proofs.Agreeing.{body_method}
 use Rattle.pc_rules.proofs.Homes.{children_of}
 use Rattle.pc_rules.specs.Control.{start_set}
-use Rattle.pc_rules.specs.Parts.{Masks, after, before}
-use Rattle.pc_rules.specs.Rules.{Meets}
+use Rattle.pc_valid.specs.Words.{Masks, after, before}
+use Rattle.pc_rules.specs.Rules.{IsSaid}
 use Rattle.pc_rules.specs.Trees.{Forest, Tree, body_tree, tree_le}
-use Rattle.pc_rules.specs.Valid.{Reaches, Valid, is_else}
-use Rattle.pc_rules.specs.Valid.Reaches.{body, else_branch, first_child, next_child}
+use Rattle.pc_rules.specs.Checks.{StartsFrom, Checks, is_else}
+use Rattle.pc_rules.specs.Checks.StartsFrom.{body, else_branch, first_child, next_child}
 use Rattle.pc_sub.specs.Declarations.{DeclOk, first_fault}
 use Rattle.pc_sub.specs.Faults.{fits_without_fault}
 use Rattle.pc_sub.specs.declared.faults.DeclFault.{DeclFault}
@@ -46,7 +46,7 @@ use Rattle.pc_verdicts.proofs.Stages.{HasEnd}
 
 -- What the checker finds.
 pub data Checked (core : CoreData) : Type 0 where
-  is_valid : (ann : Ann) → Valid core ann → SlotsAreSmall ann.slots → NotesFit ann.notes → Checked core
+  is_valid : (ann : Ann) → Checks core ann → SlotsAreSmall ann.slots → NotesFit ann.notes → Checked core
   fails : (f : DeclFault) → first_fault core ≡ Some f → Checked core
   stopped : (ann : Ann) (n : ℕ) (m : Masks) → StopsAt core n m ann → Checked core
   left : (ann : Ann) (m : ℕ) → LeavesUnset core m ann → Checked core
@@ -55,7 +55,7 @@ pub data Checked (core : CoreData) : Type 0 where
 
 -- Whatever notes there are before the first number, some masks reach the node.
 abbrev Comes : CoreData → (low node : ℕ) → Type 0
-Comes core low n = (ann : Ann) → low ≤ length ann.notes → (m : Masks) × Reaches core ann n m
+Comes core low n = (ann : Ann) → low ≤ length ann.notes → (m : Masks) × StartsFrom core ann n m
 
 -- What stands in the node begins at such a number.
 abbrev Placed : CoreData → ℕ → Type 0
@@ -113,7 +113,7 @@ module _ (core : CoreData) (formed : Formed core) where
         child_placed core p.0 n p.2.0 p.2.1 own p.2.2.0 p.2.2.1
   ]
 
-  reaching : (ann : Ann) (n : ℕ) → length ann.notes ≡ n → n < length core.nodes → (m : Masks) × Reaches core ann n m
+  reaching : (ann : Ann) (n : ℕ) → length ann.notes ≡ n → n < length core.nodes → (m : Masks) × StartsFrom core ann n m
   reaching ann n count l =
       let p = placed (length core.nodes) n (omega arith) l in
       let low = tree_le core p.0 n p.1 in
@@ -123,9 +123,9 @@ module _ (core : CoreData) (formed : Formed core) where
 
   module _ (ok : DeclOk core) where
     module _ (n : ℕ) (a b : Ann) (x : Node) (m : Masks) (g : slice_get core.nodes n ≡ Some x) (w : Walked core a n) (is : b ≡ with_inferred core a x)
-        (h : Walked core b n × Reaches core b n m) (small : SlotsAreSmall b.slots) (fit : NotesFit b.notes) (masks : BothFit m)
+        (h : Walked core b n × StartsFrom core b n m) (small : SlotsAreSmall b.slots) (fit : NotesFit b.notes) (masks : BothFit m)
         (on : (c : Ann) → Walked core c (n + 1) → SlotsAreSmall c.slots → NotesFit c.notes → Checked core) where
-      by_fields : (t : Note) → Meets core b x t → Reaches core b n (before t) → NoteFits t → (c : Bool) → leaves_unset core x t ≡ c → Checked core
+      by_fields : (t : Note) → IsSaid core b x t → StartsFrom core b n (before t) → NoteFits t → (c : Bool) → leaves_unset core x t ≡ c → Checked core
       by_fields t meets r own true e = left (noted b t) x.method (leaves core b n x t formed ok g h.0 meets r e)
       by_fields t meets r own false e = on (noted b t) (walked_noted core b n x t formed g h.0 meets r e) small (notes_push b.notes t fit own)
 
@@ -133,7 +133,7 @@ module _ (core : CoreData) (formed : Formed core) where
       by_note None e = stopped b n m (stops core a b n x m formed ok w g is h e)
       by_note (Some t) e =
           let k = note_meets core b x m (rules_for x.kind) t e in
-          by_fields t k.1 (subst (Reaches core b n) (sym k.0) h.1) (noted_fits core formed b n x m g small fit masks (rules_for x.kind) t e) (leaves_unset core x t) refl
+          by_fields t k.1 (subst (StartsFrom core b n) (sym k.0) h.1) (noted_fits core formed b n x m g small fit masks (rules_for x.kind) t e) (leaves_unset core x t) refl
 
     walk : (rest n : ℕ) (a : Ann) → n + rest ≡ length core.nodes → Walked core a n → SlotsAreSmall a.slots → NotesFit a.notes → Checked core
     walk zero n a count w small fit = is_valid a (walked_whole core a n formed ok (omega (arith, count)) w) small fit
@@ -141,7 +141,7 @@ module _ (core : CoreData) (formed : Formed core) where
         let x = get_within core.nodes n (omega (arith, count)) in
         let b = with_inferred core a x.0 in
         let r = reaching a n w.notes (omega (arith, count)) in
-        let h : Walked core b n × Reaches core b n r.0 = (walked_infer core a n x.0 formed x.1 w, reaches_infer core a n x.0 r.0 r.1) in
+        let h : Walked core b n × StartsFrom core b n r.0 = (walked_infer core a n x.0 formed x.1 w, reaches_infer core a n x.0 r.0 r.1) in
         let kept : NotesFit b.notes = subst NotesFit (sym (with_notes a (inferred_slot core a x.0 x.0.kind))) fit in
         by_note n a b x.0 r.0 x.1 w refl h (inferred_slots core formed a x.0 small fit) kept (reaches_fit core formed b n r.0 kept h.1) (λ c. walk rest (n + 1) c (omega (arith, count)))
         (first_note core b x.0 r.0 (rules_for x.0.kind)) refl

@@ -7,7 +7,7 @@ use Rattle.pc_lists.specs.Texts.{Text}
 use Rattle.pc_core.specs.CoreData.{CoreData}
 use Rattle.pc_deriv.specs.Faults.{IsText}
 use Rattle.pc_deriv.specs.declared.version.Version.TheVariants as version
-use Rattle.pc_rules.specs.Valid.{Valid}
+use Rattle.pc_valid.specs.Valid.{Valid}
 use Rattle.pc_refusals.specs.Named.{Named}
 use Rattle.pc_refusals.specs.Verdict.{Verdict, done}
 use Rattle.pc_refusals.specs.declared.typing.Accepted.{Accepted}

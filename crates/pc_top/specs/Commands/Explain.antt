@@ -18,7 +18,7 @@ use Rattle.pc_refusals.specs.NameFaults.{name_line, name_status}
 use Rattle.pc_refusals.specs.Named.{Named, Reading, whole}
 use Rattle.pc_refusals.specs.Source.{FileStage, source_limit}
 use Rattle.pc_refusals.specs.Verdict.{Verdict, done, refused}
-use Rattle.pc_rules.specs.Valid.{Derivable}
+use Rattle.pc_valid.specs.Valid.{Derivable}
 use Rattle.pc_token.specs.declared.kinds.Token.{Token}
 use Rattle.pc_tree.specs.Tree as t
 use Rattle.pc_top.specs.Commands.Judge.{accepted_text}

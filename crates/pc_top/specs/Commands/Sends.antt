@@ -8,7 +8,7 @@ use Rattle.pc_core.specs.declared.declarations.EntityDef.{EntityDef}
 use Rattle.pc_core.specs.declared.declarations.Method.{Method}
 use Rattle.pc_lists.specs.Places.{Each}
 use Rattle.pc_noted_receivers.specs.Noted.{entities}
-use Rattle.pc_rules.specs.Valid.{Valid}
+use Rattle.pc_valid.specs.Valid.{Valid}
 use Rattle.pc_semantics.specs.Runs.{after}
 use Rattle.pc_sends.specs.Tables.{IsTable, Tells}
 use Rattle.pc_sends.specs.declared.table.Row.{Row}

@@ -1,7 +1,7 @@
 //! `sends SRC`.
 ghost use Rattle.std.specs.Prelude.{◌≡◌, ◌≤◌, IfOk};
 ghost use Rattle.pc_lists.specs.Texts.{Text};
-ghost use Rattle.pc_rules.specs.Valid.{Valid};
+ghost use Rattle.pc_valid.specs.Valid.{Valid};
 ghost use Rattle.pc_refusals.specs.Inner.Answering.{AnswersText};
 ghost use Rattle.pc_refusals.specs.Named.{FailedAt, files_change, named};
 ghost use Rattle.pc_top.specs.Commands.Sends.{IsSends, IsSendsText};

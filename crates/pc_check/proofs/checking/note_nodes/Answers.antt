@@ -1,5 +1,5 @@
 use Rattle.std.proofs.Common.{◌+◌, ap, sym, ◌∙◌, subst, length, arith}
-use Rattle.pc_rules.specs.Valid.{Reaches}
+use Rattle.pc_rules.specs.Checks.{StartsFrom}
 use Rattle.pc_check.specs.Walked.{Walked}
 use Rattle.pc_check.specs.Faults.{LeavesUnset}
 use Rattle.pc_check.proofs.Filling.{node_there}
@@ -40,7 +40,7 @@ returns-then-leaves_unset-clause-err c =
     let g = node_there core _ n x c.nodes.ensures (omega (arith, low, ap length c.nodes-number-end.ensures)) c.index-nodes-number.is in
     let h = ready core c.args.sources.now a b n x c.source_at.result m c.formed.ensures c.requires.sources c.loop-number.invariant g c.source_at.ensures c.masks_from-masks.ensures c.infer_slot.ensures in
     let k = note_meets core b x m _ t (sym c.infer_note.ensures ∙ c.in-Some.is) in
-    let r = subst (Reaches core b n) (sym k.0) h.1 in
+    let r = subst (StartsFrom core b n) (sym k.0) h.1 in
     let l = leaves core b n x t c.formed.ensures c.requires.declarations g h.0 k.1 r (sym c.leaves_unset.ensures ∙ c.if-leaves_unset.true) in
     subst (λ ts. LeavesUnset core x.method (record { slots = b.slots; notes = ts })) (sym c.in_ok-push.ensures.ok) l
 
@@ -57,7 +57,7 @@ loop-number-preserved c =
     let g = node_there core _ n x c.nodes.ensures (omega (arith, low, ap length c.nodes-number-end.ensures)) c.index-nodes-number.is in
     let h = ready core c.args.sources.now a b n x c.source_at.result m c.formed.ensures c.requires.sources c.loop-number.invariant g c.source_at.ensures c.masks_from-masks.ensures c.infer_slot.ensures in
     let k = note_meets core b x m _ t (sym c.infer_note.ensures ∙ c.in-Some.is) in
-    let r = subst (Reaches core b n) (sym k.0) h.1 in
+    let r = subst (StartsFrom core b n) (sym k.0) h.1 in
     let w = walked_noted core b n x t c.formed.ensures g h.0 k.1 r (sym c.leaves_unset.ensures ∙ c.if-leaves_unset.false) in
     subst (λ ts. Walked core (record { slots = b.slots; notes = ts }) (n + 1)) (sym c.in_ok-push.ensures.ok) w
 

@@ -9,7 +9,7 @@ use Rattle.pc_core.specs.declared.declarations.Method.{Method}
 use Rattle.pc_lists.proofs.Gets.{get_within}
 use Rattle.pc_noted_receivers.specs.Laws.{AcceptedHeld}
 use Rattle.pc_noted_receivers.specs.Noted.{entities, noted_in}
-use Rattle.pc_rules.specs.Valid.{Valid}
+use Rattle.pc_valid.specs.Valid.{Valid}
 use Rattle.pc_semantics.specs.Runs.{after}
 use Rattle.pc_sends.specs.Covering.{HeldCovers}
 use Rattle.pc_sends.specs.Reach.{Sends, next}

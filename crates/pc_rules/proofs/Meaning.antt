@@ -1,5 +1,4 @@
--- The rules in words: for each its condition, the type, and the masks, over the types of the slots, the node's own note and
--- the notes of its children, in order.
+-- A step between the computed rules and the records of `pc_valid`: the same records over what the rules compute.
 use Rattle.std.specs.Prelude.{◌≡◌, ◌⊎◌, ℕ, ◌+◌, true, false, List, [], ◌∷◌, ◌++◌, ◌-◌, length, codes, Option, Some, None, slice_get}
 use Rattle.pc_caps.specs.Tables.{view, fits, sendable, sendable_form, plain, unalias, taken, may_write}
 use Rattle.pc_caps.specs.declared.capability.Cap.{Cap}
@@ -23,9 +22,10 @@ use Rattle.pc_ann.specs.declared.annotation.Note.{Note}
 use Rattle.pc_ann.specs.declared.annotation.Rule.{Rule}
 use Rattle.pc_ann.specs.declared.annotation.Rule.TheVariants as rule
 use Rattle.pc_masks.specs.Masks.{IsIn, with_number, without_number, within, first}
-use Rattle.pc_rules.specs.Parts.{Ty, Masks, Slots, slot_of, goes_to, readable, lower, constructs, full, before, after}
+use Rattle.pc_rules.specs.Parts.{slot_of, goes_to, readable, lower, constructs, full}
+use Rattle.pc_valid.specs.Words.{Ty, Masks, Slots, before, after, place}
 use Rattle.pc_rules.specs.Values.{defined_type, old_value}
-use Rattle.pc_rules.specs.Fields.{field_of, own_field, place, own_old}
+use Rattle.pc_rules.specs.Fields.{field_of, own_field, own_old}
 use Rattle.pc_rules.specs.Calls.{recovered_result}
 use Rattle.pc_rules.specs.Operators.{is_arithmetic, is_comparison, is_equality, is_add, is_xor, meet_masks}
 use Rattle.pc_rules.specs.Control.{without_items, joined, recovered, start_set}
@@ -139,9 +139,9 @@ pub record Define (core : CoreData) (slots : Slots) (own : Note) (ns : List Note
   pub has_type : slot.1 ≡ defined_type slot.0.written value
   pub goes : goes_to core value slot.1 ≡ true
   pub type : own.ty ≡ None
-  pub behind : Masks
-  pub in_order : OneAfterOther ns (before own) behind
-  pub masks : after own ≡ (with_number behind.0 s, behind.1)
+  pub after_children : Masks
+  pub in_order : OneAfterOther ns (before own) after_children
+  pub masks : after own ≡ (with_number after_children.0 s, after_children.1)
 
 -- An assignment to s.
 pub record Assign (core : CoreData) (slots : Slots) (own : Note) (ns : List Note) (x : Node) (s : ℕ) : Type 0 where
@@ -154,10 +154,10 @@ pub record Assign (core : CoreData) (slots : Slots) (own : Note) (ns : List Note
   pub variable : slot.0.kind ≡ slot_kind.Var
   pub reachable : Reachable x slot
   pub goes : goes_to core value slot.1 ≡ true
-  pub behind : Masks
-  pub in_order : OneAfterOther ns (before own) behind
-  pub type : own.ty ≡ old_value s slot.1 behind.0
-  pub masks : after own ≡ (with_number behind.0 s, behind.1)
+  pub after_children : Masks
+  pub in_order : OneAfterOther ns (before own) after_children
+  pub type : own.ty ≡ old_value s slot.1 after_children.0
+  pub masks : after own ≡ (with_number after_children.0 s, after_children.1)
 
 -- ---- fields
 
@@ -216,12 +216,12 @@ pub record PutOwn (core : CoreData) (own : Note) (ns : List Note) (x : Node) (na
   pub children : ns ≡ first ∷ second ∷ []
   pub value : Ty
   pub is_value : first.ty ≡ Some value
-  pub behind : Masks
-  pub in_order : OneAfterOther ns (before own) behind
-  pub may : (field.1.fixed ≡ false) ⊎ (IsIn behind.1 field.0 → ⊥)
+  pub after_children : Masks
+  pub in_order : OneAfterOther ns (before own) after_children
+  pub may : (field.1.fixed ≡ false) ⊎ (IsIn after_children.1 field.0 → ⊥)
   pub goes : goes_to core value (place field.1) ≡ true
-  pub type : own.ty ≡ own_old field behind.1
-  pub masks : after own ≡ (behind.0, with_number behind.1 field.0)
+  pub type : own.ty ≡ own_old field after_children.1
+  pub masks : after own ≡ (after_children.0, with_number after_children.1 field.0)
 
 -- ---- calls
 
@@ -356,9 +356,9 @@ pub record Seq (core : CoreData) (own : Note) (ns : List Note) (x : Node) : Type
   pub last : Note
   pub children : ns ≡ front ++ last ∷ []
   pub type : own.ty ≡ last.ty
-  pub behind : Masks
-  pub in_order : OneAfterOther ns (before own) behind
-  pub masks : after own ≡ (without_items core x.children behind.0, behind.1)
+  pub after_children : Masks
+  pub in_order : OneAfterOther ns (before own) after_children
+  pub masks : after own ≡ (without_items core x.children after_children.0, after_children.1)
 
 -- `if`.
 pub record If (core : CoreData) (own : Note) (ns : List Note) : Type 0 where

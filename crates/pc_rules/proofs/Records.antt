@@ -1,0 +1,820 @@
+-- Each record of the rules, and its mirror over what the rules compute.
+use Rattle.std.specs.Prelude.{◌≡◌, ◌⊎◌, ◌↔◌, ℕ, Bool, true, false, List, Option, Some, None, refl}
+use Rattle.std.proofs.Common.{inl, inr, ap, sym, subst, ◌∙◌}
+use Rattle.std.proofs.lemmas.Option.{same_Some}
+use Rattle.std.proofs.lemmas.Bool.{and_parts, and_from}
+use Rattle.pc_caps.specs.Tables.{unalias, fits, enters, sendable_form}
+use Rattle.pc_caps.specs.declared.capability.Cap.{Cap}
+use Rattle.pc_caps.specs.declared.capability.Form.{Form}
+use Rattle.pc_caps.specs.declared.capability.Form.TheVariants as form
+use Rattle.pc_tree.specs.declared.kinds.Op.{Op}
+use Rattle.pc_tree.specs.declared.kinds.Op.TheVariants as op
+use Rattle.pc_core.specs.declared.declarations.Method.{Method}
+use Rattle.pc_core.specs.declared.nodes.Node.{Node}
+use Rattle.pc_core.specs.declared.nodes.NodeKind.{NodeKind}
+use Rattle.pc_core.specs.declared.nodes.NodeKind.TheVariants as node
+use Rattle.pc_core.specs.CoreData.{CoreData}
+use Rattle.pc_core.specs.Formed.{Formed}
+use Rattle.pc_lists.proofs.Bools.{false_true}
+use Rattle.pc_ann.specs.declared.annotation.Note.{Note}
+use Rattle.pc_ann.specs.declared.annotation.Rule.{Rule}
+use Rattle.pc_ann.specs.declared.annotation.Rule.TheVariants as rule
+use Rattle.pc_masks.specs.declared.mask.Mask.{Mask}
+use Rattle.pc_masks.specs.Masks.{has}
+use Rattle.pc_masks.specs.MaskLaws.{within_bits}
+use Rattle.pc_rules.specs.Operators.{is_equality}
+use Rattle.pc_rules.specs.Control.{without_items}
+use Rattle.pc_rules.proofs.Meaning as mirror
+use Rattle.pc_rules.proofs.MeantCalls.{rules_are_records}
+use Rattle.pc_valid.specs.Words.{Masks, after, Ty, Reads, Slots, before, AllSet}
+use Rattle.pc_valid.specs.Rules as new
+use Rattle.pc_rules.specs.Statements.{SaysWhatIsMeant}
+use Rattle.pc_rules.proofs.RecordWords.{order_iff, sendable_iff, arithmetic_iff, comparison_iff, equality_iff, add_iff, xor_iff, ends_to, to_ends, lower_iff, fits_iff, goes_iff, reads_iff, choice, chosen, joined_to, to_joined, recovers_to, to_recovers, all_set_iff, starts_to, to_starts, slot_to, to_slot, defined_to, to_defined, field_to, to_field, own_at, at_own, gives_up, go_to, to_go, called_to, to_called, incomplete_to, to_incomplete}
+
+either_reads : (d e : ℕ) (o : Option Ty) → (mirror.Reads d o ⊎ mirror.Reads e o) ↔ (Reads d o ⊎ Reads e o)
+either_reads d e o = (
+  λ h. elim h [ inl r ↦ inl ((reads_iff d o).0 r) | inr r ↦ inr ((reads_iff e o).0 r) ],
+  λ h. elim h [ inl r ↦ inl ((reads_iff d o).1 r) | inr r ↦ inr ((reads_iff e o).1 r) ],
+)
+
+abbrev pair : Mask → Mask → Masks
+pair a b = (a, b)
+
+both_masks : (a b : Mask) (c d : Mask) → a ≡ b → c ≡ d → ◌≡◌ {A = Masks} (a, c) (b, d)
+both_masks a b c d e g = ap (λ (m : Mask). pair m c) e ∙ ap (λ (m : Mask). pair b m) g
+
+pub not_so : (b : Bool) → (b ≡ true → ⊥) → b ≡ false
+not_so true n = absurd (n refl)
+not_so false n = refl
+
+module _ (core : CoreData) (formed : Formed core) (slots : Slots) (own : Note) (ns : List Note) (x : Node) where
+  literal_to : (e : ℕ) → mirror.Literal own e → new.Literal own e
+  literal_to e r =
+      record {
+        type = r.type;
+        masks = r.masks;
+      }
+
+  to_literal : (e : ℕ) → new.Literal own e → mirror.Literal own e
+  to_literal e r =
+      record {
+        type = r.type;
+        masks = r.masks;
+      }
+
+  this_to : mirror.This core slots own x → new.This core slots own x
+  this_to r =
+      let c = slot_to core slots x 0 r.slot r.is_slot in
+      let is : c.home ≡ r.home = same_Some c.home r.home (sym c.is_home ∙ r.is_home) in
+      record {
+        this = slot_to core slots x 0 r.slot r.is_slot;
+        seen = r.seen;
+        whole = λ a q. r.whole ((all_set_iff core r.home.entity own.set_before formed).1 (subst (λ (z : Method). AllSet core z.entity own.set_before) is a)) q;
+        else_tag = λ n. r.else_tag (λ a q. n (subst (λ (z : Method). AllSet core z.entity own.set_before) (sym is) ((all_set_iff core r.home.entity own.set_before formed).0 a)) q);
+        type = r.type ∙ ap (λ (z : Method). Some (z.entity, r.seen)) (sym is);
+        masks = r.masks;
+      }
+
+  to_this : new.This core slots own x → mirror.This core slots own x
+  to_this r =
+      record {
+        home = r.this.home;
+        is_home = r.this.is_home;
+        slot = (r.this.slot, (r.this.entity, r.this.cap));
+        is_slot = to_slot core slots x 0 r.this;
+        seen = r.seen;
+        whole = λ a q. r.whole ((all_set_iff core r.this.home.entity own.set_before formed).0 a) q;
+        else_tag = λ n. r.else_tag (λ a q. n ((all_set_iff core r.this.home.entity own.set_before formed).1 a) q);
+        type = r.type;
+        masks = r.masks;
+      }
+
+  local_to : (s : ℕ) → mirror.Local core slots own x s → new.Local core slots own x s
+  local_to s r =
+      record {
+        of = slot_to core slots x s r.slot r.is_slot;
+        live = r.live;
+        reachable = r.reachable;
+        type = r.type;
+        masks = r.masks;
+      }
+
+  to_local : (s : ℕ) → new.Local core slots own x s → mirror.Local core slots own x s
+  to_local s r =
+      record {
+        slot = (r.of.slot, (r.of.entity, r.of.cap));
+        is_slot = to_slot core slots x s r.of;
+        live = r.live;
+        reachable = r.reachable;
+        type = r.type;
+        masks = r.masks;
+      }
+
+  consume_to : (s : ℕ) → mirror.Consume core slots own x s → new.Consume core slots own x s
+  consume_to s r =
+      record {
+        of = slot_to core slots x s r.slot r.is_slot;
+        live = r.live;
+        reachable = r.reachable;
+        type = r.type;
+        masks = r.masks;
+      }
+
+  to_consume : (s : ℕ) → new.Consume core slots own x s → mirror.Consume core slots own x s
+  to_consume s r =
+      record {
+        slot = (r.of.slot, (r.of.entity, r.of.cap));
+        is_slot = to_slot core slots x s r.of;
+        live = r.live;
+        reachable = r.reachable;
+        type = r.type;
+        masks = r.masks;
+      }
+
+  define_to : (s : ℕ) → mirror.Define core slots own ns x s → new.Define core slots own ns x s
+  define_to s r =
+      record {
+        child = r.child;
+        children = r.children;
+        value = r.value;
+        is_value = r.is_value;
+        of = slot_to core slots x s r.slot r.is_slot;
+        has_type = defined_to r.slot.0.written r.value r.slot.1 r.has_type;
+        goes = (goes_iff core r.value r.slot.1 formed).0 r.goes;
+        type = r.type;
+        after_children = r.after_children;
+        in_order = (order_iff ns (before own) r.after_children).0 r.in_order;
+        masks = r.masks;
+      }
+
+  to_define : (s : ℕ) → new.Define core slots own ns x s → mirror.Define core slots own ns x s
+  to_define s r =
+      record {
+        child = r.child;
+        children = r.children;
+        value = r.value;
+        is_value = r.is_value;
+        slot = (r.of.slot, (r.of.entity, r.of.cap));
+        is_slot = to_slot core slots x s r.of;
+        has_type = to_defined r.of.slot.written r.value (r.of.entity, r.of.cap) r.has_type;
+        goes = (goes_iff core r.value (r.of.entity, r.of.cap) formed).1 r.goes;
+        type = r.type;
+        after_children = r.after_children;
+        in_order = (order_iff ns (before own) r.after_children).1 r.in_order;
+        masks = r.masks;
+      }
+
+  assign_to : (s : ℕ) → mirror.Assign core slots own ns x s → new.Assign core slots own ns x s
+  assign_to s r =
+      record {
+        child = r.child;
+        children = r.children;
+        value = r.value;
+        is_value = r.is_value;
+        of = slot_to core slots x s r.slot r.is_slot;
+        variable = r.variable;
+        reachable = r.reachable;
+        goes = (goes_iff core r.value r.slot.1 formed).0 r.goes;
+        after_children = r.after_children;
+        in_order = (order_iff ns (before own) r.after_children).0 r.in_order;
+        old = (choice (has r.after_children.0 s) (Some (r.slot.1.0, unalias r.slot.1.1)) None own.ty r.type).0;
+        no_old = (choice (has r.after_children.0 s) (Some (r.slot.1.0, unalias r.slot.1.1)) None own.ty r.type).1;
+        masks = r.masks;
+      }
+
+  to_assign : (s : ℕ) → new.Assign core slots own ns x s → mirror.Assign core slots own ns x s
+  to_assign s r =
+      record {
+        child = r.child;
+        children = r.children;
+        value = r.value;
+        is_value = r.is_value;
+        slot = (r.of.slot, (r.of.entity, r.of.cap));
+        is_slot = to_slot core slots x s r.of;
+        variable = r.variable;
+        reachable = r.reachable;
+        goes = (goes_iff core r.value (r.of.entity, r.of.cap) formed).1 r.goes;
+        after_children = r.after_children;
+        in_order = (order_iff ns (before own) r.after_children).1 r.in_order;
+        type = chosen (has r.after_children.0 s) (Some (r.of.entity, unalias r.of.cap)) None own.ty r.old r.no_old;
+        masks = r.masks;
+      }
+
+  get_to : (name : ℕ) → mirror.Get core own ns x name → new.Get core own ns x name
+  get_to name r =
+      record {
+        complete = λ i. r.complete (to_incomplete core formed ns x i);
+        child = r.child;
+        children = r.children;
+        origin = r.origin;
+        is_origin = r.is_origin;
+        of = field_to core r.origin.0 name r.field r.is_field;
+        seen = r.seen;
+        sees = r.sees;
+        type = r.type;
+        masks = (order_iff ns (before own) (after own)).0 r.masks;
+      }
+
+  to_get : (name : ℕ) → new.Get core own ns x name → mirror.Get core own ns x name
+  to_get name r =
+      record {
+        complete = λ i. r.complete (incomplete_to core formed ns x i);
+        child = r.child;
+        children = r.children;
+        origin = r.origin;
+        is_origin = r.is_origin;
+        field = (r.of.number, r.of.field);
+        is_field = to_field core r.origin.0 name formed r.of;
+        seen = r.seen;
+        sees = r.sees;
+        type = r.type;
+        masks = (order_iff ns (before own) (after own)).1 r.masks;
+      }
+
+  getown_to : (name : ℕ) → mirror.GetOwn core own ns x name → new.GetOwn core own ns x name
+  getown_to name r =
+      record {
+        incomplete = incomplete_to core formed ns x r.incomplete;
+        of = field_to core r.incomplete.own.entity name r.field (own_at core x name r.incomplete.own r.field r.incomplete.is_own r.is_field);
+        seen = r.seen;
+        sees = r.sees;
+        set = r.set;
+        type = r.type;
+        masks = (order_iff ns (before own) (after own)).0 r.masks;
+      }
+
+  to_getown : (name : ℕ) → new.GetOwn core own ns x name → mirror.GetOwn core own ns x name
+  to_getown name r =
+      record {
+        incomplete = to_incomplete core formed ns x r.incomplete;
+        field = (r.of.number, r.of.field);
+        is_field = at_own core x name r.incomplete.home (r.of.number, r.of.field) r.incomplete.is_home (to_field core r.incomplete.home.entity name formed r.of);
+        seen = r.seen;
+        sees = r.sees;
+        set = r.set;
+        type = r.type;
+        masks = (order_iff ns (before own) (after own)).1 r.masks;
+      }
+
+  put_to : (name : ℕ) → mirror.Put core own ns x name → new.Put core own ns x name
+  put_to name r =
+      record {
+        complete = λ i. r.complete (to_incomplete core formed ns x i);
+        first = r.first;
+        second = r.second;
+        children = r.children;
+        value = r.value;
+        is_value = r.is_value;
+        origin = r.origin;
+        is_origin = r.is_origin;
+        of = field_to core r.origin.0 name r.field r.is_field;
+        variable = r.variable;
+        goes = (goes_iff core r.value (r.field.1.entity, r.field.1.cap) formed).0 r.goes;
+        may_enter = (and_parts (fits r.value.1 r.field.1.cap) (enters r.origin.1 r.value.1 r.field.1.cap) r.may).1;
+        old = r.old;
+        takes = r.takes;
+        type = r.type;
+        masks = (order_iff ns (before own) (after own)).0 r.masks;
+      }
+
+  to_put : (name : ℕ) → new.Put core own ns x name → mirror.Put core own ns x name
+  to_put name r =
+      record {
+        complete = λ i. r.complete (incomplete_to core formed ns x i);
+        first = r.first;
+        second = r.second;
+        children = r.children;
+        value = r.value;
+        is_value = r.is_value;
+        origin = r.origin;
+        is_origin = r.is_origin;
+        field = (r.of.number, r.of.field);
+        is_field = to_field core r.origin.0 name formed r.of;
+        variable = r.variable;
+        goes = (goes_iff core r.value (r.of.field.entity, r.of.field.cap) formed).1 r.goes;
+        may = and_from (fits r.value.1 r.of.field.cap) (enters r.origin.1 r.value.1 r.of.field.cap) ((fits_iff r.value.1 r.of.field.cap).1 r.goes.1) r.may_enter;
+        old = r.old;
+        takes = r.takes;
+        type = r.type;
+        masks = (order_iff ns (before own) (after own)).1 r.masks;
+      }
+
+  putown_to : (name : ℕ) → mirror.PutOwn core own ns x name → new.PutOwn core own ns x name
+  putown_to name r =
+      record {
+        incomplete = incomplete_to core formed ns x r.incomplete;
+        of = field_to core r.incomplete.own.entity name r.field (own_at core x name r.incomplete.own r.field r.incomplete.is_own r.is_field);
+        first = r.first;
+        second = r.second;
+        children = r.children;
+        value = r.value;
+        is_value = r.is_value;
+        after_children = r.after_children;
+        in_order = (order_iff ns (before own) r.after_children).0 r.in_order;
+        may = r.may;
+        goes = (goes_iff core r.value (r.field.1.entity, r.field.1.cap) formed).0 r.goes;
+        old = λ h. ((gives_up r.field.1.cap).0, (gives_up r.field.1.cap).1, (choice (has r.after_children.1 r.field.0) (Some (r.field.1.entity, (gives_up r.field.1.cap).0)) None own.ty r.type).0 h);
+        no_old = (choice (has r.after_children.1 r.field.0) (Some (r.field.1.entity, (gives_up r.field.1.cap).0)) None own.ty r.type).1;
+        masks = r.masks;
+      }
+
+  to_putown : (name : ℕ) → new.PutOwn core own ns x name → mirror.PutOwn core own ns x name
+  to_putown name r =
+      record {
+        incomplete = to_incomplete core formed ns x r.incomplete;
+        field = (r.of.number, r.of.field);
+        is_field = at_own core x name r.incomplete.home (r.of.number, r.of.field) r.incomplete.is_home (to_field core r.incomplete.home.entity name formed r.of);
+        first = r.first;
+        second = r.second;
+        children = r.children;
+        value = r.value;
+        is_value = r.is_value;
+        after_children = r.after_children;
+        in_order = (order_iff ns (before own) r.after_children).1 r.in_order;
+        may = r.may;
+        goes = (goes_iff core r.value (r.of.field.entity, r.of.field.cap) formed).1 r.goes;
+        type = chosen (has r.after_children.1 r.of.number) (Some (r.of.field.entity, (gives_up r.of.field.cap).0)) None own.ty (λ h. let q = r.old h in q.2 ∙ ap (λ (g : Form). Some (r.of.field.entity, g)) (same_Some q.0 (gives_up r.of.field.cap).0 (sym q.1 ∙ (gives_up r.of.field.cap).1))) r.no_old;
+        masks = r.masks;
+      }
+
+  new_to : (k : ℕ) → mirror.New core own ns k → new.New core own ns k
+  new_to k r =
+      record {
+        called = r.called;
+        is_called = r.is_called;
+        go = go_to core formed ns r.called.params r.go;
+        type = r.type;
+        masks = (order_iff ns (before own) (after own)).0 r.masks;
+      }
+
+  to_new : (k : ℕ) → new.New core own ns k → mirror.New core own ns k
+  to_new k r =
+      record {
+        called = r.called;
+        is_called = r.is_called;
+        go = to_go core formed ns r.called.params r.go;
+        type = r.type;
+        masks = (order_iff ns (before own) (after own)).1 r.masks;
+      }
+
+  spawn_to : (k : ℕ) → mirror.Spawn core own ns k → new.Spawn core own ns k
+  spawn_to k r =
+      record {
+        called = r.called;
+        is_called = r.is_called;
+        go = go_to core formed ns r.called.params r.go;
+        type = r.type;
+        masks = (order_iff ns (before own) (after own)).0 r.masks;
+      }
+
+  to_spawn : (k : ℕ) → new.Spawn core own ns k → mirror.Spawn core own ns k
+  to_spawn k r =
+      record {
+        called = r.called;
+        is_called = r.is_called;
+        go = to_go core formed ns r.called.params r.go;
+        type = r.type;
+        masks = (order_iff ns (before own) (after own)).1 r.masks;
+      }
+
+  call_to : (name : ℕ) → mirror.Call core own ns name → new.Call core own ns name
+  call_to name r =
+      record {
+        call = called_to core formed ns name r.call;
+        function = r.function;
+        go = go_to core formed r.call.arguments r.call.called.params r.go;
+        fit = (fits_iff r.call.to.1 r.call.called.receiver).0 r.fit;
+        type = r.type;
+        masks = (order_iff ns (before own) (after own)).0 r.masks;
+      }
+
+  to_call : (name : ℕ) → new.Call core own ns name → mirror.Call core own ns name
+  to_call name r =
+      record {
+        call = to_called core formed ns name r.call;
+        function = r.function;
+        go = to_go core formed r.call.arguments r.call.called.params r.go;
+        fit = (fits_iff r.call.to.1 r.call.called.receiver).1 r.fit;
+        type = r.type;
+        masks = (order_iff ns (before own) (after own)).1 r.masks;
+      }
+
+  callrecover_to : (name : ℕ) → mirror.CallRecover core own ns name → new.CallRecover core own ns name
+  callrecover_to name r =
+      record {
+        call = called_to core formed ns name r.call;
+        function = r.function;
+        go = go_to core formed r.call.arguments r.call.called.params r.go;
+        no_fit = λ p. false_true (sym r.no_fit ∙ (fits_iff r.call.to.1 r.call.called.receiver).1 p);
+        isolated = r.isolated;
+        lent = r.lent;
+        may_go = (sendable_iff r.call.arguments r.call.called.params).0 r.may_go;
+        result = (choice (sendable_form r.call.called.result.1) (Some r.call.called.result) None own.ty r.type).0;
+        no_result = (choice (sendable_form r.call.called.result.1) (Some r.call.called.result) None own.ty r.type).1;
+        masks = (order_iff ns (before own) (after own)).0 r.masks;
+      }
+
+  to_callrecover : (name : ℕ) → new.CallRecover core own ns name → mirror.CallRecover core own ns name
+  to_callrecover name r =
+      record {
+        call = to_called core formed ns name r.call;
+        function = r.function;
+        go = to_go core formed r.call.arguments r.call.called.params r.go;
+        no_fit = not_so (fits r.call.to.1 r.call.called.receiver) (λ e. r.no_fit ((fits_iff r.call.to.1 r.call.called.receiver).0 e));
+        isolated = r.isolated;
+        lent = r.lent;
+        may_go = (sendable_iff r.call.arguments r.call.called.params).1 r.may_go;
+        type = chosen (sendable_form r.call.called.result.1) (Some r.call.called.result) None own.ty r.result r.no_result;
+        masks = (order_iff ns (before own) (after own)).1 r.masks;
+      }
+
+  send_to : (name : ℕ) → mirror.Send core own ns name → new.Send core own ns name
+  send_to name r =
+      record {
+        call = called_to core formed ns name r.call;
+        behaviour = r.behaviour;
+        go = go_to core formed r.call.arguments r.call.called.params r.go;
+        type = r.type;
+        masks = (order_iff ns (before own) (after own)).0 r.masks;
+      }
+
+  to_send : (name : ℕ) → new.Send core own ns name → mirror.Send core own ns name
+  to_send name r =
+      record {
+        call = to_called core formed ns name r.call;
+        behaviour = r.behaviour;
+        go = to_go core formed r.call.arguments r.call.called.params r.go;
+        type = r.type;
+        masks = (order_iff ns (before own) (after own)).1 r.masks;
+      }
+
+  builtin_to : (name : ℕ) → mirror.Builtin core own ns name → new.Builtin core own ns name
+  builtin_to name r =
+      record {
+        child = r.child;
+        children = r.children;
+        is_string = r.is_string;
+        reads = (either_reads 1 2 r.child.ty).0 r.reads;
+        type = r.type;
+        masks = (order_iff ns (before own) (after own)).0 r.masks;
+      }
+
+  to_builtin : (name : ℕ) → new.Builtin core own ns name → mirror.Builtin core own ns name
+  to_builtin name r =
+      record {
+        child = r.child;
+        children = r.children;
+        is_string = r.is_string;
+        reads = (either_reads 1 2 r.child.ty).1 r.reads;
+        type = r.type;
+        masks = (order_iff ns (before own) (after own)).1 r.masks;
+      }
+
+  operator_to : (e d : ℕ) → mirror.BothRead e ns → own.ty ≡ Some (d, form.Val) → mirror.OneAfterOther ns (before own) (after own) → new.Operator own ns e d
+  operator_to e d r t m =
+      record { left = r.0; right = r.1; children = r.2; left_reads = (reads_iff e r.0.ty).0 r.3; right_reads = (reads_iff e r.1.ty).0 r.4; type = t; masks = (order_iff ns (before own) (after own)).0 m }
+
+  to_both : (e d : ℕ) → new.Operator own ns e d → mirror.BothRead e ns
+  to_both e d r = (r.left, r.right, r.children, (reads_iff e r.left.ty).1 r.left_reads, (reads_iff e r.right.ty).1 r.right_reads)
+
+  arith_to : (o : Op) → mirror.Arith own ns o → new.IsOneOf new.arithmetic o × new.Operator own ns 1 1
+  arith_to o r = ((arithmetic_iff o).0 r.operator, operator_to 1 1 r.both r.type r.masks)
+
+  to_arith : (o : Op) → new.IsOneOf new.arithmetic o × new.Operator own ns 1 1 → mirror.Arith own ns o
+  to_arith o m = record { operator = (arithmetic_iff o).1 m.0; both = to_both 1 1 m.1; type = m.1.type; masks = (order_iff ns (before own) (after own)).1 m.1.masks }
+
+  compare_to : (o : Op) → mirror.Compare own ns o → new.IsOneOf new.comparisons o × new.Operator own ns 1 2
+  compare_to o r = ((comparison_iff o).0 r.operator, operator_to 1 2 r.both r.type r.masks)
+
+  to_compare : (o : Op) → new.IsOneOf new.comparisons o × new.Operator own ns 1 2 → mirror.Compare own ns o
+  to_compare o m = record { operator = (comparison_iff o).1 m.0; both = to_both 1 2 m.1; type = m.1.type; masks = (order_iff ns (before own) (after own)).1 m.1.masks }
+
+  join_to : (o : Op) → mirror.Join own ns o → (o ≡ op.Add) × new.Operator own ns 3 3
+  join_to o r = ((add_iff o).0 r.operator, operator_to 3 3 r.both r.type r.masks)
+
+  to_join : (o : Op) → (o ≡ op.Add) × new.Operator own ns 3 3 → mirror.Join own ns o
+  to_join o m = record { operator = (add_iff o).1 m.0; both = to_both 3 3 m.1; type = m.1.type; masks = (order_iff ns (before own) (after own)).1 m.1.masks }
+
+  xor_to : (o : Op) → mirror.Xor own ns o → (o ≡ op.Xor) × new.Operator own ns 2 2
+  xor_to o r = ((xor_iff o).0 r.operator, operator_to 2 2 r.both r.type r.masks)
+
+  to_xor : (o : Op) → (o ≡ op.Xor) × new.Operator own ns 2 2 → mirror.Xor own ns o
+  to_xor o m = record { operator = (xor_iff o).1 m.0; both = to_both 2 2 m.1; type = m.1.type; masks = (order_iff ns (before own) (after own)).1 m.1.masks }
+
+  abbrev Equals : Type 0
+  Equals = new.Operator own ns 1 2 ⊎ (new.Operator own ns 2 2 ⊎ new.Operator own ns 3 2)
+
+  equal_to : (o : Op) → mirror.Equal own ns o → new.IsOneOf new.equalities o × Equals
+  equal_to o r = (
+    (equality_iff o).0 r.operator,
+    elim r.both [
+      | inl b ↦ inl (operator_to 1 2 b r.type r.masks)
+      | inr h ↦ elim h [ inl b ↦ inr (inl (operator_to 2 2 b r.type r.masks)) | inr b ↦ inr (inr (operator_to 3 2 b r.type r.masks)) ]
+    ],
+  )
+
+  equals : (o : Op) (e : ℕ) → is_equality o ≡ true → mirror.BothRead 1 ns ⊎ (mirror.BothRead 2 ns ⊎ mirror.BothRead 3 ns) → new.Operator own ns e 2 → mirror.Equal own ns o
+  equals o e t b r = record { operator = t; both = b; type = r.type; masks = (order_iff ns (before own) (after own)).1 r.masks }
+
+  to_equal : (o : Op) → new.IsOneOf new.equalities o × Equals → mirror.Equal own ns o
+  to_equal o m =
+      let t = (equality_iff o).1 m.0 in
+      elim m.1 [
+        | inl r ↦ equals o 1 t (inl (to_both 1 2 r)) r
+        | inr h ↦ elim h [ inl r ↦ equals o 2 t (inr (inl (to_both 2 2 r))) r | inr r ↦ equals o 3 t (inr (inr (to_both 3 2 r))) r ]
+      ]
+
+  not_to : mirror.Not own ns → new.Not own ns
+  not_to r =
+      record {
+        child = r.child;
+        children = r.children;
+        reads = (reads_iff 2 r.child.ty).0 r.reads;
+        type = r.type;
+        masks = (order_iff ns (before own) (after own)).0 r.masks;
+      }
+
+  to_not : new.Not own ns → mirror.Not own ns
+  to_not r =
+      record {
+        child = r.child;
+        children = r.children;
+        reads = (reads_iff 2 r.child.ty).1 r.reads;
+        type = r.type;
+        masks = (order_iff ns (before own) (after own)).1 r.masks;
+      }
+
+  lazy_to : mirror.Lazy own ns → new.Lazy own ns
+  lazy_to r =
+      record {
+        left = r.left;
+        right = r.right;
+        children = r.children;
+        left_reads = (reads_iff 2 r.left.ty).0 r.left_reads;
+        right_reads = (reads_iff 2 r.right.ty).0 r.right_reads;
+        type = r.type;
+        left_starts = r.starts;
+        right_starts = r.goes_on;
+        masks = r.masks;
+      }
+
+  to_lazy : new.Lazy own ns → mirror.Lazy own ns
+  to_lazy r =
+      record {
+        left = r.left;
+        right = r.right;
+        children = r.children;
+        left_reads = (reads_iff 2 r.left.ty).1 r.left_reads;
+        right_reads = (reads_iff 2 r.right.ty).1 r.right_reads;
+        type = r.type;
+        starts = r.left_starts;
+        goes_on = r.right_starts;
+        masks = r.masks;
+      }
+
+  identity_to : mirror.Identity own ns → new.Identity own ns
+  identity_to r =
+      record {
+        left = r.left;
+        right = r.right;
+        children = r.children;
+        left_type = r.left_type;
+        is_left = r.is_left;
+        right_type = r.right_type;
+        is_right = r.is_right;
+        type = r.type;
+        masks = (order_iff ns (before own) (after own)).0 r.masks;
+      }
+
+  to_identity : new.Identity own ns → mirror.Identity own ns
+  to_identity r =
+      record {
+        left = r.left;
+        right = r.right;
+        children = r.children;
+        left_type = r.left_type;
+        is_left = r.is_left;
+        right_type = r.right_type;
+        is_right = r.is_right;
+        type = r.type;
+        masks = (order_iff ns (before own) (after own)).1 r.masks;
+      }
+
+  seq_to : mirror.Seq core own ns x → new.Seq core own ns x
+  seq_to r =
+      record {
+        front = r.front;
+        last = r.last;
+        children = r.children;
+        type = r.type;
+        after_children = r.after_children;
+        in_order = (order_iff ns (before own) r.after_children).0 r.in_order;
+        live = ends_to core x.children r.after_children.0 own.live_after (ap (λ (m : Masks). m.0) r.masks);
+        set = ap (λ (m : Masks). m.1) r.masks;
+      }
+
+  to_seq : new.Seq core own ns x → mirror.Seq core own ns x
+  to_seq r =
+      record {
+        front = r.front;
+        last = r.last;
+        children = r.children;
+        type = r.type;
+        after_children = r.after_children;
+        in_order = (order_iff ns (before own) r.after_children).1 r.in_order;
+        masks = both_masks own.live_after (without_items core x.children r.after_children.0) own.set_after r.after_children.1 (to_ends core x.children r.after_children.0 own.live_after r.live) r.set;
+      }
+
+  if_to : mirror.If core own ns → new.If core own ns
+  if_to r =
+      record {
+        condition = r.condition;
+        first = r.yes;
+        second = r.no;
+        children = r.children;
+        reads = (reads_iff 2 r.condition.ty).0 r.reads;
+        type = joined_to core formed r.yes.ty r.no.ty own.ty r.type;
+        condition_starts = r.starts;
+        first_starts = r.yes_starts;
+        second_starts = r.no_starts;
+        masks = r.masks;
+      }
+
+  to_if : new.If core own ns → mirror.If core own ns
+  to_if r =
+      record {
+        condition = r.condition;
+        yes = r.first;
+        no = r.second;
+        children = r.children;
+        reads = (reads_iff 2 r.condition.ty).1 r.reads;
+        type = to_joined core formed r.first.ty r.second.ty own.ty r.type;
+        starts = r.condition_starts;
+        yes_starts = r.first_starts;
+        no_starts = r.second_starts;
+        masks = r.masks;
+      }
+
+  while_to : mirror.While own ns → new.While own ns
+  while_to r =
+      record {
+        condition = r.condition;
+        body = r.body;
+        children = r.children;
+        reads = (reads_iff 2 r.condition.ty).0 r.reads;
+        type = r.type;
+        condition_starts = r.starts;
+        body_starts = r.body_starts;
+        keeps_live = (within_bits own.live_before r.body.live_after).0 r.keeps;
+        keeps_set = r.same_set;
+        masks = r.masks;
+      }
+
+  to_while : new.While own ns → mirror.While own ns
+  to_while r =
+      record {
+        condition = r.condition;
+        body = r.body;
+        children = r.children;
+        reads = (reads_iff 2 r.condition.ty).1 r.reads;
+        type = r.type;
+        starts = r.condition_starts;
+        body_starts = r.body_starts;
+        keeps = (within_bits own.live_before r.body.live_after).1 r.keeps_live;
+        same_set = r.keeps_set;
+        masks = r.masks;
+      }
+
+  recover_to : (k : Option Cap) → mirror.Recover own ns k → new.Recover own ns k
+  recover_to k r =
+      record {
+        child = r.child;
+        children = r.children;
+        value = r.value;
+        is_value = r.is_value;
+        lifted = r.lifted;
+        recovers = recovers_to k r.value.1 r.lifted r.is_lifted;
+        type = r.type;
+        masks = (order_iff ns (before own) (after own)).0 r.masks;
+      }
+
+  to_recover : (k : Option Cap) → new.Recover own ns k → mirror.Recover own ns k
+  to_recover k r =
+      record {
+        child = r.child;
+        children = r.children;
+        value = r.value;
+        is_value = r.is_value;
+        lifted = r.lifted;
+        is_lifted = to_recovers k r.value.1 r.lifted r.recovers;
+        type = r.type;
+        masks = (order_iff ns (before own) (after own)).1 r.masks;
+      }
+
+  body_to : mirror.Body core own ns x → new.Body core own ns x
+  body_to r =
+      record {
+        home = r.home;
+        is_home = r.is_home;
+        child = r.child;
+        children = r.children;
+        live = r.live;
+        set = starts_to core r.home own.set_before r.set;
+        result = λ k. let q = r.result k in (q.0, q.1, (lower_iff core q.0 r.home.result formed).0 q.2);
+        type = r.type;
+        masks = (order_iff ns (before own) (after own)).0 r.masks;
+      }
+
+  to_body : new.Body core own ns x → mirror.Body core own ns x
+  to_body r =
+      record {
+        home = r.home;
+        is_home = r.is_home;
+        child = r.child;
+        children = r.children;
+        live = r.live;
+        set = to_starts core x.method r.home own.set_before formed r.is_home r.set;
+        result = λ k. let q = r.result k in (q.0, q.1, (lower_iff core q.0 r.home.result formed).1 q.2);
+        type = r.type;
+        masks = (order_iff ns (before own) (after own)).1 r.masks;
+      }
+
+-- ---- every rule
+
+pub means_to : (core : CoreData) (formed : Formed core) (slots : Slots) (own : Note) (ns : List Note) (x : Node) (r : Rule) (k : NodeKind) → mirror.Means core slots own ns x r k → new.Means core slots own ns x r k
+means_to core formed slots own ns x rule.Number (node.Number v) m = literal_to core formed slots own ns x 1 m
+means_to core formed slots own ns x rule.Truth (node.Truth v) m = literal_to core formed slots own ns x 2 m
+means_to core formed slots own ns x rule.Text (node.Text v) m = literal_to core formed slots own ns x 3 m
+means_to core formed slots own ns x rule.Prim (node.Prim e) m = literal_to core formed slots own ns x e m
+means_to core formed slots own ns x rule.This node.This m = this_to core formed slots own ns x m
+means_to core formed slots own ns x rule.Local (node.Local s) m = local_to core formed slots own ns x s m
+means_to core formed slots own ns x rule.Consume (node.Consume s) m = consume_to core formed slots own ns x s m
+means_to core formed slots own ns x rule.Get (node.Field name) m = get_to core formed slots own ns x name m
+means_to core formed slots own ns x rule.GetOwn (node.Field name) m = getown_to core formed slots own ns x name m
+means_to core formed slots own ns x rule.Put (node.SetField name) m = put_to core formed slots own ns x name m
+means_to core formed slots own ns x rule.PutOwn (node.SetField name) m = putown_to core formed slots own ns x name m
+means_to core formed slots own ns x rule.Define (node.Define s) m = define_to core formed slots own ns x s m
+means_to core formed slots own ns x rule.Assign (node.Assign s) m = assign_to core formed slots own ns x s m
+means_to core formed slots own ns x rule.New (node.New k) m = new_to core formed slots own ns x k m
+means_to core formed slots own ns x rule.Spawn (node.Spawn k) m = spawn_to core formed slots own ns x k m
+means_to core formed slots own ns x rule.Call (node.Call name) m = call_to core formed slots own ns x name m
+means_to core formed slots own ns x rule.CallRecover (node.Call name) m = callrecover_to core formed slots own ns x name m
+means_to core formed slots own ns x rule.Send (node.Call name) m = send_to core formed slots own ns x name m
+means_to core formed slots own ns x rule.Builtin (node.Call name) m = builtin_to core formed slots own ns x name m
+means_to core formed slots own ns x rule.Arith (node.Binary o) m = arith_to core formed slots own ns x o m
+means_to core formed slots own ns x rule.Compare (node.Binary o) m = compare_to core formed slots own ns x o m
+means_to core formed slots own ns x rule.Equal (node.Binary o) m = equal_to core formed slots own ns x o m
+means_to core formed slots own ns x rule.Join (node.Binary o) m = join_to core formed slots own ns x o m
+means_to core formed slots own ns x rule.Logic (node.Binary o) m = xor_to core formed slots own ns x o m
+means_to core formed slots own ns x rule.Logic node.Not m = not_to core formed slots own ns x m
+means_to core formed slots own ns x rule.Lazy node.And m = lazy_to core formed slots own ns x m
+means_to core formed slots own ns x rule.Lazy node.Or m = lazy_to core formed slots own ns x m
+means_to core formed slots own ns x rule.Identity (node.Same v) m = identity_to core formed slots own ns x m
+means_to core formed slots own ns x rule.Seq node.Seq m = seq_to core formed slots own ns x m
+means_to core formed slots own ns x rule.If node.If m = if_to core formed slots own ns x m
+means_to core formed slots own ns x rule.While node.While m = while_to core formed slots own ns x m
+means_to core formed slots own ns x rule.Recover (node.Recover k) m = recover_to core formed slots own ns x k m
+means_to core formed slots own ns x rule.Body node.Body m = body_to core formed slots own ns x m
+means_to core formed slots own ns x r k m = absurd m
+
+pub to_means : (core : CoreData) (formed : Formed core) (slots : Slots) (own : Note) (ns : List Note) (x : Node) (r : Rule) (k : NodeKind) → new.Means core slots own ns x r k → mirror.Means core slots own ns x r k
+to_means core formed slots own ns x rule.Number (node.Number v) m = to_literal core formed slots own ns x 1 m
+to_means core formed slots own ns x rule.Truth (node.Truth v) m = to_literal core formed slots own ns x 2 m
+to_means core formed slots own ns x rule.Text (node.Text v) m = to_literal core formed slots own ns x 3 m
+to_means core formed slots own ns x rule.Prim (node.Prim e) m = to_literal core formed slots own ns x e m
+to_means core formed slots own ns x rule.This node.This m = to_this core formed slots own ns x m
+to_means core formed slots own ns x rule.Local (node.Local s) m = to_local core formed slots own ns x s m
+to_means core formed slots own ns x rule.Consume (node.Consume s) m = to_consume core formed slots own ns x s m
+to_means core formed slots own ns x rule.Get (node.Field name) m = to_get core formed slots own ns x name m
+to_means core formed slots own ns x rule.GetOwn (node.Field name) m = to_getown core formed slots own ns x name m
+to_means core formed slots own ns x rule.Put (node.SetField name) m = to_put core formed slots own ns x name m
+to_means core formed slots own ns x rule.PutOwn (node.SetField name) m = to_putown core formed slots own ns x name m
+to_means core formed slots own ns x rule.Define (node.Define s) m = to_define core formed slots own ns x s m
+to_means core formed slots own ns x rule.Assign (node.Assign s) m = to_assign core formed slots own ns x s m
+to_means core formed slots own ns x rule.New (node.New k) m = to_new core formed slots own ns x k m
+to_means core formed slots own ns x rule.Spawn (node.Spawn k) m = to_spawn core formed slots own ns x k m
+to_means core formed slots own ns x rule.Call (node.Call name) m = to_call core formed slots own ns x name m
+to_means core formed slots own ns x rule.CallRecover (node.Call name) m = to_callrecover core formed slots own ns x name m
+to_means core formed slots own ns x rule.Send (node.Call name) m = to_send core formed slots own ns x name m
+to_means core formed slots own ns x rule.Builtin (node.Call name) m = to_builtin core formed slots own ns x name m
+to_means core formed slots own ns x rule.Arith (node.Binary o) m = to_arith core formed slots own ns x o m
+to_means core formed slots own ns x rule.Compare (node.Binary o) m = to_compare core formed slots own ns x o m
+to_means core formed slots own ns x rule.Equal (node.Binary o) m = to_equal core formed slots own ns x o m
+to_means core formed slots own ns x rule.Join (node.Binary o) m = to_join core formed slots own ns x o m
+to_means core formed slots own ns x rule.Logic (node.Binary o) m = to_xor core formed slots own ns x o m
+to_means core formed slots own ns x rule.Logic node.Not m = to_not core formed slots own ns x m
+to_means core formed slots own ns x rule.Lazy node.And m = to_lazy core formed slots own ns x m
+to_means core formed slots own ns x rule.Lazy node.Or m = to_lazy core formed slots own ns x m
+to_means core formed slots own ns x rule.Identity (node.Same v) m = to_identity core formed slots own ns x m
+to_means core formed slots own ns x rule.Seq node.Seq m = to_seq core formed slots own ns x m
+to_means core formed slots own ns x rule.If node.If m = to_if core formed slots own ns x m
+to_means core formed slots own ns x rule.While node.While m = to_while core formed slots own ns x m
+to_means core formed slots own ns x rule.Recover (node.Recover k) m = to_recover core formed slots own ns x k m
+to_means core formed slots own ns x rule.Body node.Body m = to_body core formed slots own ns x m
+to_means core formed slots own ns x r k m = absurd m
+
+pub rules_say_what_is_meant : SaysWhatIsMeant
+rules_say_what_is_meant core formed slots own ns x r k = (
+  λ h. means_to core formed slots own ns x r k ((rules_are_records core slots own ns x r k).0 h),
+  λ h. (rules_are_records core slots own ns x r k).1 (to_means core formed slots own ns x r k h),
+)
