@@ -18,9 +18,9 @@ use Rattle.pc_core.specs.Formed.{Formed}
 use Rattle.pc_ann.specs.declared.annotation.Note.{Note}
 use Rattle.pc_ann.specs.declared.annotation.Ann.{Ann}
 use Rattle.pc_valid.specs.Words.{Masks, before, after}
-use Rattle.pc_valid.specs.Valid.{KeepsWritten, DifferAt}
+use Rattle.pc_valid.specs.Valid.{KeepsWritten, DifferAt, Valid}
 use Rattle.pc_rules.specs.Rules.{says, said_by, IsSaid}
-use Rattle.pc_rules.specs.Checks.{Checks, StartsFrom, GoesWell, is_else}
+use Rattle.pc_rules.specs.Checks.{Checks, StartsFrom, GoesWell, SaysNothing, StaysUnset, is_else}
 use Rattle.pc_rules.specs.Checks.StartsFrom.{body, first_child, else_branch, next_child}
 use Rattle.pc_rules.specs.Trees.{Tree, Forest, tree, empty, more, tree_le}
 use Rattle.pc_rules.proofs.Homes.{own_tree, children_of, children_before}
@@ -31,6 +31,7 @@ use Rattle.pc_rules.proofs.Alike.{looked_at, LooksAlike, slot_same, says_same}
 use Rattle.pc_rules.proofs.Agreeing.{Agree, body_says_at, body_starts, node_step, this_alike, use_alike}
 use Rattle.pc_sub.specs.Faults.{faulted}
 use Rattle.pc_rules.specs.Statements.{OneValid}
+use Rattle.pc_rules.proofs.Derivations.{to_valid, to_no_rule, to_unset}
 use Rattle.pc_check.specs.declared.fault.CheckFault.{CheckFault}
 use Rattle.pc_check.specs.declared.fault.CheckFault.TheVariants as fault_of
 use Rattle.pc_check.specs.Faults.{Refuses, Answers}
@@ -223,8 +224,8 @@ module _ (core : CoreData) (b : Ann) (formed : Formed core) (wb : KeepsWritten c
 
 -- ---- none is valid
 
-pub none_without_rule : NoneWithoutRule
-none_without_rule core a n formed w d =
+nothing_said : (core : CoreData) (a : Ann) (n : ℕ) → Formed core → SaysNothing core a n → (d : (b : Ann) × Checks core b) → ⊥
+nothing_said core a n formed w d =
     let l = get_below core.nodes n w.at w.is_at in
     let same = agree_up core d.0 formed d.1 a w.written n (omega (arith, l)) w.before in
     let t = note_at core d.0 formed d.1 n w.at w.is_at in
@@ -232,24 +233,30 @@ none_without_rule core a n formed w d =
     let c = chosen core d.0 formed d.1.written d.1.slots a w.written n w.at w.at.kind w.slots same w.is_at refl in
     none-some _ (sym (w.none t.0.rule c.0 c.1) ∙ says_there core d.0 formed d.1.written d.1.slots a w.written n w.at w.masks t.0 same w.is_at (valid_meets core d.0 n w.at t.0 d.1 w.is_at t.1) start c)
 
-pub none_with_unset : NoneWithUnset
-none_with_unset core a m formed w d =
+pub none_without_rule : NoneWithoutRule
+none_without_rule core a n formed w d = nothing_said core a n formed (to_no_rule core formed a n w) (d.0, to_valid core formed d.0 d.1)
+
+nothing_left : (core : CoreData) (a : Ann) (m : ℕ) → Formed core → StaysUnset core a m → (d : (b : Ann) × Checks core b) → ⊥
+nothing_left core a m formed w d =
     let fit = (formed.methods m w.method w.is_method).body w.body w.is_body in
     let l = get_below core.nodes w.body fit.root fit.is_root in
     let same = agree_up core d.0 formed d.1 a w.written (w.body + 1) (omega (arith, l)) (λ k h. w.before k (omega (arith, h))) in
     let there : slice_get d.0.notes w.body ≡ Some w.note = sym (same.notes w.body (omega arith)) ∙ w.is_note in
     false_true (sym w.lacks ∙ d.1.sets m w.method w.is_method w.constructor w.body w.note w.is_body there)
 
+pub none_with_unset : NoneWithUnset
+none_with_unset core a m formed w d = nothing_left core a m formed (to_unset core formed a m w) (d.0, to_valid core formed d.0 d.1)
+
 pub none_with_fault : NoneWithFault
 none_with_fault core fault formed e d = faulted core fault formed e d.1.declarations
 
--- What is answered where an annotation is valid.
-pub one_answer : (core : CoreData) (fault : CheckFault) (ann : Ann) → Formed core → Checks core ann → Refuses core fault → fault ≡ fault_of.Memory
+-- What is answered if an annotation is valid.
+pub one_answer : (core : CoreData) (fault : CheckFault) (ann : Ann) → Formed core → Valid core ann → Refuses core fault → fault ≡ fault_of.Memory
 one_answer core (fault_of.Decl f) ann formed v h = absurd (none_with_fault core f formed h (ann, v))
 one_answer core (fault_of.NoRule n l s so_far) ann formed v h = absurd (none_without_rule core so_far n formed h.0 (ann, v))
 one_answer core (fault_of.Unset m so_far) ann formed v h = absurd (none_with_unset core so_far m formed h.0 (ann, v))
 one_answer core fault_of.Memory ann formed v h = refl
 
-pub exact : (core : CoreData) (result : Result Ann CheckFault) (ann : Ann) → Formed core → OneValid → IfOk result (Checks core) → IfErr result (Refuses core) → Checks core ann → Answers result (Ok ann)
+pub exact : (core : CoreData) (result : Result Ann CheckFault) (ann : Ann) → Formed core → OneValid → IfOk result (Valid core) → IfErr result (Refuses core) → Valid core ann → Answers result (Ok ann)
 exact core (Ok answer) ann formed one ok err v = inl (ap Ok (one core answer ann formed ok v))
 exact core (Err fault) ann formed one ok err v = inr (ap Err (one_answer core fault ann formed v err))

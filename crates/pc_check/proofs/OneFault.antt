@@ -23,6 +23,7 @@ use Rattle.pc_core.proofs.Homes.{Home, home}
 use Rattle.pc_rules.proofs.Homes.{home_body, own_tree, children_of, children_before}
 use Rattle.pc_lists.proofs.Bools.{false_true}
 use Rattle.pc_rules.proofs.Agreeing.{Agree, node_step}
+use Rattle.pc_rules.proofs.Derivations.{to_no_rule, to_unset, to_reached}
 use Rattle.pc_check.specs.Laws.{OneNode, OneConstructor, OneKindOfFault, PrefixesAgree}
 use Rattle.pc_check.proofs.Filling.{low_at, tree_at, low_le}
 use Rattle.pc_check.proofs.Parents.{earlier_body}
@@ -213,8 +214,8 @@ no_note core a b n formed w sb wb h =
     let c = chosen core b formed wb sb a w.written n w.at w.at.kind w.slots same w.is_at refl in
     none-some _ (sym (w.none s.1.rule c.0 c.1) ∙ says_there core b formed wb sb a w.written n w.at w.masks s.1 same w.is_at meets start c)
 
-pub one_node : OneNode
-one_node core a b n k formed w v =
+node_alike : (core : CoreData) (a b : Ann) (n k : ℕ) → Formed core → SaysNothing core a n → SaysNothing core b k → n ≡ k
+node_alike core a b n k formed w v =
     elim (cases_order n k) [
       | inl same ↦ same
       | inr other ↦ elim other [
@@ -222,6 +223,9 @@ one_node core a b n k formed w v =
         | inr l ↦ absurd (no_note core b a k formed v w.slots w.written (λ i m. w.before i (omega (arith, l, m))))
       ]
     ]
+
+pub one_node : OneNode
+one_node core a b n k formed w v = node_alike core a b n k formed (to_no_rule core formed a n w) (to_no_rule core formed b k v)
 
 -- A constructor that leaves a field unset in one does not set them all in the other.
 not_set : (core : CoreData) (a b : Ann) (m : ℕ) → Formed core → (w : StaysUnset core a m) → KeepsWritten core b → ((k : ℕ) → k ≤ w.body → GoesWell core b k) → FillsFields core b w.method → ⊥
@@ -235,19 +239,26 @@ earlier core a b m k formed w v l =
     let e = earlier_body core m k w.body v.body w.method v.method formed l w.is_method v.is_method w.is_body v.is_body in
     not_set core a b m formed w v.written (λ i h. v.before i (omega (arith, h, e))) (v.sets m w.method w.is_method l)
 
-pub one_constructor : OneConstructor
-one_constructor core a b m k formed w v =
+constructor_alike : (core : CoreData) (a b : Ann) (m k : ℕ) → Formed core → StaysUnset core a m → StaysUnset core b k → m ≡ k
+constructor_alike core a b m k formed w v =
     elim (cases_order m k) [
       | inl same ↦ same
       | inr other ↦ elim other [ inl l ↦ absurd (earlier core a b m k formed w v l) | inr l ↦ absurd (earlier core b a k m formed v w l) ]
     ]
 
-pub one_kind : OneKindOfFault
-one_kind core a b n m formed w v =
+pub one_constructor : OneConstructor
+one_constructor core a b m k formed w v = constructor_alike core a b m k formed (to_unset core formed a m w) (to_unset core formed b k v)
+
+not_both : (core : CoreData) (a b : Ann) (n m : ℕ) → Formed core → SaysNothing core a n → StaysUnset core b m → ⊥
+not_both core a b n m formed w v =
     elim (cases_lt v.body n) [
       | inl below ↦ not_set core b a m formed v w.written (λ k l. w.before k (omega (arith, l, below))) (w.sets m v.method v.is_method (λ c e. let is = same_Some v.body c (sym v.is_body ∙ e) in omega (arith, is, below)))
       | inr at ↦ no_note core a b n formed w v.slots v.written (λ k l. v.before k (omega (arith, l, at)))
     ]
 
+pub one_kind : OneKindOfFault
+one_kind core a b n m formed w v = not_both core a b n m formed (to_no_rule core formed a n w) (to_unset core formed b m v)
+
 pub prefixes_same : PrefixesAgree
-prefixes_same core a b n k formed wa wb h i l = (agree_both core a b formed wa wb n h i).notes k l
+prefixes_same core a b n k formed wa wb h i l =
+    (agree_both core a b formed wa wb n (λ j m. to_reached core formed a j (h j m)) (λ j m. to_reached core formed b j (i j m))).notes k l

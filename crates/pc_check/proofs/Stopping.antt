@@ -30,6 +30,7 @@ use Rattle.pc_valid.specs.Valid.{Infers, DifferAt}
 use Rattle.pc_rules.specs.Values.{defined_type}
 use Rattle.pc_rules.specs.Rules.{says, IsSaid}
 use Rattle.pc_rules.specs.Checks.{StartsFrom}
+use Rattle.pc_rules.proofs.Derivations.{no_rule_to, unset_to}
 use Rattle.pc_rules.proofs.Alike.{looked_at, LooksAlike, slot_same, says_same}
 use Rattle.pc_lists.proofs.Bools.{false_true}
 use Rattle.pc_rules.proofs.OneRule.{define_rule}
@@ -173,7 +174,7 @@ ready core sources a b n x s m formed sourced w g e me be =
 
 stop_at : (core : CoreData) (a : Ann) (n : ℕ) (x : Node) (m : Masks) → Formed core → DeclOk core → length a.slots ≡ length core.slots → slice_get core.nodes n ≡ Some x → Walked core (with_inferred core a x) n → StartsFrom core (with_inferred core a x) n m → first_note core (with_inferred core a x) x m (rules_for x.kind) ≡ None → StopsAt core n m (with_inferred core a x)
 stop_at core a n x m formed ok count g w r e = (
-  record {
+  no_rule_to core formed (with_inferred core a x) n (record {
     declarations = ok;
     slots = w.slots;
     written = w.written;
@@ -185,7 +186,7 @@ stop_at core a n x m formed ok count g w r e = (
     reaches = r;
     none = λ k slots d. subst (λ ts. says core (record { slots = slots; notes = ts }) x m k x.kind ≡ None) (sym (with_notes a (inferred_slot core a x x.kind)))
         (none_with core a n x formed g count slots m k (inferred_slot core a x x.kind) refl (no_rule_says core (with_inferred core a x) x m e k) d);
-  },
+  }),
   refl,
   w.notes,
 )
@@ -216,7 +217,7 @@ leaves core b n x t formed ok g w meets r e =
     let is : slice_get core.methods x.method ≡ Some h.method = ap (slice_get core.methods) own ∙ h.is_method in
     let l = lacks_inv core (slice_get core.methods x.method) h.method t is p.1 in
     let body : h.method.body ≡ Some n = h.is_body ∙ ap Some (sym at) in (
-      record {
+      unset_to core formed (noted b t) x.method (record {
         declarations = ok;
         slots = w.slots;
         written = w.written;
@@ -230,6 +231,6 @@ leaves core b n x t formed ok g w meets r e =
         is_note = note_here b t n w.notes;
         lacks = l.1;
         sets = λ k f i below. sets_noted core b n t w k f i (λ c ce. earlier_body core k x.method c n f h.method formed below i is ce body);
-      },
+      }),
       let count = w.notes in omega (arith, count, length-append b.notes (t ∷ [])),
     )

@@ -23,7 +23,9 @@ use Rattle.pc_rules.specs.declared.said.Said.{Said}
 use Rattle.pc_rules.specs.Parts.{constructs, full}
 use Rattle.pc_valid.specs.Words.{Masks, before}
 use Rattle.pc_rules.specs.Rules.{says, IsSaid}
-use Rattle.pc_rules.specs.Checks.{Checks, FillsFields, StartsFrom, GoesWell}
+use Rattle.pc_valid.specs.Valid.{Valid}
+use Rattle.pc_rules.specs.Checks.{FillsFields, StartsFrom, GoesWell}
+use Rattle.pc_rules.proofs.Derivations.{valid_to}
 use Rattle.pc_rules.specs.Checks.StartsFrom.{body, first_child, else_branch, next_child}
 use Rattle.pc_rules.proofs.Alike.{LooksAlike, SameNotes, slot_same, says_same}
 use Rattle.pc_rules.specs.Trees.{tree_le}
@@ -176,12 +178,12 @@ walked_noted core ann n x t formed g w m r e = record {
 
 -- ---- behind the last node
 
-pub walked_whole : (core : CoreData) (ann : Ann) (n : ℕ) → Formed core → DeclOk core → n ≡ length core.nodes → Walked core ann n → Checks core ann
-walked_whole core ann n formed ok e w = record {
+pub walked_whole : (core : CoreData) (ann : Ann) (n : ℕ) → Formed core → DeclOk core → n ≡ length core.nodes → Walked core ann n → Valid core ann
+walked_whole core ann n formed ok e w = valid_to core formed ann (record {
   declarations = ok;
   slots = w.slots;
   notes = w.notes ∙ e;
   written = w.written;
   rules = λ k l. let r = w.before k (omega (arith, l, e)) in (r.0, r.1, r.2, r.3, r.4);
   sets = λ m f g. w.sets m f g (λ b be. let fit = (formed.methods m f g).body b be in let l = get_below core.nodes b fit.root fit.is_root in omega (arith, l, e));
-}
+})

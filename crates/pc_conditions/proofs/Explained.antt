@@ -26,14 +26,14 @@ use Rattle.pc_tree.specs.declared.kinds.Op.{Op}
 use Rattle.pc_rules.specs.declared.said.Said.{Said}
 use Rattle.pc_rules.specs.Parts.{through_notes, one_type, two_types, notes_of}
 use Rattle.pc_valid.specs.Words.{Ty, Masks, Slots, before}
-use Rattle.pc_valid.specs.Valid.{DifferAt}
+use Rattle.pc_valid.specs.Rules.{Means}
+use Rattle.pc_valid.specs.Valid.{NoRule, DifferAt}
 use Rattle.pc_rules.specs.Calls.{called, calls, recovers, sends, is_function, is_behaviour, same_text, has_text}
 use Rattle.pc_rules.specs.Fields.{incomplete}
 use Rattle.pc_rules.specs.Operators.{is_arithmetic, is_comparison, is_equality, is_add, is_xor}
 use Rattle.pc_rules.specs.Rules.{rule_says, said_by}
-use Rattle.pc_rules.specs.Meaning.{Means}
-use Rattle.pc_rules.specs.Checks.{SaysNothing}
-use Rattle.pc_rules.proofs.MeantCalls.{rules_are_records}
+use Rattle.pc_rules.proofs.Records.{rules_say_what_is_meant}
+use Rattle.pc_rules.proofs.Derivations.{to_no_rule}
 use Rattle.pc_check.specs.Inference.{rules_for, with_inferred, with_slot, inferred_slot, note_of}
 use Rattle.pc_check.proofs.Definitions.{inferred_inv}
 use Rattle.pc_conditions.specs.Chosen.{chosen, calls_function, calls_behaviour, is_string}
@@ -167,14 +167,14 @@ module _ (core : CoreData) (ann : Ann) (n : ℕ) (x : Node) (m : Masks) (ns : Li
 
   to_record : ((own : Note) × (before own ≡ m) × Means core (with_inferred core ann x).slots own ns x r x.kind) → (chosen core ns x r x.kind ≡ true) × Fails None
   to_record h =
-      let said = (rules_are_records core (with_inferred core ann x).slots h.0 ns x r x.kind).1 h.2 in
+      let said = (rules_say_what_is_meant core at.formed (with_inferred core ann x).slots h.0 ns x r x.kind).1 h.2 in
       meant_by (chosen core ns x r x.kind) (said_by h.0) refl (subst (λ (k : Masks). rule_says core (with_inferred core ann x).slots ns x k r x.kind ≡ Some (said_by h.0)) h.1 said)
 
   from_record : (chosen core ns x r x.kind ≡ true) × Fails None → (own : Note) × (before own ≡ m) × Means core (with_inferred core ann x).slots own ns x r x.kind
   from_record h =
       let q = opposed_holds _ _ (each_rule core ann n x m ns at x.kind refl has.0 r has.1 h.0) h.1 in
       let own = note_of r m q.0 in
-      (own, refl, (rules_are_records core (with_inferred core ann x).slots own ns x r x.kind).0 q.1)
+      (own, refl, (rules_say_what_is_meant core at.formed (with_inferred core ann x).slots own ns x r x.kind).0 q.1)
 
 pub conditions_are_the_rule : ConditionsAreTheRule
 conditions_are_the_rule core ann n x m ns r at has = both_ways core ann n x m ns r at has
@@ -195,14 +195,14 @@ differ core ann x (Some i) e =
       ],
     )
 
-module _ (core : CoreData) (ann : Ann) (n : ℕ) (ns : List Note) (formed : Formed core) (stop : SaysNothing core ann n) (are : notes_of ann.notes stop.at.children ≡ Some ns) where
+module _ (core : CoreData) (ann : Ann) (n : ℕ) (ns : List Note) (formed : Formed core) (stop : NoRule core ann n) (are : notes_of ann.notes stop.at.children ≡ Some ns) where
   pub stopped : Reached core ann n stop.at stop.masks ns
-  stopped = record { formed = formed; prefix = record { slots = stop.slots; written = stop.written; before = stop.before }; is_at = stop.is_at; reaches = stop.reaches; are_children = are }
+  stopped = record { formed = formed; prefix = record { slots = stop.slots; written = stop.written; before = stop.nodes_before }; is_at = stop.is_at; reaches = stop.reaches; are_children = are }
 
   pub says_nothing : (r : Rule) → rule_says core (with_inferred core ann stop.at).slots ns stop.at stop.masks r stop.at.kind ≡ None
   says_nothing r =
       sym (bind_is (notes_of ann.notes stop.at.children) (λ ts. rule_says core (with_inferred core ann stop.at).slots ts stop.at stop.masks r stop.at.kind) ns are)
-      ∙ stop.none r (with_inferred core ann stop.at).slots (differ core ann stop.at (inferred_slot core ann stop.at stop.at.kind) refl)
+      ∙ (to_no_rule core formed ann n stop).none r (with_inferred core ann stop.at).slots (differ core ann stop.at (inferred_slot core ann stop.at stop.at.kind) refl)
 
   same_notes : (o : Option (ℕ × (ℕ × Cap))) → (with_slot ann o).notes ≡ ann.notes
   same_notes None = refl

@@ -25,13 +25,13 @@ use Rattle.pc_valid.specs.Words.{Ty, Masks, Slots}
 use Rattle.pc_rules.specs.Calls.{is_function}
 use Rattle.pc_rules.specs.Fields.{own_field}
 use Rattle.pc_rules.specs.Children.{type_at}
-use Rattle.pc_rules.specs.Checks.{SaysNothing}
+use Rattle.pc_valid.specs.Valid.{NoRule, Reaches}
+use Rattle.pc_rules.proofs.Derivations.{reaches_to, to_reaches, to_reached}
 use Rattle.pc_rules.proofs.Alike.{looked_at, bind_same}
 use Rattle.pc_caps.specs.Tables.{fits}
 use Rattle.pc_core.specs.Methods.{Uses}
 use Rattle.pc_core.specs.Nodes.{HasArity, NamesFit, NamesSlot}
 use Rattle.pc_sub.specs.Sub.{is_sub}
-use Rattle.pc_rules.specs.Checks.{StartsFrom}
 use Rattle.pc_rules.proofs.Alike.{slot_same}
 use Rattle.pc_rules.proofs.Agreeing.{Agree, use_alike}
 use Rattle.pc_rules.proofs.Homes.{children_before}
@@ -203,9 +203,9 @@ notes_same a b (c ∷ cs) h =
 abbrev pair : {A B : Type 0} → A → B → A × B
 pair a b = (a, b)
 
-module _ (core : CoreData) (a b : Ann) (n : ℕ) (formed : Formed core) (p : SaysNothing core a n) (q : SaysNothing core b n) (ns : List Note) (x : Node) (m : Masks) (is_at : slice_get core.nodes n ≡ Some x) (at : Reached core a n x m ns) (to : Reached core b n x m ns) where
+module _ (core : CoreData) (a b : Ann) (n : ℕ) (formed : Formed core) (p : NoRule core a n) (q : NoRule core b n) (ns : List Note) (x : Node) (m : Masks) (is_at : slice_get core.nodes n ≡ Some x) (at : Reached core a n x m ns) (to : Reached core b n x m ns) where
   same : Agree core a b n
-  same = agree_both core a b formed p.written q.written n p.before q.before
+  same = agree_both core a b formed p.written q.written n (λ k l. to_reached core formed a k (p.nodes_before k l)) (λ k l. to_reached core formed b k (q.nodes_before k l))
 
   abbrev From : Slots
   From = (with_inferred core a x).slots
@@ -299,28 +299,28 @@ same_notes ann (Some i) = refl
 reasons_are : (core : CoreData) (ann : Ann) (x : Node) (m : Masks) (ns : List Note) → notes_of ann.notes x.children ≡ Some ns → reasons_at core (with_inferred core ann x) x m ≡ Some (reasons core (with_inferred core ann x).slots ns x m)
 reasons_are core ann x m ns e = bind_is (notes_of (with_inferred core ann x).notes x.children) (λ ts. Some (reasons core (with_inferred core ann x).slots ts x m)) ns (ap (λ ts. notes_of ts x.children) (same_notes ann (inferred_slot core ann x x.kind)) ∙ e)
 
-module _ (core : CoreData) (a b : Ann) (n : ℕ) (formed : Formed core) (p : SaysNothing core a n) (q : SaysNothing core b n) where
+module _ (core : CoreData) (a b : Ann) (n : ℕ) (formed : Formed core) (p : NoRule core a n) (q : NoRule core b n) where
   agreed : Agree core a b n
-  agreed = agree_both core a b formed p.written q.written n p.before q.before
+  agreed = agree_both core a b formed p.written q.written n (λ k l. to_reached core formed a k (p.nodes_before k l)) (λ k l. to_reached core formed b k (q.nodes_before k l))
 
   one_at : p.at ≡ q.at
   one_at = same_Some p.at q.at (sym p.is_at ∙ q.is_at)
 
-  reached_too : StartsFrom core b n p.masks
-  reached_too = carried core a b formed p.written q.written n p.at p.masks agreed p.is_at p.reaches
+  reached_too : Reaches core b n p.masks
+  reached_too = reaches_to core formed b n p.masks (carried core a b formed p.written q.written n p.at p.masks agreed p.is_at (to_reaches core formed a n p.masks p.reaches))
 
   one_masks : p.masks ≡ q.masks
-  one_masks = reaches_one core b formed n p.masks q.masks reached_too q.reaches
+  one_masks = reaches_one core b formed n p.masks q.masks (to_reaches core formed b n p.masks reached_too) (to_reaches core formed b n q.masks q.reaches)
 
   noted_child : (i c : ℕ) → slice_get p.at.children i ≡ Some c → (t : Note) × (slice_get a.notes c ≡ Some t)
-  noted_child i c e = let h = p.before c (children_before core n p.at formed p.is_at i c e) in (h.1, h.3)
+  noted_child i c e = let h = p.nodes_before c (children_before core n p.at formed p.is_at i c e) in (h.1, h.3)
 
   one_list : reasons_at core (with_inferred core a p.at) p.at p.masks ≡ reasons_at core (with_inferred core b p.at) p.at p.masks
   one_list =
       let ns = all_noted a.notes p.at.children noted_child in
       let too : notes_of b.notes p.at.children ≡ Some ns.0 = sym (notes_same a.notes b.notes p.at.children (λ i c e. agreed.notes c (children_before core n p.at formed p.is_at i c e))) ∙ ns.1 in
-      let at : Reached core a n p.at p.masks ns.0 = record { formed = formed; prefix = record { slots = p.slots; written = p.written; before = p.before }; is_at = p.is_at; reaches = p.reaches; are_children = ns.1 } in
-      let to : Reached core b n p.at p.masks ns.0 = record { formed = formed; prefix = record { slots = q.slots; written = q.written; before = q.before }; is_at = p.is_at; reaches = reached_too; are_children = too } in
+      let at : Reached core a n p.at p.masks ns.0 = record { formed = formed; prefix = record { slots = p.slots; written = p.written; before = p.nodes_before }; is_at = p.is_at; reaches = p.reaches; are_children = ns.1 } in
+      let to : Reached core b n p.at p.masks ns.0 = record { formed = formed; prefix = record { slots = q.slots; written = q.written; before = q.nodes_before }; is_at = p.is_at; reaches = reached_too; are_children = too } in
       reasons_are core a p.at p.masks ns.0 ns.1
       ∙ ap Some (reasons_alike core a b n formed p q ns.0 p.at p.masks p.is_at at to (rules_for p.at.kind))
       ∙ sym (reasons_are core b p.at p.masks ns.0 too)
@@ -336,5 +336,5 @@ pub one_explanation : OneExplanation
 one_explanation core a b n k formed p q =
     let same_node = one_node core a b n k formed p q in
     subst
-    (λ j. (r : SaysNothing core b j) → (n ≡ j) × (p.at ≡ r.at) × (p.masks ≡ r.masks) × (reasons_at core (with_inferred core a p.at) p.at p.masks ≡ reasons_at core (with_inferred core b r.at) r.at r.masks))
+    (λ j. (r : NoRule core b j) → (n ≡ j) × (p.at ≡ r.at) × (p.masks ≡ r.masks) × (reasons_at core (with_inferred core a p.at) p.at p.masks ≡ reasons_at core (with_inferred core b r.at) r.at r.masks))
     same_node (λ r. let t = one_there core a b n formed p r in (refl, t.0, t.1, t.2)) q

@@ -24,6 +24,7 @@ use Rattle.pc_valid.specs.Words.{Ty, Masks, before, after}
 use Rattle.pc_rules.specs.Values.{same_cap, same_place, defined_type}
 use Rattle.pc_rules.specs.Checks.{StartsFrom, is_else}
 use Rattle.pc_rules.specs.Checks.StartsFrom.{first_child, else_branch, next_child}
+use Rattle.pc_rules.proofs.Derivations.{to_reaches, to_reached}
 use Rattle.pc_rules.proofs.Agreeing.{slots_within}
 use Rattle.pc_core.proofs.Homes.{home, home_method}
 use Rattle.pc_core.specs.MethodKinds.{this_slot}
@@ -70,12 +71,12 @@ module _ (core : CoreData) (ann : Ann) (n : ℕ) (x : Node) (m : Masks) (ns : Li
   -- A child's note starts from masks that reach the child.
   child_before : (i c : ℕ) (t : Note) (k : Masks) → slice_get x.children i ≡ Some c → slice_get ann.notes c ≡ Some t → StartsFrom core ann c k → before t ≡ k
   child_before i c t k e g r =
-      let h = at.prefix.before c (children_before core n x at.formed at.is_at i c e) in
+      let h = to_reached core at.formed ann c (at.prefix.before c (children_before core n x at.formed at.is_at i c e)) in
       let is : h.1 ≡ t = same_Some h.1 t (sym h.3 ∙ g) in
       sym (ap before is) ∙ reaches_one core ann at.formed c (before h.1) k h.5 r
 
   pub first_before : (t : Note) → slice_get ns 0 ≡ Some t → before t ≡ m
-  first_before t e = let c = noted ann.notes x.children ns 0 t at.are_children e in child_before 0 c.0 t m c.1 c.2 (first_child n x at.is_at c.1 at.reaches)
+  first_before t e = let c = noted ann.notes x.children ns 0 t at.are_children e in child_before 0 c.0 t m c.1 c.2 (first_child n x at.is_at c.1 (to_reaches core at.formed ann n m at.reaches))
 
   pub next_before : (i : ℕ) (t u : Note) → is_else x.kind (suc i) ≡ false → slice_get ns (suc i) ≡ Some t → slice_get ns i ≡ Some u → before t ≡ after u
   next_before i t u k e g =

@@ -27,6 +27,7 @@ use Rattle.pc_rules.specs.Control.{starts_method, start_set, without_items}
 use Rattle.pc_rules.specs.Values.{this_form}
 use Rattle.pc_rules.specs.Operators.{both_read_as, meet_masks, lazy_masks, is_arithmetic, is_comparison, is_equality, is_add, is_xor}
 use Rattle.pc_rules.specs.Checks.{is_else}
+use Rattle.pc_rules.proofs.Derivations.{to_reaches}
 use Rattle.pc_check.specs.Inference.{rules_for, with_inferred}
 use Rattle.pc_check.proofs.OneFault.{body_one}
 use Rattle.pc_conditions.specs.Chosen.{chosen}
@@ -135,7 +136,7 @@ module _ (core : CoreData) (ann : Ann) (n : ℕ) (x : Node) (m : Masks) (ns : Li
   body_rules : (ts : List Note) → x.kind ≡ node.Body → length ts ≡ 1 → (l : Masks) × (through_notes ts m ≡ Some l) → Held ts rule.Body node.Body
   body_rules ts k l g =
       let f = own_method core ann n x m ns at in
-      let start = body_one core ann at.formed n x f.0 m at.is_at k f.1 at.reaches in
+      let start = body_one core ann at.formed n x f.0 m at.is_at k f.1 (to_reaches core at.formed ann n m at.reaches) in
       let own : starts_method core f.0 (first (1 + length f.0.params), start_set core f.0) ≡ true = both_true (same (first (1 + length f.0.params)) (first (1 + length f.0.params))) (same (start_set core f.0) (start_set core f.0)) (eq-eqb (first (1 + length f.0.params)).0 (first (1 + length f.0.params)).0 refl) (eq-eqb (start_set core f.0).0 (start_set core f.0).0 refl) in
       with_one (λ ts. (l : Masks) × (through_notes ts m ≡ Some l) → Held ts rule.Body node.Body) ts l
       (λ t g. body_at core (with_inferred core ann x).slots x m t t.ty f.0 g.0 f.1 (subst (λ (k : Masks). starts_method core f.0 k ≡ true) start own) g.1) g

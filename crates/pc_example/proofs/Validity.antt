@@ -5,9 +5,12 @@ use Rattle.std.proofs.lemmas.Option.{same_Some}
 use Rattle.pc_ann.specs.declared.annotation.Note.{Note}
 use Rattle.pc_sub.specs.Declarations.{DeclOk}
 use Rattle.pc_rules.specs.Parts.{full}
-use Rattle.pc_valid.specs.Valid.{MeetsRule, Valid}
+use Rattle.pc_valid.specs.Valid.{Valid}
+use Rattle.pc_rules.specs.Rules.{NoteIsSaid}
+use Rattle.pc_rules.specs.Checks.{Checks}
+use Rattle.pc_rules.proofs.Derivations.{valid_to}
 use Rattle.pc_rules.specs.Example.{four_slots, derivation}
-use Rattle.pc_example.proofs.Formation.{single, three, four, eight}
+use Rattle.pc_example.proofs.Formation.{single, three, four, eight, four_slots_formed}
 use Rattle.pc_lists.proofs.Elements.{each_none}
 use Rattle.pc_lists.proofs.Bools.{false_true}
 
@@ -17,7 +20,7 @@ declarations_ok = record {
   conform = eight _ _ _ _ _ _ _ _ _ (each_none _) (each_none _) (each_none _) (each_none _) (each_none _) (each_none _) (each_none _) (each_none _);
 }
 
-rules_met : (n : ℕ) → n < length four_slots.nodes → MeetsRule four_slots derivation n
+rules_met : (n : ℕ) → n < length four_slots.nodes → NoteIsSaid four_slots derivation n
 rules_met zero l = (_, _, refl, refl, refl)
 rules_met (suc zero) l = (_, _, refl, refl, refl)
 rules_met (suc (suc zero)) l = (_, _, refl, refl, refl)
@@ -34,8 +37,8 @@ set_behind e body b s t at here there set =
     let note : s ≡ t = same_Some s t (sym here ∙ ap (slice_get derivation.notes) same ∙ there) in
     subst (λ (n : Note). full four_slots e n.set_after ≡ true) note set
 
-pub derivation_valid : Valid four_slots derivation
-derivation_valid = record {
+derivation_checks : Checks four_slots derivation
+derivation_checks = record {
   declarations = declarations_ok;
   slots = refl;
   notes = refl;
@@ -43,3 +46,6 @@ derivation_valid = record {
   rules = rules_met;
   sets = three _ _ _ _ (λ h b t e f. absurd (false_true h)) (λ h b t e f. set_behind 6 2 b _ t e refl f refl) (λ h b t e f. set_behind 7 6 b _ t e refl f refl);
 }
+
+pub derivation_valid : Valid four_slots derivation
+derivation_valid = valid_to four_slots four_slots_formed derivation derivation_checks

@@ -63,9 +63,9 @@ node_one name bytes tokens core a b n k m l x y one agree f s t g h =
     let is : x ≡ s.0.at = same_Some x s.0.at (sym g ∙ s.0.is_at) in
     let it : y ≡ t.0.at = same_Some y t.0.at (sym h ∙ t.0.is_at) in
     let number = o.0 in
-    let before : (i : ℕ) → i < n → MeetsReached core b i = λ i j. t.0.before i (omega (arith, j, number)) in
+    let before : (i : ℕ) → i < n → MeetsReached core b i = λ i j. t.0.nodes_before i (omega (arith, j, number)) in
     let long : length b.notes ≡ n = t.2 ∙ sym o.0 in
-    let notes = same_notes core a b n agree f s.0.written t.0.written s.0.before before s.2 long in
+    let notes = same_notes core a b n agree f s.0.written t.0.written s.0.nodes_before before s.2 long in
     node_same name bytes tokens core a.notes b.notes n k x y m l (reasons_of core a x m) (reasons_of core b y l)
     notes o.0 (is ∙ o.1 ∙ sym it) (sym s.1 ∙ o.2 ∙ t.1)
     (reasons_named core a x s.0.at m s.0.masks is (sym s.1) ∙ ap all_of o.3 ∙ sym (reasons_named core b y t.0.at l t.0.masks it (sym t.1)))
@@ -88,8 +88,8 @@ unset_one name bytes tokens core a b m k one agree f left other =
     let number : m ≡ k = one core a b m k f p q in
     let method : p.method ≡ q.method = same_Some p.method q.method (sym p.is_method ∙ ap (slice_get core.methods) number ∙ q.is_method) in
     let body : p.body ≡ q.body = same_Some p.body q.body (sym p.is_body ∙ ap (λ (x : Method). x.body) method ∙ q.is_body) in
-    let before : (i : ℕ) → i < p.body + 1 → MeetsReached core a i = λ i j. p.before i (omega (arith, j)) in
-    let behind : (i : ℕ) → i < p.body + 1 → MeetsReached core b i = λ i j. q.before i (omega (arith, j, body)) in
+    let before : (i : ℕ) → i < p.body + 1 → MeetsReached core a i = λ i j. p.nodes_before i (omega (arith, j)) in
+    let behind : (i : ℕ) → i < p.body + 1 → MeetsReached core b i = λ i j. q.nodes_before i (omega (arith, j, body)) in
     let long : length b.notes ≡ p.body + 1 = other.1 ∙ ap (λ n. n + 1) (sym body) in
     let notes = same_notes core a b (p.body + 1) agree f p.written q.written before behind left.1 long in
     let note : p.note ≡ q.note = same_Some p.note q.note (sym p.is_note ∙ ap (λ (ns : List Note). slice_get ns p.body) notes ∙ ap (slice_get b.notes) body ∙ q.is_note) in

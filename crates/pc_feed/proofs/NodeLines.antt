@@ -206,7 +206,7 @@ module _ (core : CoreData) (formed : Formed core) (ls : List Line) (j : Judging)
 
     module _ (unset : unset_of core j.right (slice_get core.methods x.method) (Some own) ≡ true) where
       fails_here : (ann : Ann) → Begins ann j.slots notes → FailsAt core ann n (fault.Unset x.method)
-      fails_here ann b = fails_set core ann n x.method (meets ann b) (unset_in ann b ∙ unset)
+      fails_here ann b = fails_set core ann n x.method formed (meets ann b) (unset_in ann b ∙ unset)
 
       pub node_unset : (r : ℕ) → r ≡ j.right + 1 → Wrong core (ls ++ line.Node own ∷ []) r (fault.Unset x.method)
       node_unset r e =

@@ -6,7 +6,8 @@ use Rattle.pc_core.specs.CoreData.{CoreData}
 use Rattle.pc_core.specs.Formed.{Formed}
 use Rattle.pc_lists.proofs.Bools.{false_true}
 use Rattle.pc_ann.specs.declared.annotation.Ann.{Ann}
-use Rattle.pc_rules.specs.Checks.{Checks}
+use Rattle.pc_valid.specs.Valid.{Valid}
+use Rattle.pc_rules.proofs.Derivations.{to_valid}
 use Rattle.pc_semantics.specs.declared.access.Access.{Access}
 use Rattle.pc_semantics.specs.Configurations.{Configuration, start}
 use Rattle.pc_semantics.specs.Runs.{run_from, after}
@@ -77,10 +78,11 @@ module _ (core : CoreData) (ann : Ann) (needs : Needs core ann) (c : Configurati
 -- ---- every schedule
 
 -- After a list of actors and then further ones.
-pub isolated_from : (core : CoreData) (ann : Ann) → Formed core → Checks core ann → (list more : List ℕ) → Isolated core (run_from core (after core list) more)
+pub isolated_from : (core : CoreData) (ann : Ann) → Formed core → Valid core ann → (list more : List ℕ) → Isolated core (run_from core (after core list) more)
 isolated_from core ann formed valid list more =
-    let needs : Needs core ann = needed core formed ann valid in
-    let first : WellTyped core ann (start core) = start_typed core ann formed valid in
+    let checks = to_valid core formed ann valid in
+    let needs : Needs core ann = needed core formed ann checks in
+    let first : WellTyped core ann (start core) = start_typed core ann formed checks in
     let typed : WellTyped core ann (after core list) = run_ok keeps takes core ann needs list (start core) first in
     let in_them : HasRegions core ann (after core list) = run_in_regions keeps_regions takes_regions core ann needs list (start core) first (start_in_regions core ann formed) in
     let typed_then : WellTyped core ann (run_from core (after core list) more) = run_ok keeps takes core ann needs more (after core list) typed in

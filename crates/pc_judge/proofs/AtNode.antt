@@ -12,6 +12,7 @@ use Rattle.pc_ann.specs.declared.annotation.Note.{Note}
 use Rattle.pc_ann.specs.declared.annotation.Ann.{Ann}
 use Rattle.pc_rules.specs.Parts.{full}
 use Rattle.pc_valid.specs.Valid.{MeetsRule, SetsFields}
+use Rattle.pc_rules.proofs.RecordWords.{constructs_iff, all_set_iff}
 use Rattle.pc_judge.specs.declared.faults.JudgeFault.TheVariants as fault
 use Rattle.pc_judge.specs.Faults as spec
 use Rattle.pc_judge.specs.Computed as computed
@@ -35,31 +36,31 @@ at_ends None n e = absurd (none-some n e)
 at_ends (Some b) n e = eq-eqb b n (same_Some b n e)
 
 -- Where it is computed that a field is not set, it is not.
-unset_method : (core : CoreData) (ann : Ann) (n m : ℕ) (o : Option Method) (p : Option Note) → slice_get core.methods m ≡ o → slice_get ann.notes n ≡ p → computed.unset_of core n o p ≡ true → (x : Method) × (slice_get core.methods m ≡ Some x) × (x.body ≡ Some n) × (SetsFields core ann x → ⊥)
-unset_method core ann n m None None g h e = absurd (let bad : false ≡ true = e in cc)
-unset_method core ann n m None (Some t) g h e = absurd (let bad : false ≡ true = e in cc)
-unset_method core ann n m (Some x) None g h e = absurd (let bad : false ≡ true = e in cc)
-unset_method core ann n m (Some x) (Some t) g h e =
+unset_method : (core : CoreData) (ann : Ann) (n m : ℕ) (o : Option Method) (p : Option Note) → Formed core → slice_get core.methods m ≡ o → slice_get ann.notes n ≡ p → computed.unset_of core n o p ≡ true → (x : Method) × (slice_get core.methods m ≡ Some x) × (x.body ≡ Some n) × (SetsFields core ann x → ⊥)
+unset_method core ann n m None None f g h e = absurd (let bad : false ≡ true = e in cc)
+unset_method core ann n m None (Some t) f g h e = absurd (let bad : false ≡ true = e in cc)
+unset_method core ann n m (Some x) None f g h e = absurd (let bad : false ≡ true = e in cc)
+unset_method core ann n m (Some x) (Some t) f g h e =
     let a = and_parts _ _ e in
     let b = and_parts _ _ a.1 in
     let at = ends_at x.body n b.0 in
-    (x, g, at, λ s. not_both (full core x.entity t.set_after) (s a.0 n t at h) b.1)
+    (x, g, at, λ s. not_both (full core x.entity t.set_after) ((all_set_iff core x.entity t.set_after f).1 (s ((constructs_iff x.kind).0 a.0) n t at h)) b.1)
 
 -- Where it is not computed, the fields are set.
-set_method : (core : CoreData) (ann : Ann) (n : ℕ) (x : Method) → computed.unset_of core n (Some x) (slice_get ann.notes n) ≡ false → x.body ≡ Some n → SetsFields core ann x
-set_method core ann n x e at c b t body there =
+set_method : (core : CoreData) (ann : Ann) (n : ℕ) (x : Method) → Formed core → computed.unset_of core n (Some x) (slice_get ann.notes n) ≡ false → x.body ≡ Some n → SetsFields core ann x
+set_method core ann n x f e at c b t body there =
     let same : n ≡ b = same_Some n b (sym at ∙ body) in
     let note : slice_get ann.notes n ≡ Some t = ap (slice_get ann.notes) same ∙ there in
     let unset : computed.unset_behind core n x t ≡ false = subst (λ (o : Option Note). computed.unset_of core n (Some x) o ≡ false) note e in
-    true_or (full core x.entity t.set_after) (λ h. no_both _ (and_from _ _ c (and_from _ _ (at_ends x.body n at) h)) unset)
+    (all_set_iff core x.entity t.set_after f).0 (true_or (full core x.entity t.set_after) (λ h. no_both _ (and_from _ _ ((constructs_iff x.kind).1 c) (and_from _ _ (at_ends x.body n at) h)) unset))
 
 -- ---- the three answers
 
 pub fails_rule : (core : CoreData) (ann : Ann) (n : ℕ) (x : Node) → slice_get core.nodes n ≡ Some x → (MeetsRule core ann n → ⊥) → spec.FailsAt core ann n (fault.Node n)
 fails_rule core ann n x g h = (refl, get_below core.nodes n x g, h)
 
-pub fails_set : (core : CoreData) (ann : Ann) (n m : ℕ) → MeetsRule core ann n → computed.leaves_unset core ann n m ≡ true → spec.FailsAt core ann n (fault.Unset m)
-fails_set core ann n m h e = (h, unset_method core ann n m (slice_get core.methods m) (slice_get ann.notes n) refl refl e)
+pub fails_set : (core : CoreData) (ann : Ann) (n m : ℕ) → Formed core → MeetsRule core ann n → computed.leaves_unset core ann n m ≡ true → spec.FailsAt core ann n (fault.Unset m)
+fails_set core ann n m f h e = (h, unset_method core ann n m (slice_get core.methods m) (slice_get ann.notes n) f refl refl e)
 
 pub passes : (core : CoreData) (ann : Ann) (n : ℕ) (y : Node) → Formed core → slice_get core.nodes n ≡ Some y → MeetsRule core ann n → computed.leaves_unset core ann n y.method ≡ false → spec.Passes core ann n
 passes core ann n y f g h e = (
@@ -67,5 +68,5 @@ passes core ann n y f g h e = (
   λ m x there body.
       let own : y.method ≡ m = body_method core m n x y f there body g in
       let found : slice_get core.methods y.method ≡ Some x = ap (slice_get core.methods) own ∙ there in
-      set_method core ann n x (subst (λ (o : Option Method). computed.unset_of core n o (slice_get ann.notes n) ≡ false) found e) body,
+      set_method core ann n x f (subst (λ (o : Option Method). computed.unset_of core n o (slice_get ann.notes n) ≡ false) found e) body,
 )

@@ -1,12 +1,14 @@
 -- The faults of the small program's wrong derivations.
-use Rattle.std.specs.Prelude.{◌≡◌, ℕ, zero, suc, ◌<◌, Bool, true, false, List, [], ◌∷◌, Option, Some, None, slice_get, refl}
-use Rattle.std.proofs.Common.{ap, sym, subst, ◌∙◌, arith}
+use Rattle.std.specs.Prelude.{◌≡◌, ℕ, zero, suc, ◌<◌, Bool, true, false, List, [], ◌∷◌, length, Option, Some, None, slice_get, refl}
+use Rattle.std.proofs.Common.{inl, ap, sym, subst, ◌∙◌, arith}
 use Rattle.std.proofs.lemmas.Option.{same_Some, none-some}
 use Rattle.pc_caps.specs.declared.capability.Cap.{Cap}
 use Rattle.pc_caps.specs.declared.capability.Cap.TheVariants as cap
 use Rattle.pc_caps.specs.Tables.{sendable}
 use Rattle.pc_caps.specs.declared.capability.Form.{Form}
 use Rattle.pc_caps.specs.declared.capability.Form.TheVariants as form
+use Rattle.pc_tree.specs.BuiltIn.{none_entity}
+use Rattle.pc_core.specs.declared.declarations.EntityDef.{EntityDef}
 use Rattle.pc_core.specs.declared.declarations.Method.{Method}
 use Rattle.pc_core.specs.declared.declarations.ParamInfo.{ParamInfo}
 use Rattle.pc_core.specs.declared.nodes.Node.{Node}
@@ -19,10 +21,12 @@ use Rattle.pc_ann.specs.declared.annotation.Note.{Note}
 use Rattle.pc_ann.specs.declared.annotation.Rule.TheVariants as rule
 use Rattle.pc_core.specs.Conforms.{Conforms}
 use Rattle.pc_sub.specs.Declarations.{TakesSendable, DeclOk}
-use Rattle.pc_rules.specs.declared.said.Said.{Said}
-use Rattle.pc_rules.specs.Parts.{constructs, full}
-use Rattle.pc_valid.specs.Valid.{MeetsRule, KeepsWritten}
-use Rattle.pc_rules.specs.Rules.{IsSaid}
+use Rattle.pc_masks.specs.declared.mask.Mask.{Mask}
+use Rattle.pc_masks.specs.Masks.{has}
+use Rattle.pc_valid.specs.Words.{before, after, AllSet}
+use Rattle.pc_valid.specs.Valid.{Meets, MeetsRule, KeepsWritten}
+use Rattle.pc_rules.specs.Parts.{constructs}
+use Rattle.pc_rules.proofs.RecordWords.{constructs_iff, starts_to, ends_to}
 use Rattle.pc_rules.specs.Example.{four_slots, create_c, create_main, at, node_of, noted}
 use Rattle.pc_judge.specs.Faults as spec
 use Rattle.pc_judge.specs.Example as example
@@ -59,20 +63,66 @@ declared = record {
 written : KeepsWritten four_slots example.noted_as_ref
 written = each (λ k y. spec.KeepsType example.noted_as_ref k y) four_slots.slots (λ ty e. e, (λ ty e. e, (λ ty e. e, (λ ty e. e, refl))))
 
--- Of the nodes before node 3, the last is a body, behind which no field is left, since there is none.
+-- Class `C` has no fields.
+no_fields : (set : Mask) → AllSet four_slots 6 set
+no_fields set owner e i l =
+    let none : 0 ≡ length owner.fields = ap (λ (y : EntityDef). length y.fields) (same_Some _ owner e) in
+    absurd (omega (arith, none, l))
+
+-- Of the nodes before node 3, the last is a body, after which no field is left, since there is none.
 set_behind : (n : ℕ) → n < 3 → spec.SetsBehind four_slots example.noted_as_ref n
-set_behind n l zero x e body c b t there h = absurd (let bad : false ≡ true = subst (λ (y : Method). constructs y.kind ≡ true) (sym (same_Some _ x e)) c in cc)
-set_behind n l (suc zero) x e body c b t there h =
-    let at : 2 ≡ b = same_Some 2 b (ap (λ (y : Method). y.body) (same_Some _ x e) ∙ there) in
-    let note : noted rule.Body None 1 1 ≡ t = same_Some _ t (ap (slice_get example.noted_as_ref.notes) at ∙ h) in
-    subst (λ (y : Method). full four_slots y.entity t.set_after ≡ true) (same_Some _ x e) (subst (λ (u : Note). full four_slots 6 u.set_after ≡ true) note refl)
+set_behind n l zero x e body c b t there h =
+    absurd (let bad : false ≡ true = subst (λ (y : Method). constructs y.kind ≡ true) (sym (same_Some _ x e)) ((constructs_iff x.kind).1 c) in cc)
+set_behind n l (suc zero) x e body c b t there h = subst (λ (y : Method). AllSet four_slots y.entity t.set_after) (same_Some _ x e) (no_fields t.set_after)
 set_behind n l (suc (suc zero)) x e body c b t there h = let at : 6 ≡ n = same_Some 6 n (ap (λ (y : Method). y.body) (same_Some _ x e) ∙ body) in absurd (omega (arith, at, l))
 set_behind n l (suc (suc (suc m))) x e body c b t there h = absurd (none-some x e)
 
+-- The notes of the first two nodes of either core.
+abbrev prim_note : Note
+prim_note = noted rule.Prim (Some (none_entity, form.Val)) 1 1
+
+abbrev seq_note : Note
+seq_note = noted rule.Seq (Some (none_entity, form.Val)) 1 1
+
 rules_met : (n : ℕ) → n < 3 → MeetsRule four_slots example.noted_as_ref n
-rules_met zero l = (_, _, refl, refl, refl)
-rules_met (suc zero) l = (_, _, refl, refl, refl)
-rules_met (suc (suc zero)) l = (_, _, refl, refl, refl)
+rules_met zero l = (_, _, refl, refl, [], tt, record { type = refl; masks = refl })
+rules_met (suc zero) l = (
+  _,
+  _,
+  refl,
+  refl,
+  prim_note ∷ [],
+  (refl, tt),
+  record {
+    front = [];
+    last = prim_note;
+    children = refl;
+    type = refl;
+    after_children = after prim_note;
+    in_order = (refl, refl);
+    live = ends_to four_slots (0 ∷ []) (after prim_note).0 (after prim_note).0 refl;
+    set = refl;
+  },
+)
+rules_met (suc (suc zero)) l = (
+  _,
+  _,
+  refl,
+  refl,
+  seq_note ∷ [],
+  (refl, tt),
+  record {
+    home = create_c;
+    is_home = refl;
+    child = seq_note;
+    children = refl;
+    live = refl;
+    set = starts_to four_slots create_c (before seq_note).1 refl;
+    result = λ fun. absurd (cc fun);
+    type = refl;
+    masks = (refl, refl);
+  },
+)
 rules_met (suc (suc (suc n))) l = absurd (omega (arith, l))
 
 -- ---- what is wrong
@@ -82,15 +132,18 @@ abbrev says_ref : Option (ℕ × Form) → Bool
 says_ref (Some (e, form.Ref)) = true
 says_ref ty = false
 
-wrong_note : IsSaid four_slots example.noted_as_ref (node_of 2 (node.New 1) [] (at 64 65)) (noted rule.New (Some (6, form.Ref)) 3 3) → ⊥
-wrong_note e = true_false (sym (ap (λ (q : Said). says_ref q.ty) (same_Some _ _ e)))
+wrong_note : Meets four_slots example.noted_as_ref.slots example.noted_as_ref.notes (node_of 2 (node.New 1) [] (at 64 65)) (noted rule.New (Some (6, form.Ref)) 3 3) → ⊥
+wrong_note m =
+    let made : create_c ≡ m.2.called = same_Some create_c m.2.called m.2.is_called in
+    let said : Some (6, form.Ref) ≡ Some create_c.result = m.2.type ∙ sym (ap (λ (y : Method). Some y.result) made) in
+    true_false (ap says_ref said)
 
 wrong_node : MeetsRule four_slots example.noted_as_ref 3 → ⊥
 wrong_node h =
     let x : node_of 2 (node.New 1) [] (at 64 65) ≡ h.0 = same_Some _ h.0 h.2 in
     let t : noted rule.New (Some (6, form.Ref)) 3 3 ≡ h.1 = same_Some _ h.1 h.3 in
-    wrong_note (subst (λ (u : Note). IsSaid four_slots example.noted_as_ref (node_of 2 (node.New 1) [] (at 64 65)) u) (sym t)
-    (subst (λ (y : Node). IsSaid four_slots example.noted_as_ref y h.1) (sym x) h.4))
+    wrong_note (subst (λ (u : Note). Meets four_slots example.noted_as_ref.slots example.noted_as_ref.notes (node_of 2 (node.New 1) [] (at 64 65)) u) (sym t)
+    (subst (λ (y : Node). Meets four_slots example.noted_as_ref.slots example.noted_as_ref.notes y h.1) (sym x) h.4))
 
 node_named : spec.FailsRule four_slots example.noted_as_ref 3
 node_named = (
@@ -133,13 +186,51 @@ one_written : KeepsWritten example.one_field example.nothing_set
 one_written = each (λ k y. spec.KeepsType example.nothing_set k y) example.one_field.slots ((λ ty e. e), refl)
 
 one_rules : (n : ℕ) → n < 2 → MeetsRule example.one_field example.nothing_set n
-one_rules zero l = (_, _, refl, refl, refl)
-one_rules (suc zero) l = (_, _, refl, refl, refl)
+one_rules zero l = (_, _, refl, refl, [], tt, record { type = refl; masks = refl })
+one_rules (suc zero) l = (
+  _,
+  _,
+  refl,
+  refl,
+  prim_note ∷ [],
+  (refl, tt),
+  record {
+    front = [];
+    last = prim_note;
+    children = refl;
+    type = refl;
+    after_children = after prim_note;
+    in_order = (refl, refl);
+    live = ends_to example.one_field (0 ∷ []) (after prim_note).0 (after prim_note).0 refl;
+    set = refl;
+  },
+)
 one_rules (suc (suc n)) l = absurd (omega (arith, l))
 
 no_body : (n : ℕ) → n < 2 → spec.SetsBehind example.one_field example.nothing_set n
 no_body n l zero x e body = let at : 2 ≡ n = same_Some 2 n (ap (λ (y : Method). y.body) (same_Some _ x e) ∙ body) in absurd (omega (arith, at, l))
 no_body n l (suc m) x e body = absurd (none-some x e)
+
+body_met : MeetsRule example.one_field example.nothing_set 2
+body_met = (
+  _,
+  _,
+  refl,
+  refl,
+  seq_note ∷ [],
+  (refl, tt),
+  record {
+    home = example.sets_nothing;
+    is_home = refl;
+    child = seq_note;
+    children = refl;
+    live = refl;
+    set = starts_to example.one_field example.sets_nothing (before seq_note).1 refl;
+    result = λ fun. absurd (cc fun);
+    type = refl;
+    masks = (refl, refl);
+  },
+)
 
 unset_named : spec.LeavesUnset example.one_field example.nothing_set 0
 unset_named = (
@@ -148,8 +239,8 @@ unset_named = (
   refl,
   refl,
   record { declarations = one_declared; shape = (refl, refl); written = one_written; rules = one_rules; sets = no_body },
-  (_, _, refl, refl, refl),
-  λ s. true_false (sym (s refl 2 (noted rule.Body None 1 1) refl refl)),
+  body_met,
+  λ s. let here : has (record { 0 = 0 }) 0 ≡ true = s (inl refl) 2 (noted rule.Body None 1 1) refl refl _ refl 0 (omega arith) in absurd (cc here),
 )
 
 pub faults_named : example.FaultsNamed

@@ -26,6 +26,7 @@ use Rattle.pc_semantics.specs.Runs.{after}
 use Rattle.pc_rules.specs.Parts.{type_of, last_child}
 use Rattle.pc_valid.specs.Words.{Ty}
 use Rattle.pc_rules.proofs.ByNumber.{arguments}
+use Rattle.pc_rules.proofs.Derivations.{to_valid}
 use Rattle.pc_types.proofs.Types.{OfKind, OfType, OfSome, Want, StackOk}
 use Rattle.pc_types.proofs.Tasks.{want_of, stacked, FinishOk, invokes, TasksOk}
 use Rattle.pc_types.proofs.Frames.{FrameOk, FramesOk}
@@ -156,5 +157,6 @@ module _ (core : CoreData) (ann : Ann) (needs : Needs core ann) where
 
 pub accepted_held : AcceptedHeld
 accepted_held core ann formed valid list =
-    let needs : Needs core ann = needed core formed ann valid in
-    held_at core ann needs (after core list) (run_ok keeps takes core ann needs list (start core) (start_typed core ann formed valid))
+    let checks = to_valid core formed ann valid in
+    let needs : Needs core ann = needed core formed ann checks in
+    held_at core ann needs (after core list) (run_ok keeps takes core ann needs list (start core) (start_typed core ann formed checks))

@@ -1,6 +1,6 @@
 //! The rules as a referee.
 ghost use Rattle.std.specs.Prelude.{◌≡◌, ◌↔◌, ◌<◌, None, length, IfOk, IsOk, IsTrue};
-ghost use Rattle.pc_rules.specs.Rules.{Holds};
+ghost use Rattle.pc_valid.specs.Valid.{Holds};
 
 use crate::Referee;
 use pc_ann::Note;

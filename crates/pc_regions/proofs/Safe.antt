@@ -1,6 +1,7 @@
 -- From a valid annotation to every step of every schedule: no two actors race, and what waits is let alone.
 use Rattle.pc_semantics.specs.Configurations.{start}
 use Rattle.pc_semantics.specs.Runs.{after}
+use Rattle.pc_rules.proofs.Derivations.{to_valid}
 use Rattle.pc_regions.specs.Laws.{ValidIsSafe}
 use Rattle.pc_types.proofs.Needs.{Needs}
 use Rattle.pc_types.proofs.Needed.{needed}
@@ -19,8 +20,9 @@ use Rattle.pc_types.proofs.Sound.{accepted_never_lacks}
 
 pub valid_is_safe : ValidIsSafe
 valid_is_safe core ann formed valid list =
-    let needs : Needs core ann = needed core formed ann valid in
-    let first = start_typed core ann formed valid in
+    let checks = to_valid core formed ann valid in
+    let needs : Needs core ann = needed core formed ann checks in
+    let first = start_typed core ann formed checks in
     let typed : WellTyped core ann (after core list) = run_ok keeps takes core ann needs list (start core) first in
     let in_them : HasRegions core ann (after core list) = run_in_regions keeps_regions takes_regions core ann needs list (start core) first (start_in_regions core ann formed) in
     record {

@@ -1,6 +1,7 @@
 -- From a valid annotation to every step of every schedule: nothing is lacking.
 use Rattle.pc_semantics.specs.Configurations.{start}
 use Rattle.pc_semantics.specs.Runs.{after}
+use Rattle.pc_rules.proofs.Derivations.{to_valid}
 use Rattle.pc_types.specs.Laws.{AcceptedNeverLacks}
 use Rattle.pc_types.proofs.Needs.{Needs}
 use Rattle.pc_types.proofs.Needed.{needed}
@@ -11,5 +12,6 @@ use Rattle.pc_types.proofs.Starts.{start_typed}
 
 pub accepted_never_lacks : AcceptedNeverLacks
 accepted_never_lacks core ann formed valid list i l =
-    let needs : Needs core ann = needed core formed ann valid in
-    (step_ok keeps takes core ann needs (after core list) (run_ok keeps takes core ann needs list (start core) (start_typed core ann formed valid)) i).1 l
+    let checks = to_valid core formed ann valid in
+    let needs : Needs core ann = needed core formed ann checks in
+    (step_ok keeps takes core ann needs (after core list) (run_ok keeps takes core ann needs list (start core) (start_typed core ann formed checks)) i).1 l

@@ -9,7 +9,7 @@ use Rattle.pc_deriv.specs.Text.{deriv_text}
 use Rattle.pc_deriv.specs.declared.version.Version.TheVariants as version
 use Rattle.pc_lists.specs.Texts.{Text}
 use Rattle.pc_rules.proofs.Unique.{one_valid}
-use Rattle.pc_rules.specs.Checks.{Checks}
+use Rattle.pc_valid.specs.Valid.{Valid}
 use Rattle.pc_refusals.specs.Accepting.{AcceptedStage}
 use Rattle.pc_refusals.specs.Named.{Named, Reading}
 use Rattle.pc_refusals.specs.Source.{source_limit}
@@ -23,7 +23,7 @@ use Rattle.pc_verdicts.proofs.Stages.{Answers, ReadOn}
 use Rattle.pc_verdicts.proofs.Typed.{Checked, checked, fails, is_valid, left, stopped}
 
 -- The valid annotation is the one that the walk makes, and its numbers are small.
-valid_fits : (core : CoreData) (ann : Ann) → Formed core → Checks core ann → Checked core → SlotsAreSmall ann.slots × NotesFit ann.notes
+valid_fits : (core : CoreData) (ann : Ann) → Formed core → Valid core ann → Checked core → SlotsAreSmall ann.slots × NotesFit ann.notes
 valid_fits core ann formed v (is_valid a w small fit) = subst (λ (b : Ann). SlotsAreSmall b.slots × NotesFit b.notes) (one_valid core a ann formed w v) (small, fit)
 valid_fits core ann formed v (fails f e) = absurd (none_with_fault core f formed e (ann, v))
 valid_fits core ann formed v (stopped a n m h) = absurd (none_without_rule core a n formed h.0 (ann, v))

@@ -21,7 +21,7 @@ use Rattle.pc_refusals.specs.Source.TextStage.{has_core}
 use Rattle.pc_refusals.specs.declared.source.Source.{Source}
 use Rattle.pc_refusals.specs.declared.typing.Accepted.{Accepted}
 use Rattle.pc_regions.specs.Laws.{ValidIsSafe}
-use Rattle.pc_rules.specs.Checks.{Checks}
+use Rattle.pc_valid.specs.Valid.{Valid}
 use Rattle.pc_run.specs.Ends.{NeverLacks}
 use Rattle.pc_semantics.specs.Safety.{Safe}
 use Rattle.pc_text_order.specs.Laws.{TokensAscend}
@@ -52,13 +52,13 @@ file_says (goes (fits {bytes = b} short) (goes (lexed {ts = ts} l) (parsed p))) 
 
 -- ---- what was accepted
 
-typed_source : {name : Text} {s : Source} {a : Accepted} → Typing name s (Ok a) → (a.source ≡ s) × Checks s.core a.ann
+typed_source : {name : Text} {s : Source} {a : Accepted} → Typing name s (Ok a) → (a.source ≡ s) × Valid s.core a.ann
 typed_source (typed ann v) = (refl, v)
 
-pub accepted_source : {name : Text} {r : Reading} {a : Accepted} → AcceptedStage name r (Ok a) → SourceStage name r (Ok a.source) × Checks a.source.core a.ann
+pub accepted_source : {name : Text} {r : Reading} {a : Accepted} → AcceptedStage name r (Ok a) → SourceStage name r (Ok a.source) × Valid a.source.core a.ann
 accepted_source {name = name} {r = r} {a = a} (goes {x = s} h t) =
     let is = typed_source t in
-    (subst (λ (x : Source). SourceStage name r (Ok x)) (sym is.0) h, subst (λ (x : Source). Checks x.core a.ann) (sym is.0) is.1)
+    (subst (λ (x : Source). SourceStage name r (Ok x)) (sym is.0) h, subst (λ (x : Source). Valid x.core a.ann) (sym is.0) is.1)
 
 pub accepted_lacks_nothing : SourcesAreFormed → AcceptedNeverLacks → {name : Text} {r : Reading} {a : Accepted} → AcceptedStage name r (Ok a) → NeverLacks a.source.core
 accepted_lacks_nothing law never {a = a} h =
@@ -71,7 +71,7 @@ accepted_core_safe law safe {a = a} h =
     safe a.source.core a.ann (source_formed law s.0).0 s.1
 
 -- A small core has small annotations.
-pub small_notes : (core : CoreData) (ann : Ann) → IsSmall core → Checks core ann → (length ann.slots ≤ slot_limit) × (length ann.notes ≤ node_limit)
+pub small_notes : (core : CoreData) (ann : Ann) → IsSmall core → Valid core ann → (length ann.slots ≤ slot_limit) × (length ann.notes ≤ node_limit)
 small_notes core ann small v =
     let few = small.0 in
     let nodes = small.1 in

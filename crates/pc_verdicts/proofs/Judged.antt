@@ -19,9 +19,9 @@ use Rattle.pc_judge.specs.declared.faults.JudgeFault.TheVariants as fault
 use Rattle.pc_lists.proofs.Gets.{get_below, get_within}
 use Rattle.pc_lists.specs.Texts.{Text}
 use Rattle.pc_valid.specs.Words.{before}
-use Rattle.pc_valid.specs.Valid.{KeepsWritten}
-use Rattle.pc_rules.specs.Rules.{IsSaid, NoteIsSaid, said_by, says}
-use Rattle.pc_rules.specs.Checks.{Checks}
+use Rattle.pc_valid.specs.Valid.{KeepsWritten, MeetsRule, Valid}
+use Rattle.pc_rules.specs.Rules.{IsSaid, said_by, says}
+use Rattle.pc_rules.proofs.Derivations.{rule_to, to_rule}
 use Rattle.pc_sub.specs.Declarations.{DeclOk, first_fault}
 use Rattle.pc_sub.specs.Faults.{fits_without_fault}
 use Rattle.pc_sub.specs.declared.faults.DeclFault.{DeclFault}
@@ -34,27 +34,27 @@ use Rattle.pc_verdicts.proofs.Stages.{HasEnd}
 
 module _ (core : CoreData) (ann : Ann) (formed : Formed core) where
   abbrev Judged : Type 0
-  Judged = Checks core ann ⊎ ((f : JudgeFault) × spec.FirstFault core ann f)
+  Judged = Valid core ann ⊎ ((f : JudgeFault) × spec.FirstFault core ann f)
 
   -- ---- nodes
 
-  met : (n : ℕ) → n < length core.nodes → length ann.notes ≡ length core.nodes → Told (NoteIsSaid core ann n)
+  met : (n : ℕ) → n < length core.nodes → length ann.notes ≡ length core.nodes → Told (MeetsRule core ann n)
   met n l count =
       let x = get_within core.nodes n l in
       let t = get_within ann.notes n (omega (arith, l, count)) in
       elim (same_option same_said (says core ann x.0 (before t.0) t.0.rule x.0.kind) (Some (said_by t.0))) [
-        | inl e ↦ inl (x.0, t.0, x.1, t.1, e)
-        | inr d ↦ inr (λ h. d (subst (λ (y : Node). IsSaid core ann y t.0) (same_Some h.0 x.0 (sym h.2 ∙ x.1)) (subst (λ (s : Note). IsSaid core ann h.0 s) (same_Some h.1 t.0 (sym h.3 ∙ t.1)) h.4)))
+        | inl e ↦ inl (rule_to core formed ann n (x.0, t.0, x.1, t.1, e))
+        | inr d ↦ inr (λ r. let h = to_rule core formed ann n r in d (subst (λ (y : Node). IsSaid core ann y t.0) (same_Some h.0 x.0 (sym h.2 ∙ x.1)) (subst (λ (s : Note). IsSaid core ann h.0 s) (same_Some h.1 t.0 (sym h.3 ∙ t.1)) h.4)))
       ]
 
   module _ (n : ℕ) (x : Node) (g : slice_get core.nodes n ≡ Some x) (b : spec.Before core ann n) (on : spec.Before core ann (n + 1) → Judged) where
-    by_fields : NoteIsSaid core ann n → (c : Bool) → leaves_unset core ann n x.method ≡ c → Judged
+    by_fields : MeetsRule core ann n → (c : Bool) → leaves_unset core ann n x.method ≡ c → Judged
     by_fields h true e =
-        let u = (fails_set core ann n x.method h e).1 in
+        let u = (fails_set core ann n x.method formed h e).1 in
         inr (fault.Unset x.method, (u.0, n, u.1, u.2, b, h, u.3))
     by_fields h false e = on (before_next core ann n b (passes core ann n x formed g h e))
 
-    by_rule : Told (NoteIsSaid core ann n) → Judged
+    by_rule : Told (MeetsRule core ann n) → Judged
     by_rule (inl h) = by_fields h (leaves_unset core ann n x.method) refl
     by_rule (inr d) = inr (fault.Node n, (get_below core.nodes n x g, b, d))
 
@@ -115,7 +115,7 @@ module _ (core : CoreData) (ann : Ann) (formed : Formed core) where
   by_declarations (Some f) e = inr (fault.Decl f, e)
   by_declarations None e = by_shape ((fits_without_fault core formed).0 e) shape_told
 
-  pub judged : Checks core ann ⊎ ((f : JudgeFault) × spec.FirstFault core ann f)
+  pub judged : Valid core ann ⊎ ((f : JudgeFault) × spec.FirstFault core ann f)
   judged = by_declarations (first_fault core) refl
 
 pub judging_ends : (source_name name : Text) (source : Source) (ann : Ann) → Formed source.core → HasEnd (Judging source_name name source ann)

@@ -30,7 +30,8 @@ use Rattle.pc_rules.specs.Control.{start_set}
 use Rattle.pc_valid.specs.Words.{Masks, after, before}
 use Rattle.pc_rules.specs.Rules.{IsSaid}
 use Rattle.pc_rules.specs.Trees.{Forest, Tree, body_tree, tree_le}
-use Rattle.pc_rules.specs.Checks.{StartsFrom, Checks, is_else}
+use Rattle.pc_valid.specs.Valid.{Valid}
+use Rattle.pc_rules.specs.Checks.{StartsFrom, is_else}
 use Rattle.pc_rules.specs.Checks.StartsFrom.{body, else_branch, first_child, next_child}
 use Rattle.pc_sub.specs.Declarations.{DeclOk, first_fault}
 use Rattle.pc_sub.specs.Faults.{fits_without_fault}
@@ -46,7 +47,7 @@ use Rattle.pc_verdicts.proofs.Stages.{HasEnd}
 
 -- What the checker finds.
 pub data Checked (core : CoreData) : Type 0 where
-  is_valid : (ann : Ann) → Checks core ann → SlotsAreSmall ann.slots → NotesFit ann.notes → Checked core
+  is_valid : (ann : Ann) → Valid core ann → SlotsAreSmall ann.slots → NotesFit ann.notes → Checked core
   fails : (f : DeclFault) → first_fault core ≡ Some f → Checked core
   stopped : (ann : Ann) (n : ℕ) (m : Masks) → StopsAt core n m ann → Checked core
   left : (ann : Ann) (m : ℕ) → LeavesUnset core m ann → Checked core
