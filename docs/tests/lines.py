@@ -7,7 +7,7 @@ import pages
 CRATES = pages.TOP / "crates"
 
 # What the headline and the whole contract rest on, as they are named in docs/theorem.md.
-HEADLINE = [("pc_top", "CoreOf"), ("pc_rules", "Valid"), ("pc_semantics", "Safety")]
+HEADLINE = [("pc_top", "CoreOf"), ("pc_valid", "Valid"), ("pc_semantics", "Safety")]
 ISOLATION = [("pc_top", "IsolatedCore")]
 CONTRACT = [
     *(("pc_top", name) for name in ("Asked", "OnOut", "Referee")),

@@ -85,43 +85,47 @@ abbrev seq_note : Note
 seq_note = noted rule.Seq (Some (none_entity, form.Val)) 1 1
 
 rules_met : (n : ℕ) → n < 3 → MeetsRule four_slots example.noted_as_ref n
-rules_met zero l = (_, _, refl, refl, [], tt, record { type = refl; masks = refl })
+rules_met zero l = (_, _, refl, refl, ([], tt, record { type = refl; masks = refl }))
 rules_met (suc zero) l = (
   _,
   _,
   refl,
   refl,
-  prim_note ∷ [],
-  (refl, tt),
-  record {
-    front = [];
-    last = prim_note;
-    children = refl;
-    type = refl;
-    after_children = after prim_note;
-    in_order = (refl, refl);
-    live = ends_to four_slots (0 ∷ []) (after prim_note).0 (after prim_note).0 refl;
-    set = refl;
-  },
+  (
+    prim_note ∷ [],
+    (refl, tt),
+    record {
+      front = [];
+      last = prim_note;
+      children = refl;
+      type = refl;
+      after_children = after prim_note;
+      in_order = (refl, refl);
+      live = ends_to four_slots (0 ∷ []) (after prim_note).0 (after prim_note).0 refl;
+      set = refl;
+    },
+  ),
 )
 rules_met (suc (suc zero)) l = (
   _,
   _,
   refl,
   refl,
-  seq_note ∷ [],
-  (refl, tt),
-  record {
-    home = create_c;
-    is_home = refl;
-    child = seq_note;
-    children = refl;
-    live = refl;
-    set = starts_to four_slots create_c (before seq_note).1 refl;
-    result = λ fun. absurd (cc fun);
-    type = refl;
-    masks = (refl, refl);
-  },
+  (
+    seq_note ∷ [],
+    (refl, tt),
+    record {
+      home = create_c;
+      is_home = refl;
+      child = seq_note;
+      children = refl;
+      live = refl;
+      set = starts_to four_slots create_c (before seq_note).1 refl;
+      result = λ fun. absurd (cc fun);
+      type = refl;
+      masks = (refl, refl);
+    },
+  ),
 )
 rules_met (suc (suc (suc n))) l = absurd (omega (arith, l))
 
@@ -186,24 +190,26 @@ one_written : KeepsWritten example.one_field example.nothing_set
 one_written = each (λ k y. spec.KeepsType example.nothing_set k y) example.one_field.slots ((λ ty e. e), refl)
 
 one_rules : (n : ℕ) → n < 2 → MeetsRule example.one_field example.nothing_set n
-one_rules zero l = (_, _, refl, refl, [], tt, record { type = refl; masks = refl })
+one_rules zero l = (_, _, refl, refl, ([], tt, record { type = refl; masks = refl }))
 one_rules (suc zero) l = (
   _,
   _,
   refl,
   refl,
-  prim_note ∷ [],
-  (refl, tt),
-  record {
-    front = [];
-    last = prim_note;
-    children = refl;
-    type = refl;
-    after_children = after prim_note;
-    in_order = (refl, refl);
-    live = ends_to example.one_field (0 ∷ []) (after prim_note).0 (after prim_note).0 refl;
-    set = refl;
-  },
+  (
+    prim_note ∷ [],
+    (refl, tt),
+    record {
+      front = [];
+      last = prim_note;
+      children = refl;
+      type = refl;
+      after_children = after prim_note;
+      in_order = (refl, refl);
+      live = ends_to example.one_field (0 ∷ []) (after prim_note).0 (after prim_note).0 refl;
+      set = refl;
+    },
+  ),
 )
 one_rules (suc (suc n)) l = absurd (omega (arith, l))
 
@@ -217,19 +223,21 @@ body_met = (
   _,
   refl,
   refl,
-  seq_note ∷ [],
-  (refl, tt),
-  record {
-    home = example.sets_nothing;
-    is_home = refl;
-    child = seq_note;
-    children = refl;
-    live = refl;
-    set = starts_to example.one_field example.sets_nothing (before seq_note).1 refl;
-    result = λ fun. absurd (cc fun);
-    type = refl;
-    masks = (refl, refl);
-  },
+  (
+    seq_note ∷ [],
+    (refl, tt),
+    record {
+      home = example.sets_nothing;
+      is_home = refl;
+      child = seq_note;
+      children = refl;
+      live = refl;
+      set = starts_to example.one_field example.sets_nothing (before seq_note).1 refl;
+      result = λ fun. absurd (cc fun);
+      type = refl;
+      masks = (refl, refl);
+    },
+  ),
 )
 
 unset_named : spec.LeavesUnset example.one_field example.nothing_set 0

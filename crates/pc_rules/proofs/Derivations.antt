@@ -1,5 +1,5 @@
 -- Derivations, and what shows that there is none: by records, and as they are computed.
-use Rattle.std.specs.Prelude.{◌≡◌, ℕ, ◌+◌, List, [], ◌∷◌, length, Option, Some, None, slice_get, refl}
+use Rattle.std.specs.Prelude.{◌≡◌, ◌↔◌, Bool, IsTrue, ℕ, ◌+◌, List, [], ◌∷◌, length, Option, Some, None, slice_get, refl}
 use Rattle.std.proofs.Common.{sym, subst, ◌∙◌}
 use Rattle.std.proofs.lemmas.Option.{same_Some, none-some}
 use Rattle.pc_core.specs.declared.declarations.Method.{Method}
@@ -18,7 +18,7 @@ use Rattle.pc_rules.specs.Parts.{notes_of, full}
 use Rattle.pc_rules.specs.Control.{start_set}
 use Rattle.pc_rules.specs.Rules.{rule_says, said_by, says, IsSaid, NoteIsSaid}
 use Rattle.pc_rules.specs.Checks.{FillsFields, Checks, StartsFrom, GoesWell, SaysNothing, StaysUnset}
-use Rattle.pc_rules.specs.Checks.StartsFrom as starts
+use Rattle.pc_rules.specs.Checks as starts
 use Rattle.pc_valid.specs.Words.{Slots, Masks, before}
 use Rattle.pc_valid.specs.Rules.{Means}
 use Rattle.pc_valid.specs.Valid.{AreNotes, Meets, MeetsRule, Holds, SetsFields, Valid, Reaches, body, first_child, else_branch, next_child, MeetsReached, NoRule, Unset}
@@ -116,7 +116,7 @@ module _ (core : CoreData) (formed : Formed core) where
   abbrev noted : Rule → Masks → Said → Note
   noted r m s = record { rule = r; ty = s.ty; live_before = m.0; set_before = m.1; live_after = s.live; set_after = s.set }
 
-  silent : (ann : Ann) (slots : Slots) (x : Node) (m : Masks) (r : Rule) (o : Option Said) → ((own : Note) → before own ≡ m → Meets core slots ann.notes x own → ⊥)
+  pub silent : (ann : Ann) (slots : Slots) (x : Node) (m : Masks) (r : Rule) (o : Option Said) → ((own : Note) → before own ≡ m → Meets core slots ann.notes x own → ⊥)
       → says core (record { slots = slots; notes = ann.notes }) x m r x.kind ≡ o → says core (record { slots = slots; notes = ann.notes }) x m r x.kind ≡ None
   silent ann slots x m r None h e = e
   silent ann slots x m r (Some s) h e = absurd (h (noted r m s) refl (meets_to slots ann.notes x (noted r m s) e))
@@ -190,7 +190,17 @@ same_are_unset core formed ann m = (unset_to core formed ann m, to_unset core fo
 pub holds_meets : (core : CoreData) (ann : Ann) (n : ℕ) (x : Node) (own : Note) (ns : List Note) → slice_get core.nodes n ≡ Some x → slice_get ann.notes n ≡ Some own
     → notes_of ann.notes x.children ≡ Some ns → Holds core ann.slots own ns n ↔ MeetsRule core ann n
 holds_meets core ann n x own ns g h e = (
-  λ r. (x, own, g, h, ns, are_notes ann.notes x.children ns e, subst (λ (y : Node). Means core ann.slots own ns y own.rule y.kind) (same_Some r.0 x (sym r.1 ∙ g)) r.2),
+  λ r. (x, own, g, h, (ns, are_notes ann.notes x.children ns e, subst (λ (y : Node). Means core ann.slots own ns y own.rule y.kind) (same_Some r.0 x (sym r.1 ∙ g)) r.2)),
   λ r. let m = subst (λ (t : Note). Meets core ann.slots ann.notes x t) (same_Some r.1 own (sym r.3 ∙ h)) (subst (λ (y : Node). Meets core ann.slots ann.notes y r.1) (same_Some r.0 x (sym r.2 ∙ g)) r.4) in
       (x, g, subst (λ (ts : List Note). Means core ann.slots own ts x own.rule x.kind) (same_Some m.0 ns (sym (notes_are ann.notes x.children m.0 m.1) ∙ e)) m.2),
 )
+
+-- A test of what a rule says of a note decides whether the note meets the rule.
+pub holds_by : (core : CoreData) → Formed core → (slots : Slots) (own : Note) (ns : List Note) (n : ℕ) (x : Node) (b : Bool) → slice_get core.nodes n ≡ Some x
+    → (IsTrue b) ↔ (rule_says core slots ns x (before own) own.rule x.kind ≡ Some (said_by own)) → (IsTrue b) ↔ Holds core slots own ns n
+holds_by core formed slots own ns n x b g d =
+    let m = rules_say_what_is_meant core formed slots own ns x own.rule x.kind in
+    (λ u. (x, g, m.0 (d.0 u)), λ h. d.1 (m.1 (subst (λ (y : Node). Means core slots own ns y own.rule y.kind) (same_Some h.0 x (sym h.1 ∙ g)) h.2)))
+
+pub met_by : (core : CoreData) → Formed core → (ann : Ann) (n : ℕ) (b : Bool) → (IsTrue b) ↔ (NoteIsSaid core ann n) → (IsTrue b) ↔ MeetsRule core ann n
+met_by core formed ann n b d = let m = meets_the_same_rules core formed ann n in (λ u. m.0 (d.0 u), λ h. d.1 (m.1 h))

@@ -1,11 +1,11 @@
-//! The typing rules: what each says of a node, and when an annotation of a core is valid.
+//! The typing rules as they are computed: what each says of a node, and that this is what the records of `pc_valid` say.
 //!
-//! Proved: The 31 typing rules, valid annotations and derivable cores as definitions. Each rule is a record of its
-//! condition, its type and its masks (`rules_are_records`). `rule_holds` decides, for every core, whether a node meets
-//! its rule, and `holds` does so from the types of the slots and the notes of the node's children alone; a rule and the
-//! masks before a node determine what is said of it (`rules_determine`); what consuming, defining and the end of a
-//! sequence do to the masks; at most one annotation of a core is valid (`one_annotation_is_valid`). A small program
-//! meets its rules, and wrong notes of it meet none.
+//! Proved: `rule_holds` decides, for every core, whether a node meets its rule, and `holds` does so from the types of the
+//! slots and the notes of the node's children alone. What is computed is what the records say: of one rule
+//! (`rules_say_what_is_meant`), of a node (`meets_the_same_rules`), of an annotation (`same_are_valid`), and of what shows
+//! that none is valid (`same_have_no_rule`, `same_are_unset`). A rule and the masks before a node determine what is said
+//! of it (`rules_determine`); what consuming, defining and the end of a sequence do to the masks; at most one annotation of
+//! a core is valid (`one_annotation_is_valid`). A small program meets its rules, and wrong notes of it meet none.
 #![tactic(auto)]
 
 mod calls;
