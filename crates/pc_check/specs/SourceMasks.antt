@@ -5,7 +5,7 @@ use Rattle.pc_core.specs.CoreData.{CoreData}
 use Rattle.pc_ann.specs.declared.annotation.Note.{Note}
 use Rattle.pc_ann.specs.declared.annotation.Ann.{Ann}
 use Rattle.pc_masks.specs.Masks.{empty}
-use Rattle.pc_rules.specs.Parts.{Masks, after}
+use Rattle.pc_valid.specs.Words.{Masks, after}
 use Rattle.pc_check.specs.Sources.{start_masks}
 use Rattle.pc_check.specs.declared.sources.Source.{Source}
 use Rattle.pc_check.specs.declared.sources.Source.TheVariants as source

@@ -2,7 +2,7 @@
 use Rattle.pc_core.specs.CoreData.{CoreData}
 use Rattle.pc_core.specs.Formed.{Formed}
 use Rattle.pc_ann.specs.declared.annotation.Ann.{Ann}
-use Rattle.pc_rules.specs.Valid.{Valid}
+use Rattle.pc_valid.specs.Valid.{Valid}
 use Rattle.pc_isolation.specs.Laws.{AlwaysIsolated, AlwaysPassedWhole}
 
 -- What has a valid annotation is isolated.
