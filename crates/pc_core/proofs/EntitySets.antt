@@ -39,13 +39,13 @@ pub met_push : (first second masks : List Mask) (n : ℕ) (m : Mask) → length 
 met_push first second masks n m long met here i j l =
     elim (cases i n) [
       | inl low ↦
-        let same = front masks m i (omega (arith, long, low)) in
-        subst (λ (x : Mask). (IsIn x j) ↔ (IsIn (mask_at first i) j × IsIn (mask_at second i) j)) (sym same) (met i j low)
+          let same = front masks m i (omega (arith, long, low)) in
+          subst (λ (x : Mask). (IsIn x j) ↔ (IsIn (mask_at first i) j × IsIn (mask_at second i) j)) (sym same) (met i j low)
       | inr high ↦
-        let at : n ≡ i = omega (arith, l, high) in
-        let last : mask_at (masks ++ m ∷ []) n ≡ m = subst (λ k. mask_at (masks ++ m ∷ []) k ≡ m) long (behind masks m) in
-        subst (λ k. (IsIn (mask_at (masks ++ m ∷ []) k) j) ↔ (IsIn (mask_at first k) j × IsIn (mask_at second k) j)) at
-        (subst (λ (x : Mask). (IsIn x j) ↔ (IsIn (mask_at first n) j × IsIn (mask_at second n) j)) (sym last) (here j))
+          let at : n ≡ i = omega (arith, l, high) in
+          let last : mask_at (masks ++ m ∷ []) n ≡ m = subst (λ k. mask_at (masks ++ m ∷ []) k ≡ m) long (behind masks m) in
+          subst (λ k. (IsIn (mask_at (masks ++ m ∷ []) k) j) ↔ (IsIn (mask_at first k) j × IsIn (mask_at second k) j)) at
+          (subst (λ (x : Mask). (IsIn x j) ↔ (IsIn (mask_at first n) j × IsIn (mask_at second n) j)) (sym last) (here j))
     ]
 
 pub met_all : (first second masks : List Mask) (n : ℕ) → length masks ≡ n → length first ≤ n → MetTo first second masks n → AreMet first second masks
@@ -53,9 +53,9 @@ met_all first second masks n long short met i j =
     elim (cases i n) [
       | inl low ↦ met i j low
       | inr high ↦
-        let none = past masks i (omega (arith, long, high)) in
-        let neither = past first i (omega (arith, short, high)) in (
-          λ h. absurd (empty_has_none j (subst (λ (x : Mask). IsIn x j) none h)),
-          λ h. absurd (empty_has_none j (subst (λ (x : Mask). IsIn x j) neither h.0)),
-        )
+          let none = past masks i (omega (arith, long, high)) in
+          let neither = past first i (omega (arith, short, high)) in (
+            λ h. absurd (empty_has_none j (subst (λ (x : Mask). IsIn x j) none h)),
+            λ h. absurd (empty_has_none j (subst (λ (x : Mask). IsIn x j) neither h.0)),
+          )
     ]

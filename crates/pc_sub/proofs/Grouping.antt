@@ -1,5 +1,5 @@
 -- Methods that are put into groups, one by one.
-use Rattle.std.specs.Prelude.{◌≡◌, ◌≢◌, ◌⊎◌, ℕ, zero, suc, ◌+◌, ◌<◌, ◌≤◌, List, [], ◌∷◌, ◌++◌, length, Option, Some, None, get_or, slice_get, slice_set, refl}
+use Rattle.std.specs.Prelude.{◌≡◌, ◌⊎◌, ℕ, zero, suc, ◌+◌, ◌<◌, List, [], ◌∷◌, ◌++◌, length, Option, Some, None, get_or, slice_get, slice_set, refl}
 use Rattle.std.proofs.Common.{inl, inr, sym, ap, subst, ◌∙◌, arith}
 use Rattle.std.proofs.lemmas.Bool.{cases_eq}
 use Rattle.std.proofs.lemmas.List.{length-set, length_push, set-set}
@@ -10,9 +10,8 @@ use Rattle.pc_lists.proofs.Gets.{get_below, get_behind, get_front, get_push, get
 use Rattle.pc_lists.proofs.Options.{bind_some}
 use Rattle.pc_core.specs.declared.declarations.Method.{Method}
 use Rattle.pc_core.specs.CoreData.{CoreData}
-use Rattle.pc_sub.specs.declared.groups.Groups.{Groups}
 use Rattle.pc_sub.specs.Alike.{Alike}
-use Rattle.pc_sub.specs.Groups.{Grouped, HasAlike, InGroup, IsGroup, IsGroupOf, first_of}
+use Rattle.pc_sub.specs.Groups.{Grouped, HasAlike, InGroup, IsGroupOf, first_of}
 
 -- ---- lists
 
@@ -57,8 +56,8 @@ module _ (lists : List (List ℕ)) (k x : ℕ) (low : k < length lists) where
   added_has j xs y g h =
       elim (cases_eq j k) [
         | inl same ↦
-          let own : get_or lists k [] ≡ xs = get_or_from_slice_get lists k xs [] (subst (λ n. slice_get lists n ≡ Some xs) same g) in
-          (get_or lists k [] ++ x ∷ [], ap (slice_get (added lists k x)) same ∙ added_here, has_push _ x y (subst (λ zs. Has zs y) (sym own) h))
+            let own : get_or lists k [] ≡ xs = get_or_from_slice_get lists k xs [] (subst (λ n. slice_get lists n ≡ Some xs) same g) in
+            (get_or lists k [] ++ x ∷ [], ap (slice_get (added lists k x)) same ∙ added_here, has_push _ x y (subst (λ zs. Has zs y) (sym own) h))
         | inr other ↦ (xs, get_set_other lists k _ j other ∙ g, h)
       ]
 
@@ -110,22 +109,22 @@ module _ (core : CoreData) (n : ℕ) (y : Method) (firsts : List ℕ) (entities 
         names = g.names;
         sound = λ j t es is. elim (get_set entities k _ j es is.1) [
           | inl here ↦
-            let same : first.0 ≡ t = same_Some first.0 t (sym first.1 ∙ ap (first_of core firsts) (sym here.0) ∙ is.0) in
-            subst (λ zs. Each (λ i e. HasAlike core e t) zs) (sym here.1)
-            (each_push (λ e. HasAlike core e t) (get_or entities k []) y.entity
-            (subst (λ (z : Method). Each (λ i e. HasAlike core e z) (get_or entities k [])) same (g.sound k first.0 (get_or entities k []) (first.1, slice_get-get_or entities k [] there)))
-            (subst (λ (z : Method). HasAlike core y.entity z) same (n, y, at, refl, first.2)))
+              let same : first.0 ≡ t = same_Some first.0 t (sym first.1 ∙ ap (first_of core firsts) (sym here.0) ∙ is.0) in
+              subst (λ zs. Each (λ i e. HasAlike core e t) zs) (sym here.1)
+              (each_push (λ e. HasAlike core e t) (get_or entities k []) y.entity
+              (subst (λ (z : Method). Each (λ i e. HasAlike core e z) (get_or entities k [])) same (g.sound k first.0 (get_or entities k []) (first.1, slice_get-get_or entities k [] there)))
+              (subst (λ (z : Method). HasAlike core y.entity z) same (n, y, at, refl, first.2)))
           | inr old ↦ g.sound j t es (is.0, old)
         ];
         complete = λ m z l is. elim (split m n l) [
           | inl less ↦
-            let w = g.complete m z less is in
-            let r = added_has entities k y.entity there w.group w.entities z.entity w.is_group.1 w.has_entity in
-            record { group = w.group; first = w.first; entities = r.0; is_group = (w.is_group.0, r.1); alike = w.alike; has_entity = r.2; same_name = w.same_name; named = w.named; has_group = w.has_group }
+              let w = g.complete m z less is in
+              let r = added_has entities k y.entity there w.group w.entities z.entity w.is_group.1 w.has_entity in
+              record { group = w.group; first = w.first; entities = r.0; is_group = (w.is_group.0, r.1); alike = w.alike; has_entity = r.2; same_name = w.same_name; named = w.named; has_group = w.has_group }
           | inr last ↦
-            let own : y ≡ z = same_Some y z (sym at ∙ ap (slice_get core.methods) (sym last) ∙ is) in
-            subst (λ (x : Method). InGroup core (record { firsts = firsts; entities = added entities k y.entity; named = named }) x) own
-            (record { group = k; first = first.0; entities = get_or entities k [] ++ y.entity ∷ []; is_group = (first.1, added_here entities k y.entity there); alike = first.2; has_entity = has_last _ y.entity; same_name = get_or named y.name []; named = slice_get-get_or named y.name [] low; has_group = has })
+              let own : y ≡ z = same_Some y z (sym at ∙ ap (slice_get core.methods) (sym last) ∙ is) in
+              subst (λ (x : Method). InGroup core (record { firsts = firsts; entities = added entities k y.entity; named = named }) x) own
+              (record { group = k; first = first.0; entities = get_or entities k [] ++ y.entity ∷ []; is_group = (first.1, added_here entities k y.entity there); alike = first.2; has_entity = has_last _ y.entity; same_name = get_or named y.name []; named = slice_get-get_or named y.name [] low; has_group = has })
         ];
       }
 
@@ -147,43 +146,43 @@ module _ (core : CoreData) (n : ℕ) (y : Method) (firsts : List ℕ) (entities 
                 | inr last ↦ let e = last.0 in absurd (omega (arith, l, e, count))
               ]
           | inr last ↦
-            let own : y ≡ t = same_Some y t (sym at ∙ last.1) in
-            elim (get_push entities (y.entity ∷ []) j es is.1) [
-              | inl before ↦ let l = get_below entities j es before in let e = last.0 in absurd (omega (arith, l, e, count))
-              | inr one ↦ subst (λ zs. Each (λ i e. HasAlike core e t) zs) one.1
-                (each_push (λ e. HasAlike core e t) [] y.entity (λ i e f. absurd (none-some e f)) (n, y, at, refl, subst (λ (z : Method). Alike z y) own (alike_itself y)))
-            ]
+              let own : y ≡ t = same_Some y t (sym at ∙ last.1) in
+              elim (get_push entities (y.entity ∷ []) j es is.1) [
+                | inl before ↦ let l = get_below entities j es before in let e = last.0 in absurd (omega (arith, l, e, count))
+                | inr one ↦ subst (λ zs. Each (λ i e. HasAlike core e t) zs) one.1
+                    (each_push (λ e. HasAlike core e t) [] y.entity (λ i e f. absurd (none-some e f)) (n, y, at, refl, subst (λ (z : Method). Alike z y) own (alike_itself y)))
+              ]
         ];
         complete = λ m z l is. elim (split m n l) [
           | inl less ↦
-            let w = g.complete m z less is in
-            let r = added_has named y.name k low z.name w.same_name w.group w.named w.has_group in
-            record {
-              group = w.group;
-              first = w.first;
-              entities = w.entities;
-              is_group = (first_front core firsts n w.group w.first w.is_group.0, get_front entities _ w.group w.entities w.is_group.1);
-              alike = w.alike;
-              has_entity = w.has_entity;
-              same_name = r.0;
-              named = r.1;
-              has_group = r.2;
-            }
+              let w = g.complete m z less is in
+              let r = added_has named y.name k low z.name w.same_name w.group w.named w.has_group in
+              record {
+                group = w.group;
+                first = w.first;
+                entities = w.entities;
+                is_group = (first_front core firsts n w.group w.first w.is_group.0, get_front entities _ w.group w.entities w.is_group.1);
+                alike = w.alike;
+                has_entity = w.has_entity;
+                same_name = r.0;
+                named = r.1;
+                has_group = r.2;
+              }
           | inr last ↦
-            let own : y ≡ z = same_Some y z (sym at ∙ ap (slice_get core.methods) (sym last) ∙ is) in
-            let place : length entities ≡ k = count ∙ sym is_last in
-            subst (λ (x : Method). InGroup core (record { firsts = firsts ++ n ∷ []; entities = entities ++ (y.entity ∷ []) ∷ []; named = added named y.name k }) x) own
-            (record {
-              group = k;
-              first = y;
-              entities = y.entity ∷ [];
-              is_group = (ap (first_of core (firsts ++ n ∷ [])) is_last ∙ first_behind core firsts n y at, ap (slice_get (entities ++ (y.entity ∷ []) ∷ [])) (sym place) ∙ get_behind entities (y.entity ∷ []) []);
-              alike = alike_itself y;
-              has_entity = (0, refl);
-              same_name = get_or named y.name [] ++ k ∷ [];
-              named = added_here named y.name k low;
-              has_group = has_last _ k;
-            })
+              let own : y ≡ z = same_Some y z (sym at ∙ ap (slice_get core.methods) (sym last) ∙ is) in
+              let place : length entities ≡ k = count ∙ sym is_last in
+              subst (λ (x : Method). InGroup core (record { firsts = firsts ++ n ∷ []; entities = entities ++ (y.entity ∷ []) ∷ []; named = added named y.name k }) x) own
+              (record {
+                group = k;
+                first = y;
+                entities = y.entity ∷ [];
+                is_group = (ap (first_of core (firsts ++ n ∷ [])) is_last ∙ first_behind core firsts n y at, ap (slice_get (entities ++ (y.entity ∷ []) ∷ [])) (sym place) ∙ get_behind entities (y.entity ∷ []) []);
+                alike = alike_itself y;
+                has_entity = (0, refl);
+                same_name = get_or named y.name [] ++ k ∷ [];
+                named = added_here named y.name k low;
+                has_group = has_last _ k;
+              })
         ];
       }
 

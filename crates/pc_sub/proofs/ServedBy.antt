@@ -1,5 +1,5 @@
 -- Which entities have a method for a declared one, by the groups that serve for it.
-use Rattle.std.specs.Prelude.{◌≡◌, ◌⊎◌, ◌↔◌, ℕ, ◌+◌, ◌*◌, ◌<◌, ◌≤◌, List, [], length, Some, get_or, slice_get, refl}
+use Rattle.std.specs.Prelude.{◌≡◌, ◌⊎◌, ◌↔◌, ℕ, ◌+◌, ◌<◌, ◌≤◌, List, [], length, Some, get_or, slice_get}
 use Rattle.std.proofs.Common.{inl, inr, sym, ap, subst, ◌∙◌, arith}
 use Rattle.std.proofs.lemmas.Option.{same_Some, get_or_from_slice_get, slice_get-get_or}
 use Rattle.pc_lists.specs.Places.{Each, Has}
@@ -70,8 +70,7 @@ module _ (core : CoreData) (g : Groups) (t : Method) (grouped : Grouped core (le
       let name : h.1.name ≡ t.name = ap (λ (z : Method). z.name) (sym own) ∙ m.3 in
       let w : InGroup core g h.1 = grouped.complete h.0 h.1 (get_below core.methods h.0 h.1 h.3) h.3 in
       let among : get_or g.named t.name [] ≡ w.same_name = get_or_from_slice_get g.named t.name w.same_name [] (subst (λ n. slice_get g.named n ≡ Some w.same_name) name w.named) in
-      let a : Alike w.first h.1 = w.alike in
-      (
+      let a : Alike w.first h.1 = w.alike in (
         w.group,
         subst (λ ks. Has ks w.group) (sym among) w.has_group,
         (w.first, w.entities, w.is_group, ((sym a.head.0 ∙ name, sym a.head.1 ∙ h.4), alike_stands core t h.1 w.first (alike_back w.first h.1 a) h.5), subst (Has w.entities) entity w.has_entity),

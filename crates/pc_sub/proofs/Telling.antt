@@ -1,5 +1,5 @@
 -- A table of what conforms to what, as it is narrowed group by group.
-use Rattle.std.specs.Prelude.{◌≡◌, ◌⊎◌, ◌↔◌, ℕ, ◌+◌, ◌-◌, ◌<◌, ◌≤◌, List, [], length, Some, None, slice_get, slice_set, refl}
+use Rattle.std.specs.Prelude.{◌≡◌, ◌⊎◌, ◌↔◌, ℕ, ◌+◌, ◌-◌, ◌<◌, ◌≤◌, List, length, Some, None, slice_get, slice_set, refl}
 use Rattle.std.proofs.Common.{inl, inr, sym, ap, subst, ◌∙◌, arith}
 use Rattle.std.proofs.lemmas.Bool.{cases_eq}
 use Rattle.std.proofs.lemmas.List.{length-set}
@@ -15,7 +15,6 @@ use Rattle.pc_core.specs.Conforms.{Conforms, HasFor}
 use Rattle.pc_core.specs.Entities.{IsAbstract}
 use Rattle.pc_core.specs.EntitySets.{Holds, IsSetOf}
 use Rattle.pc_core.specs.Formed.{Formed}
-use Rattle.pc_core.specs.Lookup.{own_methods}
 use Rattle.pc_core.specs.Members.{method_among}
 use Rattle.pc_sub.specs.declared.groups.Groups.{Groups}
 use Rattle.pc_sub.specs.Alike.{Alike}
@@ -38,12 +37,12 @@ kept_at other was both sets place at met = record {
   long = length-set sets place both;
   each = λ b set g. elim (cases_eq b place) [
     | inl here ↦
-      let own : both ≡ set = same_Some both set (sym (get_set_same sets place both (get_below sets place was at)) ∙ ap (slice_get (slice_set sets place both)) (sym here) ∙ g) in (
-        was,
-        ap (slice_get sets) here ∙ at,
-        subst (λ (z : List Mask). (e : ℕ) → (Holds z e) ↔ (Holds was e × (b ≡ place → Holds other e))) own
-            (λ e. (λ h. let k = (met e).0 h in (k.0, λ r. k.1), λ h. (met e).1 (h.0, h.1 here))),
-      )
+        let own : both ≡ set = same_Some both set (sym (get_set_same sets place both (get_below sets place was at)) ∙ ap (slice_get (slice_set sets place both)) (sym here) ∙ g) in (
+          was,
+          ap (slice_get sets) here ∙ at,
+          subst (λ (z : List Mask). (e : ℕ) → (Holds z e) ↔ (Holds was e × (b ≡ place → Holds other e))) own
+              (λ e. (λ h. let k = (met e).0 h in (k.0, λ r. k.1), λ h. (met e).1 (h.0, h.1 here))),
+        )
     | inr there ↦ (set, sym (get_set_other sets place both b there) ∙ g, λ e. (λ h. (h, λ r. absurd (there r)), λ h. h.0))
   ];
 }
@@ -105,9 +104,9 @@ module _ (core : CoreData) (g : Groups) where
           λ h. λ j s fs l is has. elim (split j n l) [
             | inl less ↦ k.0 ((was.2 e).0 h).0 j s fs less is has
             | inr last ↦
-              let first : t ≡ s = same_Some t s (sym group.0 ∙ ap (first_of core g.firsts) (sym last) ∙ is.0) in
-              let list : fs ≡ es = same_Some fs es (sym is.1 ∙ ap (slice_get g.entities) last ∙ group.1) in
-              subst (HasFor core e) first ((has_for e low).0 (((was.2 e).0 h).1 (subst (λ zs. Has zs b) list has)))
+                let first : t ≡ s = same_Some t s (sym group.0 ∙ ap (first_of core g.firsts) (sym last) ∙ is.0) in
+                let list : fs ≡ es = same_Some fs es (sym is.1 ∙ ap (slice_get g.entities) last ∙ group.1) in
+                subst (HasFor core e) first ((has_for e low).0 (((was.2 e).0 h).1 (subst (λ zs. Has zs b) list has)))
           ],
           λ all. (was.2 e).1 (
             k.1 (λ j s fs l is has. let m : j < n + 1 = omega (arith, l) in all j s fs m is has),

@@ -1,4 +1,4 @@
-use Rattle.std.proofs.Common.{◌<◌, length, arith}
+use Rattle.std.proofs.Common.{arith}
 use Rattle.pc_sub.proofs.Grouping.{begin_as}
 use Rattle.pc_sub.proofs.groups.begin_group.Goals as goal
 

@@ -1,4 +1,4 @@
-use Rattle.std.proofs.Common.{◌≡◌, ap, length, arith}
+use Rattle.std.proofs.Common.{ap, length, arith}
 use Rattle.pc_sub.proofs.Grouping.{none_as}
 use Rattle.pc_sub.proofs.groups.no_groups.Goals as goal
 

@@ -1,4 +1,4 @@
-use Rattle.std.proofs.Common.{◌≡◌, ◌≤◌, [], ap, length, get_or, refl, sym, ◌∙◌, arith}
+use Rattle.std.proofs.Common.{◌≤◌, [], ap, length, get_or, refl, arith}
 use Rattle.pc_core.specs.EntitySets.{Holds}
 use Rattle.pc_sub.proofs.ServedBy.{serves_all, serves_turn}
 use Rattle.pc_sub.proofs.serving.entities_with.Goals as goal
@@ -23,6 +23,6 @@ returns c =
     let many = ap length c.list_at-group-items.ensures in
     let whole : length ks ≤ c.loop-group.group-index = omega (arith, high, many) in
     λ e low.
-        let k = serves_all c.args.core.now g wanted c.requires ks c.loop-group.group-index e refl whole in
-        let m = c.loop-group.invariant.has e in
-        (λ h. k.0 (m.0 h), λ h. m.1 (k.1 h))
+    let k = serves_all c.args.core.now g wanted c.requires ks c.loop-group.group-index e refl whole in
+    let m = c.loop-group.invariant.has e in
+    (λ h. k.0 (m.0 h), λ h. m.1 (k.1 h))

@@ -1,5 +1,4 @@
 use Rattle.std.proofs.Common.{sym, ◌∙◌}
-use Rattle.pc_lists.proofs.Bools.{false_true, no_both}
 use Rattle.pc_sub.specs.Faults.{stands, stood}
 use Rattle.pc_sub.proofs.serving.serves.Goals as goal
 

@@ -1,4 +1,4 @@
-use Rattle.std.proofs.Common.{◌≡◌, ℕ, get_or}
+use Rattle.std.proofs.Common.{get_or}
 use Rattle.std.proofs.lemmas.Option.{slice_get-get_or}
 use Rattle.pc_lists.specs.Places.{Has}
 use Rattle.pc_sub.proofs.Looked.{HasTo, all_has, has_all, has_none}

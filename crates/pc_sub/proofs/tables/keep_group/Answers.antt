@@ -1,7 +1,6 @@
 use Rattle.std.proofs.Common.{◌≡◌, ◌<◌, Some, ap, sym, subst, length, ◌∙◌, [], arith}
-use Rattle.std.specs.Prelude.{ℕ, List, Option, None}
+use Rattle.std.specs.Prelude.{ℕ, List, None}
 use Rattle.std.proofs.lemmas.Option.{none-some, slice_get-get_or}
-use Rattle.pc_core.specs.declared.declarations.Method.{Method}
 use Rattle.pc_lists.specs.Places.{Has}
 use Rattle.pc_lists.proofs.Bools.{no_both}
 use Rattle.pc_sub.specs.Groups.{IsGroup, first_of}
@@ -21,8 +20,8 @@ returns-else-any_abstract c =
     let g = c.args.groups.now in
     tells_skip c.args.core.now g c.args.group c.args.sets.now
     (λ b t es is has abstract.
-        let same : c.list_at-entities.result.now ≡ es = c.list_at-entities.ensures ∙ sym (list_some g.entities c.args.group es is.1) in
-        no_both c.any_abstract.result (c.any_abstract.ensures.1 (b, subst (λ xs. Has xs b) (sym same) has, abstract)) c.if-any_abstract.false)
+    let same : c.list_at-entities.result.now ≡ es = c.list_at-entities.ensures ∙ sym (list_some g.entities c.args.group es is.1) in
+    no_both c.any_abstract.result (c.any_abstract.ensures.1 (b, subst (λ xs. Has xs b) (sym same) has, abstract)) c.if-any_abstract.false)
     c.requires.tells
 
 pub returns-in_ok-keep_all-in-Some : goal.returns-in_ok-keep_all-in-Some
